@@ -5,6 +5,7 @@ ghost use Rattle.clap.specs.Values.{kind_of};
 use crate::help;
 use clap::error::ErrorKind;
 use clap::{Arg, ArgAction, ArgMatches, Command, Error};
+use explanations::Telling;
 use std::alloc::Global;
 
 /// The exit status where the command line is wrong.
@@ -13,13 +14,21 @@ pub const WRONG_WORDS: u8 = 2;
 /// The programs, with what the command line says for each.
 #[derive(Drop)]
 pub enum Word<'a> {
-    Answer,
-    /// With the folder of the stores, where the nodes keep their rows in files.
-    Play(Option<&'a str>),
+    Answer(Telling),
+    Play(PlayWords<'a>),
     /// Of a store's file.
     Settle(&'a str),
     Node(NodeWords<'a>),
     Weave(WeaveWords<'a>),
+}
+
+/// What the command line says for a run of several nodes.
+#[derive(Clone, Copy, Debug, PartialEq, Eq)]
+pub struct PlayWords<'a> {
+    /// The folder of the stores, where the nodes keep their rows in files.
+    pub folder: Option<&'a str>,
+    /// What is told of the lines.
+    pub telling: Telling,
 }
 
 /// What the command line says for a run of one node.
@@ -33,6 +42,8 @@ pub struct NodeWords<'a> {
     pub existing: bool,
     /// Whether each line of the input is written before what it gives.
     pub echo: bool,
+    /// What is told of the lines.
+    pub telling: Telling,
 }
 
 /// What the command line says for `weave`.
@@ -45,14 +56,14 @@ pub struct WeaveWords<'a> {
 }
 
 /// Takes the command line `ocpi_nodes [answer | play [--store DIR] | node PARTY [--store FILE [--existing]] [--echo] |
-/// settle FILE | weave [--given PARTY].. FILE.. | help [COMMAND]]`, or gives clap's text: the help or the version that
-/// was asked for, or what is wrong.
+/// settle FILE | weave [--given PARTY].. FILE.. | help [COMMAND]]`, the first three also with `--explain` and
+/// `--strict`, or gives clap's text: the help or the version that was asked for, or what is wrong.
 pub fn take_words<'a>(alloc: Global, words: &'a [String]) -> Result<Word<'a>, Error> {
     let command = Command::new(alloc, "ocpi_nodes")
         .version("0.1.0")
         .about("OCPI 2.2.1 nodes for remote start and reservation")
-        .after_help(help::PROGRAM)
-        .subcommand(answer(alloc))?;
+        .after_help(help::PROGRAM);
+    let command = with_word(command, answer(alloc))?;
     let command = with_word(command, play(alloc))?;
     let command = with_word(command, node(alloc))?;
     let command = with_word(command, settle(alloc))?;
@@ -79,10 +90,25 @@ fn with_word<'a>(
     }
 }
 
-fn answer<'a>(alloc: Global) -> Command<'a> {
-    Command::new(alloc, "answer")
+fn answer<'a>(alloc: Global) -> Result<Command<'a>, Error> {
+    let command = Command::new(alloc, "answer")
         .about("Answer the packets of standard input as one operator, as with no command")
-        .after_help(help::ANSWER)
+        .after_help(help::ANSWER);
+    with_telling(alloc, command)
+}
+
+/// The words that say what is told of the lines.
+fn with_telling<'a>(alloc: Global, command: Command<'a>) -> Result<Command<'a>, Error> {
+    let explain = Arg::new(alloc, "explain")
+        .long("explain")
+        .action(ArgAction::SetTrue)
+        .help("Say on standard error what is wrong with a line, and where");
+    let command = with_arg(command, explain)?;
+    let strict = Arg::new(alloc, "strict")
+        .long("strict")
+        .action(ArgAction::SetTrue)
+        .help("End with status 1 where --explain says something");
+    with_arg(command, strict)
 }
 
 fn play<'a>(alloc: Global) -> Result<Command<'a>, Error> {
@@ -94,7 +120,7 @@ fn play<'a>(alloc: Global) -> Result<Command<'a>, Error> {
         .about("Let the events of standard input happen in a world of operators and providers")
         .after_help(help::PLAY)
         .arg(store)?;
-    Ok(command)
+    with_telling(alloc, command)
 }
 
 /// The word that goes with `store` alone.
@@ -126,7 +152,8 @@ fn node<'a>(alloc: Global) -> Result<Command<'a>, Error> {
         .arg(party)?;
     let command = with_arg(command, store)?;
     let command = with_arg(command, existing)?;
-    with_arg(command, echo)
+    let command = with_arg(command, echo)?;
+    with_telling(alloc, command)
 }
 
 fn with_arg<'a>(command: Command<'a>, arg: Arg<'a>) -> Result<Command<'a>, Error> {
@@ -185,10 +212,21 @@ fn weave_word<'a>(alloc: Global, matches: &ArgMatches<'a>) -> Result<Word<'a>, E
     Ok(Word::Weave(WeaveWords { given, files }))
 }
 
+/// What is to be told of the lines, by the words behind a command.
+fn telling_of(given: &ArgMatches<'_>) -> Telling {
+    Telling {
+        explains: given.get_flag("explain"),
+        is_strict: given.get_flag("strict"),
+    }
+}
+
 /// The program that was named, and `answer` where none was; of those beside `weave`.
 fn word_of<'a>(matches: &ArgMatches<'a>) -> Word<'a> {
     if let Some(given) = matches.subcommand_matches("play") {
-        return Word::Play(given.get_str("store"));
+        return Word::Play(PlayWords {
+            folder: given.get_str("store"),
+            telling: telling_of(given),
+        });
     }
     if let Some(given) = matches.subcommand_matches("node") {
         return Word::Node(NodeWords {
@@ -196,12 +234,19 @@ fn word_of<'a>(matches: &ArgMatches<'a>) -> Word<'a> {
             store: given.get_str("store"),
             existing: given.get_flag("existing"),
             echo: given.get_flag("echo"),
+            telling: telling_of(given),
         });
     }
-    match matches.subcommand_matches("settle") {
-        Some(given) => Word::Settle(given.get_str("file").unwrap_or("")),
-        None => Word::Answer,
+    if let Some(given) = matches.subcommand_matches("settle") {
+        return Word::Settle(given.get_str("file").unwrap_or(""));
     }
+    Word::Answer(match matches.subcommand_matches("answer") {
+        Some(given) => telling_of(given),
+        None => Telling {
+            explains: false,
+            is_strict: false,
+        },
+    })
 }
 
 /// The exit status after clap's text: 2 where the command line is wrong, whether or not that could be printed; else 0

@@ -12,6 +12,7 @@ use node_runs::{NodeRunFault, NodeStop, status_after_node};
 use node_store::StoreFault;
 use ocpi_json::{RowKind, write_key};
 use ocpi_types::Word as WordOf;
+use std::alloc::Global;
 use stored_rows::BadRow;
 
 /// Whether a closing was refused. What it left is let go.
@@ -82,6 +83,17 @@ pub struct Told {
     pub besides: Option<StoreFault>,
     /// That file.
     pub unclosed: String,
+}
+
+impl Told {
+    /// Nothing yet.
+    pub fn new(alloc: Global) -> Told {
+        Told {
+            place: String::new(alloc),
+            besides: None,
+            unclosed: String::new(alloc),
+        }
+    }
 }
 
 /// Says what stopped a run, of a store also which it was and why, then what the closing of a store refused besides, and

@@ -34,13 +34,18 @@ Output, on standard output:
   site line ends the run.
   What was answered is written before the program waits for more input.
 
+Explanations, on standard error: with --explain, for each line that was refused: its number, the
+  refusal, the path of the member or the column, what was found, and what is wanted there. With
+  --strict the status is 1 where there was such a line. The output is the same with or without.
+
 Exit status:
   0  no line was refused
   1  a line was refused, or reading or writing failed, which standard error says
   2  the command line is wrong
 
-Example, in the folder of the repository:
-  ./ocpi_nodes answer < examples/answer/start_session/in.jsonl"#;
+Examples, in the folder of the repository:
+  ./ocpi_nodes answer < examples/answer/start_session/in.jsonl
+  ./ocpi_nodes answer --explain < examples/refusals/refused_line/in.jsonl"#;
 
 /// After the help of `play`.
 pub const PLAY: &str =
@@ -58,6 +63,11 @@ Output, on standard output:
   setup ends the run.
   At the end: what each provider owes each operator, as `owed NL/TNM BE/BEC EUR 3.0864`.
   What was answered is written before the program waits for more input.
+
+Explanations, on standard error: with --explain, for each line that was refused: its number, the
+  refusal, the path of the member or the column, what was found, and what is wanted there; and for
+  each that was skipped, and each report of a charge point that did nothing, why that may be. With
+  --strict the status is 1 where there was such a line. The output is the same with or without.
 
 Stores: with --store DIR the rows of the i-th node, from 1, are kept in the file DIR/node<i>.db. The
   folder must exist, and the files must not: they are made, for their owner alone (mode 0600). The
@@ -100,6 +110,12 @@ Output, on standard output:
   `line` is the number of the line, from 1, empty ones counted. For an event of an array `event` is
   its place in it, from 0, and `all` stands behind the last. All that a line gives is written before
   the next line is carried out. With --echo each line is written before what it gives.
+
+Explanations, on standard error: with --explain, for each line, or event of one, that was malformed
+  or refused: its number, the refusal, the path of the member or the column, what was found, and
+  what is wanted there; and for each that was skipped, and each report of a charge point that was
+  idle, why that may be. With --strict the status is 1 where there was such a line. The output is
+  the same with or without.
 
 Store: with --store FILE the node's rows are kept in that file, which is made where it is missing,
   for its owner alone (mode 0600). Where it has rows, the node goes on from them. The rows that a

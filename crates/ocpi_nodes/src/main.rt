@@ -7,6 +7,7 @@
 //!   handed on to be told besides. By `and_closed`, `and_node_closed`: `refused`; `besides`, `once`, `nothing`.
 //! - The status is 2 where the command line is wrong, whether or not that could be printed. After help or version it is
 //!   0 where it was printed, and else 1. By `status_after`: `wrong`, `printed`, `unprinted`.
+//! - Without `--strict` explanations change no status, and with it none but 0. By `status_with`: `lax`, `other`.
 //!
 //! # How it is built
 //!
@@ -21,12 +22,14 @@ mod command;
 mod endings;
 mod help;
 mod refusal;
+mod watching;
 mod weaving;
 
 use clap::Error;
 use clap::error::ErrorKind;
-use command::{NodeWords, WRONG_WORDS, Word, status_after, take_words};
+use command::{NodeWords, PlayWords, WRONG_WORDS, Word, status_after, take_words};
 use endings::{Told, and_closed, and_node_closed, let_go, report, report_node};
+use explanations::{Program, Telling, WatchedReader, WatchedWriter};
 use line_runs::{LineReader, Ran, RunFault};
 use node_keepers::{FileKeeps, Found, Keeps, ListKeeps, StoreFile, close_all, rows_in};
 use node_programs::{PlayFault, run_answer, run_play, run_settle};
@@ -36,6 +39,7 @@ use ocpi_types::Row;
 use sqlite::{Start, Unknown};
 use std::io::{self, BufReader, BufWriter, IsTerminal, Write};
 use std::process::ExitCode;
+use watching::{Lines, lines_of, status_with, watch_in};
 use weaving::{report_weave, weave_files};
 
 /// What one read asks for, and what is written at once, in bytes.
@@ -91,42 +95,75 @@ fn say(rt: &HostRuntime, text: &Error) -> u8
 
 /// Runs a program to the standard output, says what stopped it, and answers the exit status.
 fn run_word(rt: &HostRuntime, word: Word<'_>) -> u8 {
-    let mut told = Told {
-        place: String::new(rt.alloc()),
-        besides: None,
-        unclosed: String::new(rt.alloc()),
-    };
-    let ran = match word {
-        Word::Answer => answer_buffered(rt),
-        Word::Play(None) => play_buffered(rt, &mut told),
+    match word {
+        Word::Answer(telling) => run_answer_word(rt, telling),
+        Word::Play(words) => run_play_word(rt, &words),
+        Word::Settle(file) => run_settle_word(rt, file),
+        Word::Node(words) => run_node_word(rt, &words),
+        Word::Weave(words) => report_weave(rt, weave_files(rt, &words)),
+    }
+}
+
+/// Runs `answer`, says what stopped it, and answers the exit status.
+fn run_answer_word(rt: &HostRuntime, telling: Telling) -> u8 {
+    let told = Told::new(rt.alloc());
+    let lines = lines_of(rt, Program::Answer, telling, false);
+    let ran = answer_buffered(rt, watch_in(&lines, telling));
+    status_with(report(rt, ran, &told), telling, &lines)
+}
+
+/// Runs `play`, says what stopped it, and answers the exit status.
+fn run_play_word(rt: &HostRuntime, words: &PlayWords<'_>) -> u8 {
+    let telling = words.telling;
+    let mut told = Told::new(rt.alloc());
+    let lines = lines_of(rt, Program::Play, telling, false);
+    let watch = watch_in(&lines, telling);
+    let ran = match words.folder {
+        None => play_buffered(rt, watch, &mut told),
         // With no buffer, what an event gives is written before the next event is carried out.
-        Word::Play(Some(folder)) => play_in_files(rt, &mut io::writer(rt), folder, &mut told),
-        Word::Settle(file) => settle_buffered(rt, file, &mut told),
-        Word::Node(words) => return run_node_word(rt, &words),
-        Word::Weave(words) => return report_weave(rt, weave_files(rt, &words)),
+        Some(folder) => {
+            let mut writer = WatchedWriter::new(io::writer(rt), watch);
+            play_in_files(rt, &mut writer, watch, folder, &mut told)
+        }
     };
+    status_with(report(rt, ran, &told), telling, &lines)
+}
+
+/// Runs `settle`, says what stopped it, and answers the exit status.
+fn run_settle_word(rt: &HostRuntime, file: &str) -> u8 {
+    let mut told = Told::new(rt.alloc());
+    let ran = settle_buffered(rt, file, &mut told);
     report(rt, ran, &told)
 }
 
 /// Runs one node, says what stopped it, and answers the exit status.
 fn run_node_word(rt: &HostRuntime, words: &NodeWords<'_>) -> u8 {
+    let telling = words.telling;
     let mut besides = None;
-    let ran = run_one_node(rt, words, &mut besides);
-    report_node(rt, ran, besides, words)
+    let lines = lines_of(rt, Program::Node(words.party), telling, words.echo);
+    let ran = run_one_node(rt, words, watch_in(&lines, telling), &mut besides);
+    status_with(report_node(rt, ran, besides, words), telling, &lines)
 }
 
 /// Answers the standard input to the standard output.
-fn answer_buffered(rt: &HostRuntime) -> Result<Ran, PlayFault> {
+fn answer_buffered(rt: &HostRuntime, watch: Option<&Lines<'_>>) -> Result<Ran, PlayFault> {
     match BufWriter::with_capacity(rt.alloc(), BUFFER_BYTES, io::writer(rt)) {
-        Ok(mut writer) => answer_input(rt, &mut writer),
+        Ok(writer) => answer_input(rt, &mut WatchedWriter::new(writer, watch), watch),
         Err(_) => Err(PlayFault::Run(RunFault::WriteFailed)),
     }
 }
 
 /// Plays the standard input to the standard output, with keepers in memory.
-fn play_buffered(rt: &HostRuntime, told: &mut Told) -> Result<Ran, PlayFault> {
+fn play_buffered(
+    rt: &HostRuntime,
+    watch: Option<&Lines<'_>>,
+    told: &mut Told,
+) -> Result<Ran, PlayFault> {
     match BufWriter::with_capacity(rt.alloc(), BUFFER_BYTES, io::writer(rt)) {
-        Ok(mut writer) => play_in_memory(rt, &mut writer, told),
+        Ok(writer) => {
+            let mut writer = WatchedWriter::new(writer, watch);
+            play_in_memory(rt, &mut writer, watch, told)
+        }
         Err(_) => Err(PlayFault::Run(RunFault::WriteFailed)),
     }
 }
@@ -147,7 +184,11 @@ fn tell_wait(rt: &HostRuntime, wanted: &str) {
 }
 
 /// Answers the standard input.
-fn answer_input<W: Write>(rt: &HostRuntime, writer: &mut W) -> Result<Ran, PlayFault> {
+fn answer_input<W: Write>(
+    rt: &HostRuntime,
+    writer: &mut W,
+    watch: Option<&Lines<'_>>,
+) -> Result<Ran, PlayFault> {
     tell_wait(
         rt,
         "the site line, then packets. `ocpi_nodes help answer` says more",
@@ -155,7 +196,7 @@ fn answer_input<W: Write>(rt: &HostRuntime, writer: &mut W) -> Result<Ran, PlayF
     let Ok(reader) = BufReader::with_capacity(rt.alloc(), BUFFER_BYTES, rt.reader()) else {
         return Err(PlayFault::Run(RunFault::ReadFailed));
     };
-    let mut input = LineReader::new(reader);
+    let mut input = LineReader::new(WatchedReader::new(reader, watch));
     run_answer(rt.alloc(), &mut input, writer).map_err(PlayFault::Run)
 }
 
@@ -192,19 +233,21 @@ impl Located for FileKeeps<'_> {
 fn play_in_memory<W: Write>(
     rt: &HostRuntime,
     writer: &mut W,
+    watch: Option<&Lines<'_>>,
     told: &mut Told,
 ) -> Result<Ran, PlayFault> {
-    play_input(rt, writer, ListKeeps::new(rt.alloc()), "", told)
+    play_input(rt, writer, watch, ListKeeps::new(rt.alloc()), "", told)
 }
 
 /// Plays the standard input with keepers in new files of a folder.
 fn play_in_files<W: Write>(
     rt: &HostRuntime,
     writer: &mut W,
+    watch: Option<&Lines<'_>>,
     folder: &str,
     told: &mut Told,
 ) -> Result<Ran, PlayFault> {
-    play_input(rt, writer, FileKeeps::new(rt, folder), folder, told)
+    play_input(rt, writer, watch, FileKeeps::new(rt, folder), folder, told)
 }
 
 /// Plays the standard input with keepers that have their files in that folder, closes them, and notes what is told of
@@ -212,6 +255,7 @@ fn play_in_files<W: Write>(
 fn play_input<W: Write, S: Keeps + Located + Drop>(
     rt: &HostRuntime,
     writer: &mut W,
+    watch: Option<&Lines<'_>>,
     keeps: S,
     folder: &str,
     told: &mut Told,
@@ -224,7 +268,7 @@ fn play_input<W: Write, S: Keeps + Located + Drop>(
         drop(keeps);
         return Err(PlayFault::Run(RunFault::ReadFailed));
     };
-    let mut input = LineReader::new(reader);
+    let mut input = LineReader::new(WatchedReader::new(reader, watch));
     let mut kept = Vec::new(rt.alloc());
     let mut keeps = keeps;
     let ran = run_play(rt.alloc(), &mut input, writer, &mut keeps, &mut kept);
@@ -249,11 +293,12 @@ fn play_input<W: Write, S: Keeps + Located + Drop>(
 fn run_one_node(
     rt: &HostRuntime,
     words: &NodeWords<'_>,
+    watch: Option<&Lines<'_>>,
     besides: &mut Option<StoreFault>,
 ) -> Result<Ran, NodeRunFault> {
     match words.store {
-        Some(path) => run_in_file(rt, words, path, Unknown, besides),
-        None => run_over(rt, words, ListKeeps::new(rt.alloc()), besides),
+        Some(path) => run_in_file(rt, words, watch, path, Unknown, besides),
+        None => run_over(rt, words, watch, ListKeeps::new(rt.alloc()), besides),
     }
 }
 
@@ -262,14 +307,21 @@ fn run_one_node(
 fn run_in_file<S: Start>(
     rt: &HostRuntime,
     words: &NodeWords<'_>,
+    watch: Option<&Lines<'_>>,
     path: &str,
     start: S,
     besides: &mut Option<StoreFault>,
 ) -> Result<Ran, NodeRunFault> {
     if words.existing {
-        run_over(rt, words, StoreFile::existing(rt, path, start), besides)
+        run_over(
+            rt,
+            words,
+            watch,
+            StoreFile::existing(rt, path, start),
+            besides,
+        )
     } else {
-        run_over(rt, words, StoreFile::new(rt, path, start), besides)
+        run_over(rt, words, watch, StoreFile::new(rt, path, start), besides)
     }
 }
 
@@ -278,6 +330,7 @@ fn run_in_file<S: Start>(
 fn run_over<S: Keeps + Drop>(
     rt: &HostRuntime,
     words: &NodeWords<'_>,
+    watch: Option<&Lines<'_>>,
     keeps: S,
     besides: &mut Option<StoreFault>,
 ) -> Result<Ran, NodeRunFault> {
@@ -289,8 +342,8 @@ fn run_over<S: Keeps + Drop>(
         drop(keeps);
         return Err(NodeRunFault::Run(RunFault::ReadFailed));
     };
-    let mut input = LineReader::new(reader);
-    let mut writer = io::writer(rt);
+    let mut input = LineReader::new(WatchedReader::new(reader, watch));
+    let mut writer = WatchedWriter::new(io::writer(rt), watch);
     let mut kept = None;
     let mut keeps = keeps;
     let ran = run_node(

@@ -1,0 +1,43 @@
+//! Why lines came to nothing, in words: a watch beside a program's reader and writer.
+//!
+//! ```
+//! let watch = RefCell::new(Watch::new(alloc, Program::Play, telling, false, errors));
+//! let mut input = LineReader::new(WatchedReader::new(reader, Some(&watch)));
+//! let mut writer = WatchedWriter::new(writer, Some(&watch));
+//! run_play(alloc, &mut input, &mut writer, &mut keeps, &mut kept)
+//! ```
+//!
+//! # Promises
+//!
+//! - What is watched for explanations is passed on: a watched reader gives what the reader within has left, and a
+//!   watched writer holds what the writer within holds. By `WatchedReader`, `WatchedWriter`: `remaining`, `contents`.
+//! - The explanation of a malformed line begins with the line's number, the place of the event in it where it has
+//!   several, and the refusal with the name of its member. By `explain_malformed` (`specs/Explained`).
+//! - Which path, column and words follow, which idle and skipped events are told, and why: no clause says so. Tested
+//!   by the examples `explain/play`, `explain/node`, `explain/answer`, and by `tools/try_explanations`, which changes
+//!   each member of lines of all kinds.
+#![tactic(auto)]
+
+mod answers;
+mod finding;
+mod forms;
+mod known;
+mod malformed;
+mod nearest;
+mod nesting;
+mod output_lines;
+mod shapes;
+mod showing;
+mod tables;
+#[cfg(test)]
+mod tests;
+mod text_faults;
+mod watch;
+mod watched;
+mod word_lists;
+
+pub use answers::Program;
+pub use malformed::{LineText, Place, explain_malformed};
+pub use shapes::Shape;
+pub use watch::{Telling, Watch};
+pub use watched::{WatchedReader, WatchedWriter};

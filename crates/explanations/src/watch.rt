@@ -1,0 +1,356 @@
+//! What goes into a program and comes out of it, and what is said of that.
+
+use crate::answers::{Case, Program, tell_idle, tell_refused, tell_skipped};
+use crate::known::Known;
+use crate::malformed::{LineText, Place, explain_malformed};
+use crate::output_lines::{Outcome, Said, refusal_of, said_by};
+use json::{Scratch as JsonScratch, Value};
+use line_runs::{KEPT_BYTES, write_whole};
+use node_lines::{element_texts, read_node_line};
+use ocpi_json::{
+    JsonFault, Scratch, read_event, read_node_event, read_packet, read_setup, read_site,
+};
+use std::alloc::{AllocError, Global};
+use std::io::Write;
+use std::str;
+
+/// The most bytes of a line that are kept: those that a run looks at, and what ends the line.
+const ROOM: usize = KEPT_BYTES + 1;
+
+/// The most bytes of a line of the output that are looked at. What is told of has fewer.
+const OUTPUT_ROOM: usize = 512;
+
+/// What a program is to tell of its lines.
+#[derive(Clone, Copy, Debug, PartialEq, Eq)]
+pub struct Telling {
+    /// Whether each line is explained that was refused, or came to nothing where that may be a mistake.
+    pub explains: bool,
+    /// Whether such a line makes the status 1.
+    pub is_strict: bool,
+}
+
+/// Watches the lines of a program's input, and its output, and explains to `errors` what came to nothing.
+#[derive(Drop)]
+pub struct Watch<'p, E> {
+    alloc: Global,
+    errors: E,
+    program: Program<'p>,
+    telling: Telling,
+    /// Whether each line is written before what it gives.
+    echoes: bool,
+    known: Known,
+    /// The number of the line that is read, or that was read last.
+    number: u64,
+    /// Its first bytes, without what ends it once it ended.
+    line: Vec<u8>,
+    len: u64,
+    /// Whether a part of it was shown, and its end was not.
+    is_open: bool,
+    /// Whether it is the first that holds something.
+    is_first: bool,
+    /// Whether one before it is.
+    has_first: bool,
+    /// What the reader shows of the line.
+    shown: Vec<u8>,
+    /// The first bytes of the line of the output that is written.
+    output: Vec<u8>,
+    /// Whether the echo of the line stands behind it.
+    is_echoed: bool,
+    /// Whether the line gave something.
+    is_answered: bool,
+    /// Whether a line was refused, or came to nothing where that may be a mistake.
+    has_told: bool,
+}
+
+impl<'p, E: Write> Watch<'p, E> {
+    /// Of a program that has read nothing yet.
+    pub fn new(
+        alloc: Global,
+        program: Program<'p>,
+        telling: Telling,
+        echoes: bool,
+        errors: E,
+    ) -> Watch<'p, E> {
+        Watch {
+            alloc,
+            errors,
+            program,
+            telling,
+            echoes,
+            known: Known::Nothing,
+            number: 0,
+            line: Vec::new(alloc),
+            len: 0,
+            is_open: false,
+            is_first: false,
+            has_first: false,
+            shown: Vec::new(alloc),
+            output: Vec::new(alloc),
+            is_echoed: true,
+            is_answered: true,
+            has_told: false,
+        }
+    }
+
+    /// Whether a line was refused, or came to nothing where that may be a mistake.
+    pub fn has_told(&self) -> bool {
+        self.has_told
+    }
+
+    /// The reader shows these bytes; none where the input ended.
+    pub(crate) fn show(&mut self, shown: &[u8]) {
+        if shown.is_empty() {
+            if self.is_open {
+                self.end_line(false);
+            } else {
+                self.end_input();
+            }
+            return;
+        }
+        if !self.is_open {
+            self.begin_line();
+        }
+        let end = match shown.iter().position(|byte| *byte == b'\n') {
+            Some(at) => at + 1,
+            None => shown.len(),
+        };
+        self.shown.clear();
+        let _ = self.shown.extend_from_slice(&shown[..end]);
+    }
+
+    /// So many of the bytes that were shown are taken.
+    pub(crate) fn take(&mut self, amount: usize) {
+        let taken = self.shown.len().min(amount);
+        let kept = taken.min(ROOM - self.line.len().min(ROOM));
+        let _ = self.line.extend_from_slice(&self.shown[..kept]);
+        self.len = self.len.saturating_add(taken as u64);
+        let is_ended = taken > 0 && self.shown[taken - 1] == b'\n';
+        self.shown.clear();
+        if is_ended {
+            self.end_line(true);
+        }
+    }
+
+    fn begin_line(&mut self) {
+        self.settle();
+        self.number = self.number.saturating_add(1);
+        self.line.clear();
+        self.len = 0;
+        self.is_open = true;
+        self.is_echoed = !self.echoes;
+        self.is_answered = false;
+    }
+
+    /// The line ended: what ends it is dropped, and the first line is read.
+    fn end_line(&mut self, has_line_feed: bool) {
+        self.is_open = false;
+        let is_whole = self.len == self.line.len() as u64;
+        if has_line_feed {
+            self.len = self.len.saturating_sub(1);
+            if is_whole {
+                self.drop_end();
+            }
+        }
+        self.is_first = !self.line.is_empty() && !self.has_first;
+        if self.is_first {
+            self.has_first = true;
+            self.known = self.read_first();
+        }
+    }
+
+    /// Drops a line feed, and a carriage return before it.
+    fn drop_end(&mut self) {
+        self.line.pop();
+        if self.line.last() == Some(&b'\r') {
+            self.line.pop();
+            self.len = self.len.saturating_sub(1);
+        }
+    }
+
+    fn end_input(&mut self) {
+        self.settle();
+        self.is_echoed = true;
+        self.is_answered = true;
+    }
+
+    /// What the first line says.
+    fn read_first(&self) -> Known {
+        let mut scratch = Scratch::new(self.alloc);
+        match self.program {
+            Program::Answer => match read_site(self.alloc, &mut scratch, self.line.as_slice()) {
+                Ok(site) => Known::Site(site),
+                Err(_) => Known::Nothing,
+            },
+            _ => match read_setup(self.alloc, &mut scratch, self.line.as_slice()) {
+                Ok(setup) => Known::Setup(setup),
+                Err(_) => Known::Nothing,
+            },
+        }
+    }
+
+    /// The program writes these bytes.
+    pub(crate) fn wrote(&mut self, bytes: &[u8]) {
+        for byte in bytes {
+            if *byte == b'\n' {
+                self.end_output();
+            } else if self.output.len() < OUTPUT_ROOM {
+                let _ = self.output.push(*byte);
+            }
+        }
+    }
+
+    /// A line of the output ended.
+    fn end_output(&mut self) {
+        if self.is_echoed {
+            self.is_answered = true;
+            let said = said_by(self.alloc, self.program, self.output.as_slice());
+            self.judge(said);
+        } else {
+            self.is_echoed = true;
+        }
+        self.output.clear();
+    }
+
+    /// In `play` an event that gave nothing is told of where it is a report of a charge point.
+    fn settle(&mut self) {
+        if self.is_answered || self.is_first || self.line.is_empty() {
+            return;
+        }
+        if let Program::Play = self.program {
+            self.judge(Said {
+                outcome: Outcome::Idle,
+                event: None,
+            });
+        }
+    }
+
+    /// Explains what came to nothing.
+    fn judge(&mut self, said: Said) {
+        if said.outcome == Outcome::Other {
+            return;
+        }
+        let mut text = String::new(self.alloc);
+        let is_told = match self.tell(said, &mut text) {
+            Ok(is_told) => is_told,
+            Err(_) => {
+                self.say(b"a line is not explained, as memory ran out\n");
+                return;
+            }
+        };
+        if is_told {
+            self.say(text.as_bytes());
+        }
+    }
+
+    fn say(&mut self, text: &[u8]) {
+        self.has_told = true;
+        if self.telling.explains {
+            let _ = write_whole(&mut self.errors, text);
+        }
+    }
+
+    /// Adds why a line, or an event of one, came to nothing, where that is to be told, and answers whether it is.
+    fn tell(&self, said: Said, output: &mut String) -> Result<bool, AllocError> {
+        if !self.has_first {
+            output.push_str(
+                "line 0: 1 Syntax: found no line that is not empty; wanted a first line\n",
+            )?;
+            return Ok(true);
+        }
+        let Some(place) = said.event else {
+            let len = self.len;
+            return self.tell_text(said, self.line.as_slice(), len, output);
+        };
+        let texts = element_texts(self.alloc, self.line.as_slice())?;
+        match texts.get(place) {
+            Some(text) => self.tell_text(said, *text, text.len() as u64, output),
+            None => Ok(false),
+        }
+    }
+
+    /// The same of the text of the line, or of the event of one.
+    fn tell_text(
+        &self,
+        said: Said,
+        bytes: &[u8],
+        len: u64,
+        output: &mut String,
+    ) -> Result<bool, AllocError> {
+        let place = Place {
+            line: self.number,
+            event: said.event,
+        };
+        if said.outcome == Outcome::Refused {
+            if let Some(fault) = self.fault_of(bytes, said.event.is_some()) {
+                let shape = self.program.shape(self.is_first);
+                let text = LineText { bytes, len, shape };
+                explain_malformed(self.alloc, place, fault, text, output)?;
+                return Ok(true);
+            }
+        }
+        let mut words = String::new(self.alloc);
+        let is_told = self.tell_event(said.outcome, bytes, &mut words)?;
+        if is_told {
+            writeln!(output, "{place}{}", words.as_str())?;
+        }
+        Ok(is_told)
+    }
+
+    /// Why a text is refused, if it is.
+    fn fault_of(&self, text: &[u8], is_element: bool) -> Option<JsonFault> {
+        let alloc = self.alloc;
+        let mut scratch = Scratch::new(alloc);
+        match (self.program, self.is_first) {
+            (Program::Answer, true) => read_site(alloc, &mut scratch, text).err(),
+            (Program::Answer, false) => read_packet(alloc, &mut scratch, text).err(),
+            (_, true) => read_setup(alloc, &mut scratch, text).err(),
+            (Program::Play, false) => read_event(alloc, &mut scratch, text).err(),
+            (Program::Node(_), false) if is_element => {
+                read_node_event(alloc, &mut scratch, text).err()
+            }
+            (Program::Node(_), false) => read_node_line(alloc, &mut scratch, text).err(),
+        }
+    }
+
+    /// Adds why an event that can be read came to nothing, where that is to be told, and answers whether it is.
+    fn tell_event(
+        &self,
+        outcome: Outcome,
+        bytes: &[u8],
+        output: &mut String,
+    ) -> Result<bool, AllocError> {
+        let mut scratch = JsonScratch::new(self.alloc);
+        let Ok(text) = str::from_utf8(bytes) else {
+            return Ok(false);
+        };
+        match Value::parse(self.alloc, text, &mut scratch) {
+            Ok(event) => self.tell_read(outcome, &event, output),
+            Err(_) => Ok(false),
+        }
+    }
+
+    fn tell_read(
+        &self,
+        outcome: Outcome,
+        event: &Value<'_>,
+        output: &mut String,
+    ) -> Result<bool, AllocError> {
+        let case = Case {
+            alloc: self.alloc,
+            program: self.program,
+            known: &self.known,
+        };
+        match outcome {
+            Outcome::Idle => tell_idle(case, event, output),
+            Outcome::Skipped => {
+                tell_skipped(case, event, output)?;
+                Ok(true)
+            }
+            Outcome::Refused | Outcome::Other => {
+                let name = refusal_of(self.alloc, self.program, self.output.as_slice())?;
+                tell_refused(case, name.as_str(), event, output)?;
+                Ok(true)
+            }
+        }
+    }
+}
