@@ -1,0 +1,5 @@
+mod Ascii
+mod Printed
+mod Records
+mod Bodies
+mod Again
