@@ -157,11 +157,11 @@ fn kept_ack(ack: &Ack)
     kept_moment(ack.timestamp);
 }
 
-fn kept_result(result: &CommandResult)
-    ensures fits { CommandResultFits result.now }
-    ensures utf8 { IsUtf8 result.now.response_url }
+fn kept_result(outcome: &CommandResult)
+    ensures fits { CommandResultFits outcome.now }
+    ensures utf8 { IsUtf8 outcome.now.response_url }
 {
-    kept_free(&result.response_url);
+    kept_free(&outcome.response_url);
 }
 
 pub(crate) fn kept_reply(reply: &Reply)
@@ -180,7 +180,7 @@ pub(crate) fn kept_push(push: &Push)
     ensures utf8 { BodyIsUtf8 (body_of_push push.now) }
 {
     match push {
-        Push::CommandResult(result) => kept_result(result),
+        Push::CommandResult(outcome) => kept_result(outcome),
         Push::PutToken(token) => kept_token(token),
         Push::PutSession(session) => kept_session(session),
         Push::PostCdr(cdr) => kept_cdr(cdr),
