@@ -1,6 +1,6 @@
 -- Texts of ASCII, as the numbers, the moments and the words of a row are, are UTF-8.
-use Rattle.std.proofs.Common.{◌≡◌, ℕ, ◌<◌, ◌≤◌, ◌/◌, ◌%◌, true, false, ◌&&◌, List, [], ◌∷◌, ◌++◌, Ok, refl, subst, sym, arith, inl, inr}
-use Rattle.std.specs.Prelude.{◌⊎◌, ◌==◌, nat_lt, nat_le, pos, codes}
+use Rattle.std.proofs.Common.{◌≡◌, ℕ, ◌<◌, ◌≤◌, true, List, [], ◌∷◌, ◌++◌, Ok, refl, subst, sym, arith, inl, inr}
+use Rattle.std.specs.Prelude.{◌⊎◌, ◌+◌, ◌/◌, ◌%◌, pos, codes}
 use Rattle.std.specs.Char.{is_ascii_digit}
 use Rattle.std.specs.List.{list_all}
 use Rattle.std.specs.Str.{IsUtf8}
@@ -10,7 +10,6 @@ use Rattle.std.proofs.lemmas.Str.{IsUtf8-append, IsUtf8-from_ascii, IsUtf8-nil}
 use Rattle.json.proofs.Printed.Utf8.{IsUtf8-are_ascii, are_ascii}
 use Rattle.jiff_core.specs.Calendar.{IsCivilDate}
 use Rattle.jiff_core.proofs.CalendarLemmas.{days_in_month_bounds}
-use Rattle.ocpi_text.specs.Calendar.{is_date}
 use Rattle.ocpi_text.specs.Digits.{IsFraction, two_digits, four_digits}
 use Rattle.ocpi_text.specs.Moment.{IsZone, SpellsMoment, last_moment, moment_text}
 use Rattle.ocpi_text.specs.Party.{party_at, country_of, party_id_of}
@@ -88,14 +87,14 @@ number_utf8 s n = subst IsUtf8 (sym n.parts) (
 -- ---- moments
 
 two_then : (n : ℕ) (cs : List ℕ) → n < 100 → IsUtf8 cs → IsUtf8 (two_digits n ++ cs)
-two_then n cs small u = byte_then _ _ (omega arith) (byte_then _ _ (omega arith) u)
+two_then n cs small u = byte_then (48 + n / 10) ((48 + n % 10) ∷ cs) (omega arith) (byte_then (48 + n % 10) cs (omega arith) u)
 
 ascii_digits_utf8 : (s : List ℕ) → list_all is_ascii_digit s ≡ true → IsUtf8 s
 ascii_digits_utf8 s h = digits_utf8 s h
 
 moment_fraction_utf8 : (s : List ℕ) (value : ℕ) → IsFraction 3 s value → IsUtf8 s
 moment_fraction_utf8 s value (inl none) = subst IsUtf8 (sym none.0) IsUtf8-nil
-moment_fraction_utf8 s value (inr some) = subst IsUtf8 (sym some.1) (byte_then 46 some.0 (omega arith) (ascii_digits_utf8 some.0 some.2.1.0))
+moment_fraction_utf8 s value (inr some) = subst IsUtf8 (sym some.1) (byte_then 46 some.0 (omega arith) (ascii_digits_utf8 some.0 some.3))
 
 zone_utf8 : (s : List ℕ) → IsZone s → IsUtf8 s
 zone_utf8 s (inl is) = subst IsUtf8 (sym is) IsUtf8-nil

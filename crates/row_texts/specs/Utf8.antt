@@ -85,4 +85,4 @@ RowIsUtf8 (row.Pending provider number open_command) = CommandIsUtf8 open_comman
 RowIsUtf8 (row.Result provider number result) = Unit {0}
 RowIsUtf8 (row.Session s) = IsUtf8 s.currency
 RowIsUtf8 (row.Cdr c) = CdrIsUtf8 c
-RowIsUtf8 (row.Command number command) = CommandIsUtf8 command.command
+RowIsUtf8 (row.Command number sent) = CommandIsUtf8 sent.command

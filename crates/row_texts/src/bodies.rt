@@ -79,24 +79,24 @@ fn kept_command(command: &Command)
     ensures utf8 { CommandIsUtf8 command.now }
 {
     match command {
-        Command::StartSession(command) => kept_start(command),
-        Command::StopSession(command) => kept_stop(command),
-        Command::ReserveNow(command) => kept_reserve(command),
-        Command::CancelReservation(command) => kept_cancel(command),
-        Command::UnlockConnector(command) => kept_unlock(command),
+        Command::StartSession(start) => kept_start(start),
+        Command::StopSession(stop) => kept_stop(stop),
+        Command::ReserveNow(reserve) => kept_reserve(reserve),
+        Command::CancelReservation(cancel) => kept_cancel(cancel),
+        Command::UnlockConnector(unlock) => kept_unlock(unlock),
     }
 }
 
-fn kept_response_data(response: &ResponseData)
-    ensures { ResponseDataFits response.now }
+fn kept_response_data(answer: &ResponseData)
+    ensures { ResponseDataFits answer.now }
 {
-    kept_whole(response.timeout);
+    kept_whole(answer.timeout);
 }
 
-fn kept_response(response: &CommandResponse)
-    ensures { CommandResponseFits response.now }
+fn kept_response(reply: &CommandResponse)
+    ensures { CommandResponseFits reply.now }
 {
-    match response {
+    match reply {
         CommandResponse::Done {
             timestamp,
             response,
@@ -114,11 +114,11 @@ fn kept_response(response: &CommandResponse)
     }
 }
 
-fn kept_optional_response(response: &Option<CommandResponse>)
-    ensures { IfSome response.now CommandResponseFits }
+fn kept_optional_response(reply: &Option<CommandResponse>)
+    ensures { IfSome reply.now CommandResponseFits }
 {
-    match response {
-        Some(response) => kept_response(response),
+    match reply {
+        Some(some) => kept_response(some),
         None => {}
     }
 }

@@ -51,7 +51,7 @@ fn kept_optional_price(price: &Option<Price>)
     ensures { IfSome price.now PriceFits }
 {
     match price {
-        Some(price) => kept_price(price),
+        Some(some) => kept_price(some),
         None => {}
     }
 }

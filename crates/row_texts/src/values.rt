@@ -21,7 +21,7 @@ pub(crate) fn kept_optional_ci<const MAX: usize>(text: &Option<CiText<MAX>>)
     ensures { FitsOption MAX text.now }
 {
     match text {
-        Some(text) => kept_ci(text),
+        Some(some) => kept_ci(some),
         None => {}
     }
 }
@@ -61,7 +61,7 @@ pub(crate) fn kept_optional_moment(moment: Option<Moment>)
     ensures { FitsOptionalMoment moment }
 {
     match moment {
-        Some(moment) => kept_moment(moment),
+        Some(some) => kept_moment(some),
         None => {}
     }
 }
