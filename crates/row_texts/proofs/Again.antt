@@ -17,8 +17,8 @@ use Rattle.ocpi_json.proofs.WrittenNumbers.{tokens_again}
 use Rattle.ocpi_json.proofs.WrittenRows.{row_text_again, row_text_is}
 use Rattle.row_texts.specs.Utf8.{RowIsUtf8}
 use Rattle.row_texts.proofs.Printed.{HasUtf8, record_utf8, text_utf8}
-use Rattle.row_texts.proofs.Records.{cdr_utf8, session_utf8, token_utf8}
-use Rattle.row_texts.proofs.Bodies.{open_command_utf8, push_utf8, reply_utf8, reservation_utf8, result_word_utf8, sent_command_utf8}
+use Rattle.row_texts.proofs.RecordTexts.{cdr_utf8, session_utf8, token_utf8}
+use Rattle.row_texts.proofs.BodyTexts.{open_command_utf8, push_utf8, reply_utf8, reservation_utf8, result_word_utf8, sent_command_utf8}
 
 members_utf8 : (r : Row) → RowTextFits r → RowIsUtf8 r → HasUtf8 (object_of (row_members layout.Two r))
 unfolding row_members count_members mark_members result_members cdr_of_row_members

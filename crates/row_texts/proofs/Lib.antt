@@ -1,5 +1,5 @@
 mod Ascii
 mod Printed
-mod Records
-mod Bodies
+mod RecordTexts
+mod BodyTexts
 mod Again

@@ -31,11 +31,11 @@ pub record CdrLocationIsUtf8 (l : CdrLocation) : Type 0 where
   pub connector_format : IsUtf8 l.connector_format
   pub connector_power_type : IsUtf8 l.connector_power_type
 
-abbrev pub CdrDimensionIsUtf8 : CdrDimension → Type 0
-CdrDimensionIsUtf8 x = IsUtf8 x.dimension_type
+pub record CdrDimensionIsUtf8 (x : CdrDimension) : Type 0 where
+  pub dimension_type : IsUtf8 x.dimension_type
 
-abbrev pub ChargingPeriodIsUtf8 : ChargingPeriod → Type 0
-ChargingPeriodIsUtf8 p = All CdrDimensionIsUtf8 p.dimensions
+pub record ChargingPeriodIsUtf8 (p : ChargingPeriod) : Type 0 where
+  pub dimensions : All CdrDimensionIsUtf8 p.dimensions
 
 pub record CdrIsUtf8 (c : Cdr) : Type 0 where
   pub cdr_location : CdrLocationIsUtf8 c.cdr_location

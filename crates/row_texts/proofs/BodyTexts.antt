@@ -51,7 +51,7 @@ use Rattle.ocpi_json.specs.StoredForms.{OpenCommandFits, ReservationFits, SentCo
 use Rattle.row_texts.specs.Utf8.{AuthorizationIsUtf8, BodyIsUtf8, CommandIsUtf8, ReserveNowIsUtf8, StartSessionIsUtf8}
 use Rattle.row_texts.proofs.Ascii.{ci_utf8, moment_utf8, party_utf8}
 use Rattle.row_texts.proofs.Printed.{HasUtf8, optional_ci_utf8, optional_inner_utf8, optional_word_utf8, record_utf8}
-use Rattle.row_texts.proofs.Records.{cdr_utf8, session_utf8, token_utf8}
+use Rattle.row_texts.proofs.RecordTexts.{cdr_utf8, session_utf8, token_utf8}
 
 -- ---- words
 

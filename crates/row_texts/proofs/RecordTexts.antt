@@ -139,12 +139,12 @@ cdr_location_utf8 l fits h = record_utf8 (cdr_location_members l) (
 
 cdr_dimension_utf8 : (x : CdrDimension) → CdrDimensionFits x → CdrDimensionIsUtf8 x → HasUtf8 (object_of (cdr_dimension_members x))
 unfolding cdr_dimension_members
-cdr_dimension_utf8 x fits h = record_utf8 (cdr_dimension_members x) (h and tt and tt)
+cdr_dimension_utf8 x fits h = record_utf8 (cdr_dimension_members x) (h.dimension_type and tt and tt)
 
 charging_period_utf8 : (p : ChargingPeriod) → ChargingPeriodFits p → ChargingPeriodIsUtf8 p → HasUtf8 (object_of (charging_period_members p))
 unfolding charging_period_members
 charging_period_utf8 p fits h = record_utf8 (charging_period_members p) (
-    list_utf8 cdr_dimension_members CdrDimensionFits CdrDimensionIsUtf8 p.dimensions cdr_dimension_utf8 fits.dimensions h
+    list_utf8 cdr_dimension_members CdrDimensionFits CdrDimensionIsUtf8 p.dimensions cdr_dimension_utf8 fits.dimensions h.dimensions
     and moment_utf8 p.start_date_time fits.start_date_time
     and tt)
 
