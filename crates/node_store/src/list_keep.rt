@@ -56,7 +56,7 @@ impl ListKeep {
     pub fn has_rows(&self)
         ensures { IsSome (rows_of self.now) }
     {
-        let _texts = &self.stored;
+        let _stored = &self.stored;
     }
 }
 
