@@ -9,5 +9,9 @@ pub mod ListParts
 pub mod ListCuts
 pub mod Runs
 pub mod CutRuns
+pub mod KeptRows
+pub mod FirstLines
+pub mod LeftLines
+pub mod ReadSoFar
 pub mod LaterRuns
 pub mod Outputs

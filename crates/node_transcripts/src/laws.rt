@@ -8,8 +8,10 @@ ghost use Rattle.node_transcripts.specs.Outputs.{BegunRunsAreTranscripts, WholeR
 
 use done_laws::laws::done_lines_are_read;
 use node_keepers::Keeps;
-use node_rows::laws::{empty_is_held, nodes_keep_openings};
-use stored_laws::laws::openings_can_start_again;
+use node_rows::laws::{
+    changes_are_held, empty_is_held, nodes_keep_openings, restarts_are_held, restarts_can_start_again,
+};
+use stored_laws::laws::{nodes_can_start_again, openings_can_start_again};
 
 /// What a run writes for its lines is a transcript of its node.
 pub fn runs_are_transcripts<S: Keeps>()
@@ -33,7 +35,9 @@ pub fn cut_runs_are_transcripts<S: Keeps>()
     openings_can_start_again();
 }
 
-/// Runs of one node over one store, one behind the other, are one transcript.
+/// What runs of one node over one store wrote, one behind the other, is one transcript. Each may have come to its end, ended at
+/// a line, or been stopped anywhere, and the next one opens what it left, whether a line that was left open was carried out or
+/// not. Between them may stand runs in which no node began.
 pub fn several_runs_are_transcripts<S: Keeps>()
     ensures { SeveralRunsAreTranscripts (keeper_of S.Kept.content S.Kept.is_honest S.Kept.refusals S.Kept.may_leave) (source_of S.may_refuse S.found) }
 {
@@ -41,6 +45,10 @@ pub fn several_runs_are_transcripts<S: Keeps>()
     nodes_keep_openings();
     empty_is_held();
     openings_can_start_again();
+    changes_are_held();
+    nodes_can_start_again();
+    restarts_are_held();
+    restarts_can_start_again();
 }
 
 /// Whatever `run_node` wrote, whether the run came to the end of its input, ended at a line, or was cut, is a transcript.

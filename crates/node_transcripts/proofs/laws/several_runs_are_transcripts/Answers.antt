@@ -8,3 +8,4 @@ pub returns : goal.returns
 returns g c =
     runs.several_runs_are_transcripts (keeper_of g.S.Kept.Keep.content g.S.Kept.Keep.is_honest g.S.Kept.Keep.refusals g.S.Kept.Keep.may_leave) (source_of g.S.Keeps.may_refuse g.S.Keeps.found)
     c.done_lines_are_read.ensures c.nodes_keep_openings.ensures c.empty_is_held.ensures c.openings_can_start_again.ensures reads_setups
+    c.changes_are_held.ensures c.nodes_can_start_again.ensures c.restarts_are_held.ensures c.restarts_can_start_again.ensures
