@@ -44,7 +44,7 @@ use Rattle.node_transcripts.proofs.LineParts.{IsOpen, ReadsOn, StopsOn, answer_s
 use Rattle.node_transcripts.proofs.ListCuts.{list_stops}
 use Rattle.node_transcripts.proofs.ReadSoFar.{Behind, EmptyBefore, FitsTail, GoesBack, ReadsSo, end_part, fits_setup, line_numbered, line_written, run_part, unbegun_read}
 use Rattle.node_transcripts.proofs.Runs.{ReadsTo, Tells, echo_is, refused_goes_on, running_told, taken_goes_on, told_if}
-use Rattle.node_transcripts.proofs.SetupParts.{made_rows, of_itself, opening_part}
+use Rattle.node_transcripts.proofs.SetupParts.{made_rows, opening_part}
 use Rattle.node_transcripts.proofs.WrittenLines.{lines_are, numbered, part_of, written}
 
 -- a part of a line behind whole lines is nothing where the last byte is a line feed
@@ -204,7 +204,7 @@ module _ {K : Type 0} (keeper : Keeper K) (source : Source K) (reads : DoneLines
     texts = told.texts;
     is_written = told.is_written;
     plain = told.plain;
-    at_end = let at = told.reads [] in (at.0, at.1, at.2.told, ap (λ (z : Standing). z.told) at.2.stands, at.2.is);
+    at_end = let at = told.reads [] in (at.0, at.1, (at.2.told, ap (λ (z : Standing). z.told) at.2.stands, at.2.is));
     behind = λ rest any. let at = told.reads rest in (at.0, at.1, open_back at.0 at.2);
   }
     where
@@ -235,9 +235,7 @@ module _ {K : Type 0} (keeper : Keeper K) (source : Source K) (reads : DoneLines
           subst (λ (all : List Line). ReadTo setup [] all [] (begun at.2.told)) (sym (line_numbered told.texts [] line [] some))
               (More (cut_part FileEnd k line []) at.1 (end_part k line)
               (subst (λ (z : Standing). Follows setup [] z (cut_part FileEnd k line []) (begun at.2.told)) (sym at.2.stands) (left_out setup at.2.told k line))),
-          at.2.told,
-          refl,
-          at.2.is,
+          (at.2.told, refl, at.2.is),
         );
     behind = λ rest begins.
         let at = told.reads (record { number = k; bytes = line } ∷ rest) in
@@ -272,9 +270,7 @@ module _ {K : Type 0} (keeper : Keeper K) (source : Source K) (reads : DoneLines
         let stop = on.goes FileEnd tt cut.count k k [] [] AtEnd stand others at.0 at.2 in (
           begun stop.told,
           subst (λ (all : List Line). ReadTo setup [] all [] (begun stop.told)) (sym (line_numbered told.texts lines line [] some)) (More stop.part at.1 stop.is stop.follows),
-          stop.told,
-          refl,
-          stop.after,
+          (stop.told, refl, stop.after),
         );
     behind = λ follow begins.
         let at = told.reads (record { number = k; bytes = line } ∷ numbered k lines follow) in
@@ -377,13 +373,13 @@ module _ {K : Type 0} (keeper : Keeper K) (source : Source K) (reads : DoneLines
   nothing_so : Reads [] AllAnswered None empty
   nothing_so = record {
     v = first;
-    kept = λ is_setup among. record { starts = can setup is_setup member among; of_member = of_itself setup member; holds = empty_held.openings setup member };
+    kept = λ is_setup among. record { starts = can setup is_setup member among; of_member = keep.at_first setup member; holds = empty_held.openings setup member };
     anew = refl;
     texts = [];
     is_written = refl;
     plain = All-nil IsPlain;
     at_end = (nothing_known, Start, tt);
-    behind = λ rest any. (nothing_known, Start, refl, refl);
+    behind = λ rest any. (nothing_known, Start, (refl, refl));
   }
 
   runs_read : {out : List ℕ} {tail : Tail} {now : Option (Running K)} {content : Content} → AreRuns keeper source setup member wanted out tail now content → Reads out tail now content

@@ -1,7 +1,7 @@
 -- What runs wrote, one behind the other, is read up to where the next run begins, or to the end of the file.
 use Rattle.std.proofs.Common.{◌≡◌, ◌≢◌, ◌⊎◌, ℕ, ◌+◌, ◌<◌, ◌==◌, Bool, true, false, List, [], ◌∷◌, ◌++◌, All, Option, None, Some, Ok, Err, length, refl, sym, ap, subst, ◌∙◌, arith, inl, inr, eqb-true}
 use Rattle.std.proofs.lemmas.Fmt.{decimal_digit}
-use Rattle.std.proofs.lemmas.List.{append_assoc}
+use Rattle.std.proofs.lemmas.List.{append-nil, append_assoc}
 use Rattle.std.proofs.lemmas.List.Elements.{All-append, All-cons, All-nil, All-push}
 use Rattle.std.specs.FinMap.{empty}
 use Rattle.std.specs.Prelude.{Contains, if◌then◌else◌}
@@ -16,9 +16,12 @@ use Rattle.node_store.specs.Contents.{Content}
 use Rattle.node_rows.specs.Laws.{NodesKeepOpenings}
 use Rattle.node_lines.specs.NodeLines.{node_line_in}
 use Rattle.line_runs.specs.Numbered.{echo_of}
+use Rattle.node_keepers.specs.Opening.{Source}
+use Rattle.node_cell.specs.Keepers.{Keeper}
 use Rattle.node_cell.specs.Stored.{IsKeptFor}
 use Rattle.node_runs.specs.DoneLines.{malformed_line}
 use Rattle.node_runs.specs.NodeTurns.{Running}
+use Rattle.node_runs.specs.NodeTurns as turns
 use Rattle.transcript_lines.specs.Dones.{run_without_lines}
 use Rattle.transcript_lines.specs.declared.done.Done.TheVariants as done
 use Rattle.done_laws.specs.Laws.{DoneLinesAreRead, IsLineNumber, IsRead}
@@ -28,14 +31,14 @@ use Rattle.transcript_parts.specs.Parts.{AtEnd, AtLast, AtRun, BeforeEnd, Before
 use Rattle.transcript_parts.specs.declared.line_read.Ending.TheVariants.{FileEnd, NextRun}
 use Rattle.transcripts.specs.Following.{Follows, GoesOn, More, NoEvent, NoSetup, Outside, Passed, ReadTo, Standing, Start, begun, ended, nothing_known, restarted}
 use Rattle.transcripts.specs.Told.{Told}
-use Rattle.node_transcripts.specs.LaterRuns.{AllAnswered, IsFirstLine, IsGiven, IsReadBehind, IsUnbegunRun, LastLeft, LastTwoLeft, LeftFirst, NoLines, RefusedFirst, Tail, tail_behind}
+use Rattle.node_transcripts.specs.LaterRuns.{AllAnswered, FirstLinesEndRuns, IsFirstLine, IsGiven, IsReadBehind, IsUnbegunRun, LastLeft, LastTwoLeft, LeftFirst, NoLines, RefusedFirst, Tail, tail_behind}
 use Rattle.node_transcripts.specs.Laws.{IsToldOf}
 use Rattle.node_transcripts.specs.Readable.{IsPlain, IsReadable}
 use Rattle.node_transcripts.proofs.CutLines.{cut_part}
 use Rattle.node_transcripts.proofs.EventParts.{left_out}
 use Rattle.node_transcripts.proofs.FirstLines.{fits_first, fits_or_not}
 use Rattle.node_transcripts.proofs.LeftLines.{IsBack, left_whatever}
-use Rattle.node_transcripts.proofs.Runs.{echo_is}
+use Rattle.node_transcripts.proofs.Runs.{echo_is, taken_goes_on}
 use Rattle.node_transcripts.proofs.WrittenLines.{answer_part, numbered, numbered_both, part_of, some_line, written, written_both}
 
 -- ---- lines that may stand behind what was written
@@ -161,6 +164,19 @@ no_lines_plain = plain_text run_without_lines refl
 no_lines_some : 0 < length run_without_lines
 no_lines_some = omega arith
 
+-- ---- a run that ended at its first line
+
+pub first_lines_end_runs : {K : Type 0} (keeper : Keeper K) (source : Source K) → FirstLinesEndRuns keeper source
+first_lines_end_runs keeper source before s t number line turn more (turns.Opened setup read member is rows node begins taken written next) ended_is is_number first = absurd (taken_goes_on (sym taken ∙ ended_is))
+first_lines_end_runs keeper source before s t number line turn more (turns.Unbegun setup read asked spare stop unbegun ended written_is next) ended_is is_number first = (
+  tail_behind before (setup_in line),
+  subst (λ l. IsUnbegunRun before l (tail_behind before (setup_in line))) (sym (append-nil (echo_of true line)) ∙ ap (λ l. echo_of true line ++ l) (sym written_is)) (LeftFirst line first),
+)
+first_lines_end_runs keeper source before s t number line turn more (turns.NoSetup fault fails ended written_is next) ended_is is_number first = (
+  AllAnswered,
+  subst (λ l. IsUnbegunRun before (echo_of true line ++ l) AllAnswered) (sym written_is) (RefusedFirst number line fault is_number first fails),
+)
+
 -- ---- lines more
 
 pub line_written : (out line more : List ℕ) (texts others : List (List ℕ)) → out ≡ written texts → more ≡ written others → out ++ (line ++ 10 ∷ more) ≡ written (texts ++ line ∷ others)
@@ -249,13 +265,11 @@ module _ {K : Type 0} (setup : List Node) (member : Node) where
     pass_end (Some now) v s stood number line = by_open stood.open_or_not
       where
         by_open : (s ≡ begun stood.told) ⊎ (s.within ≡ false) → (t : Standing) × Follows setup [] s (cut_part FileEnd number line []) t × IsTold (Some now) t
-        by_open (inr closed) = (s, Passed (refl, refl) (Outside closed tt refl), stood.told, stood.stands, stood.is)
+        by_open (inr closed) = (s, Passed (refl, refl) (Outside closed tt refl), (stood.told, stood.stands, stood.is))
         by_open (inl open) = (
           begun stood.told,
           subst (λ (z : Standing). Follows setup [] z (cut_part FileEnd number line []) (begun stood.told)) (sym open) (left_out setup stood.told number line),
-          stood.told,
-          refl,
-          stood.is,
+          (stood.told, refl, stood.is),
         )
 
     -- it was refused as the first line of a run, which ended with it
@@ -264,9 +278,6 @@ module _ {K : Type 0} (setup : List Node) (member : Node) where
     pass_refused None v s stood number at line fault fits = (s, Passed (refl, refl) (Outside stood.1 fits refl), stood)
     pass_refused (Some now) v s stood number at line fault fits = by_open stood.open_or_not
       where
-        p : LineRead
-        p = part_of number at line [] (done.Malformed (Some fault))
-
         by_open : (s ≡ begun stood.told) ⊎ (s.within ≡ false) → Passes (Some now) v s (part_of number at line [] (done.Malformed (Some fault)))
         by_open (inr closed) = (s, Passed (refl, refl) (Outside closed fits refl), stood)
         by_open (inl open) =

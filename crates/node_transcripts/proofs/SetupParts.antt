@@ -29,7 +29,7 @@ use Rattle.node_transcripts.proofs.LineParts.{ReadsOn, by_answer}
 
 -- ---- a node before its first event
 
-pub of_itself : (setup : List Node) (m : Node) → IsOfOpening (opening_of setup m) (opening_of setup m)
+of_itself : (setup : List Node) (m : Node) → IsOfOpening (opening_of setup m) (opening_of setup m)
 of_itself setup (member.Operator party site) = refl
 of_itself setup (member.Provider party) = refl
 

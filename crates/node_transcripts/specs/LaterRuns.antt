@@ -8,6 +8,7 @@ use Rattle.ocpi_json.specs.SetupForms.{setup_in}
 use Rattle.line_runs.specs.Numbered.{AreNumbered, echo_of}
 use Rattle.line_runs.specs.declared.outcome.Ran.{Ran}
 use Rattle.line_runs.specs.declared.run.Turn.{Turn}
+use Rattle.line_runs.specs.declared.run.Turn.TheVariants.{Ended}
 use Rattle.node_keepers.specs.Opening.{Source}
 use Rattle.node_cell.specs.Keepers.{Keeper}
 use Rattle.node_cell.specs.Stored.{Stored}
@@ -17,7 +18,7 @@ use Rattle.stored_laws.specs.Nodes.{last_serial}
 use Rattle.done_laws.specs.Laws.{IsLineNumber, IsWhole}
 use Rattle.node_runs.specs.DoneLines.{malformed_line}
 use Rattle.node_runs.specs.NodeAnswers.{NodeLineGives}
-use Rattle.node_runs.specs.NodeTurns.{Running, Stage, keep_in, opening}
+use Rattle.node_runs.specs.NodeTurns.{Running, SetupTurn, Stage, keep_in, opening}
 use Rattle.transcript_parts.specs.Parts.{IsOther}
 use Rattle.transcripts.specs.Following.{IsTranscriptOf}
 use Rattle.transcripts.specs.Told.{Told}
@@ -62,6 +63,12 @@ pub data IsUnbegunRun : Tail → List ℕ → Tail → Type 0 where
   RefusedFirst : {before : Tail} (number : ℕ) (line : List ℕ) (fault : JsonFault) → IsLineNumber number → IsFirstLine before line → Fails fault (setup_in line)
       → IsUnbegunRun before (echo_of true line ++ malformed_line number None fault) AllAnswered
   LeftFirst : {before : Tail} (line : List ℕ) → IsFirstLine before line → IsUnbegunRun before (echo_of true line) (tail_behind before (setup_in line))
+
+-- so did each that ended at its first line
+abbrev pub FirstLinesEndRuns : {K : Type 0} → Keeper K → Source K → Type 0
+FirstLinesEndRuns {K} keeper source =
+    (before : Tail) (s t : Stage K) (number : ℕ) (line : List ℕ) (turn : Turn) (more : List ℕ) → SetupTurn keeper source s number line turn more t → turn ≡ Ended → IsLineNumber number → IsFirstLine before line
+    → (after : Tail) × IsUnbegunRun before (echo_of true line ++ more) after
 
 -- ---- a run in which the node began
 

@@ -2,7 +2,7 @@
 
 ghost use Rattle.node_cell.specs.Keepers.{keeper_of};
 ghost use Rattle.node_keepers.specs.Opening.{source_of};
-ghost use Rattle.node_transcripts.specs.LaterRuns.{SeveralRunsAreTranscripts};
+ghost use Rattle.node_transcripts.specs.LaterRuns.{FirstLinesEndRuns, SeveralRunsAreTranscripts};
 ghost use Rattle.node_transcripts.specs.Laws.{CutRunsAreTranscripts, EchoesAreTranscripts, RunsAreTranscripts};
 ghost use Rattle.node_transcripts.specs.Outputs.{BegunRunsAreTranscripts, WholeRunsAreTranscripts};
 
@@ -39,7 +39,8 @@ pub fn cut_runs_are_transcripts<S: Keeps>()
 /// a line, or been stopped anywhere, and the next one opens what it left, whether a line that was left open was carried out or
 /// not. Between them may stand runs in which no node began.
 pub fn several_runs_are_transcripts<S: Keeps>()
-    ensures { SeveralRunsAreTranscripts (keeper_of S.Kept.content S.Kept.is_honest S.Kept.refusals S.Kept.may_leave) (source_of S.may_refuse S.found) }
+    ensures runs { SeveralRunsAreTranscripts (keeper_of S.Kept.content S.Kept.is_honest S.Kept.refusals S.Kept.may_leave) (source_of S.may_refuse S.found) }
+    ensures first_lines { FirstLinesEndRuns (keeper_of S.Kept.content S.Kept.is_honest S.Kept.refusals S.Kept.may_leave) (source_of S.may_refuse S.found) }
 {
     done_lines_are_read();
     nodes_keep_openings();
