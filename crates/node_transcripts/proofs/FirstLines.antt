@@ -1,7 +1,7 @@
 -- Whether what is told of a line that was refused fits it as an event: that is so, or it is not.
 use Rattle.std.proofs.Common.{◌≡◌, ◌≢◌, ◌⊎◌, ℕ, ◌==◌, Bool, true, false, List, [], ◌∷◌, ◌++◌, All, Option, None, Some, Result, Ok, Err, length, take, refl, sym, ap, subst, ◌∙◌, arith, inl, inr, eqb-true, eq-eqb}
 use Rattle.std.proofs.lemmas.List.{append_cancel_right}
-use Rattle.std.proofs.lemmas.List.Elements.{All-head}
+use Rattle.std.proofs.lemmas.List.Elements.{All-head, All-tail}
 use Rattle.json.specs.Word.{is_space}
 use Rattle.json_text.specs.Fault.{Fails, Read}
 use Rattle.json_text.specs.declared.fault.JsonFault.{JsonFault}
@@ -13,7 +13,7 @@ use Rattle.node_lines.specs.ListLines.{BeginsList, IsListLine, IsSpace}
 use Rattle.node_lines.specs.NodeLines.{node_line_in}
 use Rattle.node_lines.specs.declared.node_line.NodeLine.{NodeLine}
 use Rattle.node_lines.proofs.BeginLemmas.{space_is}
-use Rattle.node_lines.proofs.ListLemmas.{begins_back, begins_here, begins_on}
+use Rattle.node_lines.proofs.ListLemmas.{begins_here, begins_on}
 use Rattle.node_runs.specs.DoneLines.{malformed_line}
 use Rattle.transcript_lines.specs.Dones.{done_in}
 use Rattle.transcript_lines.specs.declared.done.Done.TheVariants as done
@@ -91,8 +91,16 @@ no_space c e (inr (inr (inl is))) = true_false (sym (ap is_space is) ∙ e)
 no_space c e (inr (inr (inr is))) = true_false (sym (ap is_space is) ∙ e)
 
 here_by : (c : ℕ) (s spaces rest : List ℕ) → All IsSpace spaces → c ∷ s ≡ spaces ++ 91 ∷ rest → (IsSpace c → ⊥) → c ≡ 91
-here_by c s [] rest all is no = ap (first_or 0) is
-here_by c s (d ∷ ds) rest all is no = absurd (no (subst IsSpace (sym (ap (first_or 0) is)) (All-head IsSpace d ds all)))
+here_by c s [] rest all is other = ap (first_or 0) is
+here_by c s (d ∷ ds) rest all is other = absurd (other (subst IsSpace (sym (ap (first_or 0) is)) (All-head IsSpace d ds all)))
+
+back_by : (c : ℕ) (s spaces rest : List ℕ) → All IsSpace spaces → c ∷ s ≡ spaces ++ 91 ∷ rest → (c ≡ 91 → ⊥) → BeginsList s
+back_by c s [] rest all is other = absurd (other (ap (first_or 0) is))
+back_by c s (d ∷ ds) rest all is other = record { spaces = ds; rest = rest; all = All-tail IsSpace d ds all; is = ap behind_first is }
+
+-- a space is no bracket
+no_bracket : (c : ℕ) → is_space c ≡ true → c ≡ 91 → ⊥
+no_bracket c e is = true_false (sym e ∙ ap is_space is)
 
 none_by : (spaces rest : List ℕ) → [] ≡ spaces ++ 91 ∷ rest → ⊥
 none_by [] rest e = omega (arith, ap length e)
@@ -100,7 +108,7 @@ none_by (d ∷ ds) rest e = omega (arith, ap length e)
 
 begins_by : (c : ℕ) (s : List ℕ) (space bracket : Bool) → is_space c ≡ space → (c == 91) ≡ bracket → Decided (BeginsList s) → Decided (BeginsList (c ∷ s))
 begins_by c s true bracket e f (inl later) = inl (begins_on c s (space_is c e) later)
-begins_by c s true bracket e f (inr none) = inr (λ b. none (begins_back c s (space_is c e) b))
+begins_by c s true bracket e f (inr none) = inr (λ b. none (back_by c s b.spaces b.rest b.all b.is (no_bracket c e)))
 begins_by c s false true e f later = inl (subst (λ (x : ℕ). BeginsList (x ∷ s)) (sym (eqb-true c 91 f)) (begins_here s))
 begins_by c s false false e f later = inr (λ b. true_false (sym (eq-eqb c 91 (here_by c s b.spaces b.rest b.all b.is (no_space c e))) ∙ f))
 

@@ -223,8 +223,8 @@ module _ {K : Type 0} (keeper : Keeper K) (source : Source K) (reads : DoneLines
   at_line : (out line : List ℕ) (now : Running K) (found : Content) (s : Stage K) (number : ℕ) → ReadsTo setup out (IsOpen Of setup now) → IsSafe keeper first now.node → s.running ≡ Some now
       → 0 < length line → IsPlain line → IsFoundAt keeper source now s number line found → Reads (out ++ (line ++ 10 ∷ [])) LastLeft (Some now) found
   at_line out line now found s number told safe is_running some plain found_there = record {
-    v = as.v;
-    kept = λ is_setup among. as.kept;
+    v = found_as.v;
+    kept = λ is_setup among. found_as.kept;
     anew = tt;
     texts = told.texts ++ line ∷ [];
     is_written = line_written out line [] told.texts [] told.is_written refl;
@@ -239,7 +239,7 @@ module _ {K : Type 0} (keeper : Keeper K) (source : Source K) (reads : DoneLines
         );
     behind = λ rest begins.
         let at = told.reads (record { number = k; bytes = line } ∷ rest) in
-        let left = as.left at.2.told k at.2.is in (
+        let left = found_as.left at.2.told k at.2.is in (
           left.standing,
           subst (λ (all : List Line). ReadTo setup [] all rest left.standing) (sym (line_numbered told.texts [] line rest some))
               (More (cut_part NextRun k line []) at.1 (run_part k line rest begins)
@@ -251,8 +251,8 @@ module _ {K : Type 0} (keeper : Keeper K) (source : Source K) (reads : DoneLines
       k : ℕ
       k = 0 + length told.texts + 1
 
-      as : FoundAs keeper source held start keep setup member now safe line found
-      as = found_at keeper source held start keep setup member now safe line found s number is_running found_there
+      found_as : FoundAs keeper source held start keep setup member now safe line found
+      found_as = found_at keeper source held start keep setup member now safe line found s number is_running found_there
 
   -- where a part of what it gave does
   within_answer : (out line front rest more : List ℕ) (now next : Running K) (found : Content) → ReadsTo setup out (IsOpen Of setup now) → StopsOn setup (IsOpen Of setup now) line more (IsToldOf Of setup next)

@@ -223,7 +223,7 @@ module _ (keep : NodesKeepOpenings) (setup : List Node) (member : Node) where
               flat_map-append changes_of did also ∙ ap (λ (xs : List Change). xs ++ changes_of_each also) (sofar.none both.0) ∙ came.none both.1;
         }
 
-    all_unwritten : {events : List (Read NodeEvent)} {number : ℕ} {turn : Turn} {out : List ℕ} {did : List Deed} {after : NodeState} (l : EchoedLine) (t : Told) → IsToldOf Of setup now t
+    all_unwritten : {number : ℕ} {events : List (Read NodeEvent)} {turn : Turn} {out : List ℕ} {did : List Deed} {after : NodeState} (l : EchoedLine) (t : Told) → IsToldOf Of setup now t
         → AreDone now.party now.node.state number events turn out did after → (es : List LineEvent) → map event_at es ≡ events → AreUnwritten l es did t after
     all_unwritten l t told lists.none_done [] are = record { told = t; changed = false; come = NoneYet; is = told; none = λ same. refl }
     all_unwritten l t told lists.none_done (e ∷ es) are = absurd (omega (arith, ap length are))

@@ -251,11 +251,11 @@ module _ {K : Type 0} (setup : List Node) (member : Node) where
       where
         by_open : (s ≡ begun stood.told) ⊎ (s.within ≡ false) → Passes (Some now) v s (cut_part NextRun number line [])
         by_open (inr closed) = (s, Passed (refl, refl) (Outside closed tt refl), stood)
-        by_open (inl open) =
-            let again : stood.new ≡ restarted stood.told = subst (λ (z : Standing). GoesOn stood.told z.unanswered stood.new) open stood.goes_on in
+        by_open (inl stands) =
+            let again : stood.new ≡ restarted stood.told = subst (λ (z : Standing). GoesOn stood.told z.unanswered stood.new) stands stood.goes_on in
             let left = left_whatever keep setup member v stood.told number line (node_line_in line) refl (subst (IsBack setup member v) again stood.back) in (
               left.standing,
-              subst (λ (z : Standing). Follows setup [] z (cut_part NextRun number line []) left.standing) (sym open) (Passed (refl, refl) left.passes),
+              subst (λ (z : Standing). Follows setup [] z (cut_part NextRun number line []) left.standing) (sym stands) (Passed (refl, refl) left.passes),
               record { told = stood.told; stands = left.stands; is = stood.is; open_or_not = inr left.closed; new = left.new; goes_on = left.goes_on; back = left.is },
             )
 
@@ -266,9 +266,9 @@ module _ {K : Type 0} (setup : List Node) (member : Node) where
       where
         by_open : (s ≡ begun stood.told) ⊎ (s.within ≡ false) → (t : Standing) × Follows setup [] s (cut_part FileEnd number line []) t × IsTold (Some now) t
         by_open (inr closed) = (s, Passed (refl, refl) (Outside closed tt refl), (stood.told, stood.stands, stood.is))
-        by_open (inl open) = (
+        by_open (inl stands) = (
           begun stood.told,
-          subst (λ (z : Standing). Follows setup [] z (cut_part FileEnd number line []) (begun stood.told)) (sym open) (left_out setup stood.told number line),
+          subst (λ (z : Standing). Follows setup [] z (cut_part FileEnd number line []) (begun stood.told)) (sym stands) (left_out setup stood.told number line),
           (stood.told, refl, stood.is),
         )
 
@@ -280,17 +280,17 @@ module _ {K : Type 0} (setup : List Node) (member : Node) where
       where
         by_open : (s ≡ begun stood.told) ⊎ (s.within ≡ false) → Passes (Some now) v s (part_of number at line [] (done.Malformed (Some fault)))
         by_open (inr closed) = (s, Passed (refl, refl) (Outside closed fits refl), stood)
-        by_open (inl open) =
-            let again : GoesOn stood.told None stood.new = subst (λ (z : Standing). GoesOn stood.told z.unanswered stood.new) open stood.goes_on in
+        by_open (inl stands) =
+            let again : GoesOn stood.told None stood.new = subst (λ (z : Standing). GoesOn stood.told z.unanswered stood.new) stands stood.goes_on in
             elim (fits_or_not reads line fault) [
               | inl event ↦ (
                   s,
-                  subst (λ (z : Standing). Follows setup [] z (part_of number at line [] (done.Malformed (Some fault))) z) (sym open) (Passed (refl, refl) (NoEvent (Some fault) at refl refl event refl)),
+                  subst (λ (z : Standing). Follows setup [] z (part_of number at line [] (done.Malformed (Some fault))) z) (sym stands) (Passed (refl, refl) (NoEvent (Some fault) at refl refl event refl)),
                   stood,
                 )
               | inr other ↦ (
                   ended (begun stood.told),
-                  subst (λ (z : Standing). Follows setup [] z (part_of number at line [] (done.Malformed (Some fault))) (ended (begun stood.told))) (sym open)
+                  subst (λ (z : Standing). Follows setup [] z (part_of number at line [] (done.Malformed (Some fault))) (ended (begun stood.told))) (sym stands)
                       (Passed (refl, refl) (NoSetup (Some fault) at refl refl other fits refl)),
                   record { told = stood.told; stands = refl; is = stood.is; open_or_not = inr refl; new = stood.new; goes_on = again; back = stood.back },
                 )
