@@ -156,7 +156,7 @@ fits_or_not reads line fault =
       | inl refused ↦ inl (inl refused)
       | inr none ↦ elim (memory_told reads line fault) [
         | inl told ↦ inl (inr told)
-        | inr no_memory ↦ inr (λ fits. elim fits [ | inl refused ↦ none refused | inr told ↦ no_memory told ])
+        | inr no_memory ↦ inr (λ fits. elim fits [ inl refused ↦ none refused | inr told ↦ no_memory told ])
       ]
     ]
 

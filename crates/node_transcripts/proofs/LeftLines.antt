@@ -263,7 +263,7 @@ module _ {K : Type 0} (keeper : Keeper K) (source : Source K) (held : ChangesAre
     pub left : (t : Told) (number : ℕ) → IsToldOf (IsGiven setup member) setup now t → IsLeft setup member v t number line
 
   pub content_left : (k : K) → ((c : Content) → keeper.may_leave k c → c ≡ keeper.content k) → IsLeftBy keeper k found → found ≡ keeper.content k
-  content_left k settled by = elim by.is [ | inl same ↦ same | inr may ↦ settled found may ]
+  content_left k settled by = elim by.is [ inl same ↦ same | inr may ↦ settled found may ]
 
   -- what was kept before the line
   found_before : IsLeftBy keeper now.node.keep found → FoundAs
@@ -406,10 +406,10 @@ module _ {K : Type 0} (keeper : Keeper K) (source : Source K) (held : ChangesAre
           elim (declines.stops by.honest found may) [
             | inl before ↦ found_before (record { honest = honest; is = inr before })
             | inr made ↦ record {
-                v = after;
-                kept = record { starts = all.starts; of_member = all.of_first; holds = subst (λ (c : Content). HoldsRows c after) (sym made.0) (all.holds made.1) };
-                left = list_carried keep setup member now line events read carries.done some;
-              }
+              v = after;
+              kept = record { starts = all.starts; of_member = all.of_first; holds = subst (λ (c : Content). HoldsRows c after) (sym made.0) (all.holds made.1) };
+              left = list_carried keep setup member now line events read carries.done some;
+            }
           ]
 
   -- ---- any line

@@ -284,16 +284,16 @@ module _ {K : Type 0} (setup : List Node) (member : Node) where
             let again : GoesOn stood.told None stood.new = subst (λ (z : Standing). GoesOn stood.told z.unanswered stood.new) stands stood.goes_on in
             elim (fits_or_not reads line fault) [
               | inl event ↦ (
-                  s,
-                  subst (λ (z : Standing). Follows setup [] z (part_of number at line [] (done.Malformed (Some fault))) z) (sym stands) (Passed (refl, refl) (NoEvent (Some fault) at refl refl event refl)),
-                  stood,
-                )
+                s,
+                subst (λ (z : Standing). Follows setup [] z (part_of number at line [] (done.Malformed (Some fault))) z) (sym stands) (Passed (refl, refl) (NoEvent (Some fault) at refl refl event refl)),
+                stood,
+              )
               | inr other ↦ (
-                  ended (begun stood.told),
-                  subst (λ (z : Standing). Follows setup [] z (part_of number at line [] (done.Malformed (Some fault))) (ended (begun stood.told))) (sym stands)
-                      (Passed (refl, refl) (NoSetup (Some fault) at refl refl other fits refl)),
-                  record { told = stood.told; stands = refl; is = stood.is; open_or_not = inr refl; new = stood.new; goes_on = again; back = stood.back },
-                )
+                ended (begun stood.told),
+                subst (λ (z : Standing). Follows setup [] z (part_of number at line [] (done.Malformed (Some fault))) (ended (begun stood.told))) (sym stands)
+                    (Passed (refl, refl) (NoSetup (Some fault) at refl refl other fits refl)),
+                record { told = stood.told; stands = refl; is = stood.is; open_or_not = inr refl; new = stood.new; goes_on = again; back = stood.back },
+              )
             ]
 
     -- ---- a run in which no node began

@@ -9,7 +9,8 @@ ghost use Rattle.node_transcripts.specs.Outputs.{BegunRunsAreTranscripts, WholeR
 use done_laws::laws::done_lines_are_read;
 use node_keepers::Keeps;
 use node_rows::laws::{
-    changes_are_held, empty_is_held, nodes_keep_openings, restarts_are_held, restarts_can_start_again,
+    changes_are_held, empty_is_held, nodes_keep_openings, restarts_are_held,
+    restarts_can_start_again,
 };
 use stored_laws::laws::{nodes_can_start_again, openings_can_start_again};
 
