@@ -60,7 +60,8 @@ changes_more did x = flat_map-append changes_of did (x ∷ []) ∙ ap (λ (l : L
 
 -- ---- what events make of what is kept
 
--- the changes of these events make the content the rows of that node, where they can be read again; and it is of that opening
+-- the changes of these events make the content the rows of that node, where they can be read again; and it is of that
+-- opening
 pub record IsHeld (first : NodeState) (c : Content) (did : List NodeEvent) (s : NodeState) : Type 0 where
   pub starts : CanStartAgain s
   pub of_first : IsOfOpening first s

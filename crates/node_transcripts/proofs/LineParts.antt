@@ -90,8 +90,8 @@ LeadsTo setup t p After = (u : Told) × Follows setup [] (begun t) p (begun u) �
 abbrev pub LeadsAt : List Node → Told → LineRead → Ending → (Told → Type 0) → Type 0
 LeadsAt setup t p end After = (u : Told) × Follows setup [] (begun t) p (stopped_at end u) × After u
 
--- what an event gave: its packets, the line that says what became of it, and where all of that leads, or the first packets
--- alone, where they stand before a stop
+-- what an event gave: its packets, the line that says what became of it, and where all of that leads, or the first
+-- packets alone, where they stand before a stop
 pub record AnswersOne {K : Type 0} (Of : List Node → Node → Type 0) (setup : List Node) (now next : Running K) (line out : List ℕ) : Type 0 where
   pub text : List ℕ
   pub packets : List Packet
@@ -229,8 +229,8 @@ pub record StopsAt (setup : List Node) (s : Standing) (end : Ending) (lines rest
   pub follows : Follows setup [] s part (stopped_at end told)
   pub after : After told
 
--- behind an echoed line so many of the lines of this are a part, where a stop came before all of them stood there, and after
--- the first
+-- behind an echoed line so many of the lines of this are a part, where a stop came before all of them stood there, and
+-- after the first
 pub record StopsOn (setup : List Node) (Before : Standing → Type 0) (line out : List ℕ) (After : Told → Type 0) : Type 0 where
   pub texts : List (List ℕ)
   pub is_written : out ≡ written texts

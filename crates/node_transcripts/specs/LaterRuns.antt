@@ -1,4 +1,5 @@
--- Runs of one node over one store, one behind the other, whose outputs are one transcript, however each came to its end.
+-- Runs of one node over one store, one behind the other, whose outputs are one transcript, however each came to its
+-- end.
 use Rattle.std.specs.Prelude.{◌≡◌, ◌⊎◌, ℕ, ◌+◌, ◌<◌, true, List, [], ◌∷◌, ◌++◌, All, Option, None, Some, Ok, Err, length}
 use Rattle.json_text.specs.Fault.{Fails, Read}
 use Rattle.json_text.specs.declared.fault.JsonFault.{JsonFault}
@@ -27,15 +28,15 @@ use Rattle.node_transcripts.specs.Readable.{AreTold, IsPlain, IsToldTurn, RunOpe
 
 -- ---- how what was written so far ends
 
--- Each line has its `done`, or nothing is written. Or the last line has none: an echoed one, or that of a run without lines.
--- Or it has none and the line before it has none, and it is the first line of a run, and no setup.
+-- Each line has its `done`, or nothing is written. Or the last line has none: an echoed one, or that of a run without
+-- lines. Or it has none and the line before it has none, and it is the first line of a run, and no setup.
 pub data Tail : Type 0 where
   AllAnswered : Tail
   LastLeft : Tail
   LastTwoLeft : Tail
 
--- The first line of a run where it is read as one: behind a line that has no `done` it is neither a packet nor a `done` by
--- itself; and behind two it is a setup.
+-- The first line of a run where it is read as one: behind a line that has no `done` it is neither a packet nor a `done`
+-- by itself; and behind two it is a setup.
 abbrev pub IsReadBehind : Tail → List ℕ → Type 0
 IsReadBehind AllAnswered line = Unit {0}
 IsReadBehind LastLeft line = IsOther (record { number = 1; bytes = line })
@@ -56,8 +57,9 @@ pub record IsFirstLine (before : Tail) (line : List ℕ) : Type 0 where
   pub plain : IsPlain line
   pub behind : IsReadBehind before line
 
--- What such a run wrote, and how that ends. It had no line that holds something. Or it ended at its first line, which was
--- refused as a setup. Or of that line nothing is written: the setup has no such party, the store was refused, or a stop came.
+-- What such a run wrote, and how that ends. It had no line that holds something. Or it ended at its first line, which
+-- was refused as a setup. Or of that line nothing is written: the setup has no such party, the store was refused, or a
+-- stop came.
 pub data IsUnbegunRun : Tail → List ℕ → Tail → Type 0 where
   NoLines : {before : Tail} → IsUnbegunRun before (malformed_line 0 None Syntax) LastLeft
   RefusedFirst : {before : Tail} (number : ℕ) (line : List ℕ) (fault : JsonFault) → IsLineNumber number → IsFirstLine before line → Fails fault (setup_in line)
@@ -72,8 +74,8 @@ FirstLinesEndRuns {K} keeper source =
 
 -- ---- a run in which the node began
 
--- the line is that setup, and is read where it stands; it is that node of it; the numbers of its rows and of its last packet
--- can be read again; and the keeper that was found keeps just that, where it is honest
+-- the line is that setup, and is read where it stands; it is that node of it; the numbers of its rows and of its last
+-- packet can be read again; and the keeper that was found keeps just that, where it is honest
 pub record IsSameNode {K : Type 0} (keeper : Keeper K) (before : Tail) (setup : List Node) (member : Node) (content : Content) (line : List ℕ) (found : List Node) (m : Node) (rows : ℕ) (node : Stored K) (fresh : K) : Type 0 where
   pub setup_is : found ≡ setup
   pub member_is : m ≡ member
@@ -102,8 +104,8 @@ pub record IsLeftBy {K : Type 0} (keeper : Keeper K) (k : K) (found : Content) :
   pub honest : keeper.is_honest k
   pub is : (found ≡ keeper.content k) ⊎ keeper.may_leave k found
 
--- It may find that where nothing is written of a line: what was left before the line, or what the line left, whatever became
--- of it; also where its commit was refused, and took hold all the same.
+-- It may find that where nothing is written of a line: what was left before the line, or what the line left, whatever
+-- became of it; also where its commit was refused, and took hold all the same.
 pub data IsFoundAt {K : Type 0} (keeper : Keeper K) (source : Source K) (now : Running K) (s : Stage K) (number : ℕ) (line : List ℕ) (found : Content) : Type 0 where
   BeforeLine : IsLeftBy keeper now.node.keep found → IsFoundAt keeper source now s number line found
   BehindLine : (turn : Turn) (more : List ℕ) (t : Stage K) (k : K) → NodeLineGives keeper source s number line turn more t → keep_in t.running t.spare ≡ Some k → IsLeftBy keeper k found
@@ -127,9 +129,9 @@ pub record IsPartOfAnswer {K : Type 0} (keeper : Keeper K) (source : Source K) (
   pub some : 0 < length rest
   pub is : more ≡ front ++ rest
 
--- What such a run wrote, how that ends, the node that is told by it, and what the next run may find. It stands behind lines
--- that have all that they gave: so also where it came to its end, or a line ended it. Or one line more stands there, with
--- nothing that it gave; or with a part of that, and then its changes were committed.
+-- What such a run wrote, how that ends, the node that is told by it, and what the next run may find. It stands behind
+-- lines that have all that they gave: so also where the run came to its end. Or one line more stands there, with nothing
+-- that it gave: so also where that line ended the run. Or with a part of it, and then its changes were committed.
 pub data IsBegunRun {K : Type 0} (keeper : Keeper K) (source : Source K) (setup : List Node) (member : Node) (wanted : Option (List ℕ)) (before : Tail) (content : Content)
     : List ℕ → Tail → Running K → Content → Type 0 where
   ToAnswer : {out : List ℕ} {now : Running K} {found : Content} → IsRunOf keeper source setup member wanted before content out now → IsLeftBy keeper now.node.keep found
@@ -143,9 +145,9 @@ pub data IsBegunRun {K : Type 0} (keeper : Keeper K) (source : Source K) (setup 
 
 -- ---- runs, one behind the other
 
--- Runs of one node over one store, the first over one without rows, and each other over what the one before it left: what
--- they wrote, how that ends, the node that is told by it, once it began, and what the next run may find. A run in which no
--- node began leaves what it found.
+-- Runs of one node over one store, the first over one without rows, and each other over what the one before it left:
+-- what they wrote, how that ends, the node that is told by it, once it began, and what the next run may find. A run in
+-- which no node began leaves what it found.
 pub data AreRuns {K : Type 0} (keeper : Keeper K) (source : Source K) (setup : List Node) (member : Node) (wanted : Option (List ℕ)) : List ℕ → Tail → Option (Running K) → Content → Type 0 where
   NoRun : AreRuns keeper source setup member wanted [] AllAnswered None empty
   NoNode : {out more : List ℕ} {before after : Tail} {now : Option (Running K)} {content : Content} → AreRuns keeper source setup member wanted out before now content

@@ -36,9 +36,9 @@ pub fn cut_runs_are_transcripts<S: Keeps>()
     openings_can_start_again();
 }
 
-/// What runs of one node over one store wrote, one behind the other, is one transcript. Each may have come to its end, ended at
-/// a line, or been stopped anywhere, and the next one opens what it left, whether a line that was left open was carried out or
-/// not. Between them may stand runs in which no node began.
+/// What runs of one node over one store wrote, one behind the other, is one transcript. Each may have come to its end,
+/// ended at a line, or been stopped anywhere. The next one opens what it left, whether or not a line of which nothing is
+/// written was carried out. Between them may stand runs in which no node began.
 pub fn several_runs_are_transcripts<S: Keeps>()
     ensures runs { SeveralRunsAreTranscripts (keeper_of S.Kept.content S.Kept.is_honest S.Kept.refusals S.Kept.may_leave) (source_of S.may_refuse S.found) }
     ensures first_lines { FirstLinesEndRuns (keeper_of S.Kept.content S.Kept.is_honest S.Kept.refusals S.Kept.may_leave) (source_of S.may_refuse S.found) }
