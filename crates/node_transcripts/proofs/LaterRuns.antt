@@ -95,16 +95,16 @@ module _ {K : Type 0} (keeper : Keeper K) (source : Source K) (reads : DoneLines
       (number : ℕ) (line : List ℕ) (found : List Node) (m : Node) (rows : ℕ) (node : Stored K) (out : List ℕ) (is_number : IsLineNumber number) (read : setup_in line ≡ Ok found) (within : Contains found m)
       (begins : Begins keeper source found m rows node) (honest : keeper.is_honest node.keep) (same : IsSameNode keeper before setup member content line found m rows node begins.starts.fresh)
       (written_is : out ≡ opened_line number (party_of m) rows (last_serial node.state)) where
-    abbrev now : Running K
-    now = record { party = party_of m; node = node }
+    abbrev opened_node : Running K
+    opened_node = record { party = party_of m; node = node }
 
     read_setup : setup_in line ≡ Ok setup
     read_setup = read ∙ ap (λ ns. Ok ns) same.setup_is
 
     -- behind another run
-    later_part : (was : Running K) → ReadsOn setup (Behind setup member (Some was) v) line out (IsToldOf Of setup now)
+    later_part : (was : Running K) → ReadsOn setup (Behind setup member (Some was) v) line out (IsToldOf Of setup opened_node)
     later_part was =
-        by_answer setup (Behind setup member (Some was) v) (IsToldOf Of setup now) line out (opened_line number (party_of m) rows (last_serial node.state)) []
+        by_answer setup (Behind setup member (Some was) v) (IsToldOf Of setup opened_node) line out (opened_line number (party_of m) rows (last_serial node.state)) []
         (done.Opened (party_of m) rows (last_serial node.state)) (All-nil IsReadable)
         (reads.opened number (party_of m) rows (last_serial node.state) is_number ((setups line found read).parties m within) same.few same.serial) written_is
         (λ at_line at s stood. (stood.new, Later (reopens at_line at s stood), told_again s stood))
@@ -141,7 +141,7 @@ module _ {K : Type 0} (keeper : Keeper K) (source : Source K) (reads : DoneLines
           stands = refl;
         }
 
-        told_again : (s : Standing) (stood : GoesBack setup member was v s) → IsToldOf Of setup now stood.new
+        told_again : (s : Standing) (stood : GoesBack setup member was v s) → IsToldOf Of setup opened_node stood.new
         told_again s stood = record {
           setup_is = stood.back.setup_is;
           member = (refl, stood.back.member_is);
@@ -151,13 +151,13 @@ module _ {K : Type 0} (keeper : Keeper K) (source : Source K) (reads : DoneLines
         }
 
     -- as the first one
-    first_part : content ≡ empty → ReadsOn setup (Behind {K = K} setup member None v) line out (IsToldOf Of setup now)
+    first_part : content ≡ empty → ReadsOn setup (Behind {K = K} setup member None v) line out (IsToldOf Of setup opened_node)
     first_part none =
         weaker (λ s stood. stood.0)
-        (subst (λ (ns : List Node). ReadsOn ns (λ s. s.told ≡ None) line out (IsToldOf Of ns now)) same.setup_is
+        (subst (λ (ns : List Node). ReadsOn ns (λ s. s.told ≡ None) line out (IsToldOf Of ns opened_node)) same.setup_is
         (opening_part keeper source empty_held can Of reads setups number line found m rows node out is_number read within (same.setup_is, same.member_is) begins honest (λ fresh. same.keeps fresh ∙ none) written_is))
 
-    opens_part : (was : Option (Running K)) → EmptyBefore setup member was content → ReadsOn setup (Behind setup member was v) line out (IsToldOf Of setup now)
+    opens_part : (was : Option (Running K)) → EmptyBefore setup member was content → ReadsOn setup (Behind setup member was v) line out (IsToldOf Of setup opened_node)
     opens_part None none = first_part none
     opens_part (Some was) any = later_part was
 
