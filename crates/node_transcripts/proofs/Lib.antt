@@ -15,3 +15,4 @@ pub mod LeftLines
 pub mod ReadSoFar
 pub mod LaterRuns
 pub mod Outputs
+pub mod RunKinds

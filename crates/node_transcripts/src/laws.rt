@@ -5,6 +5,7 @@ ghost use Rattle.node_keepers.specs.Opening.{source_of};
 ghost use Rattle.node_transcripts.specs.LaterRuns.{FirstLinesEndRuns, SeveralRunsAreTranscripts};
 ghost use Rattle.node_transcripts.specs.Laws.{CutRunsAreTranscripts, EchoesAreTranscripts, RunsAreTranscripts};
 ghost use Rattle.node_transcripts.specs.Outputs.{BegunRunsAreTranscripts, WholeRunsAreTranscripts};
+ghost use Rattle.node_transcripts.specs.RunKinds.{BegunRunsAreSuch, WholeRunsAreSuch};
 
 use done_laws::laws::done_lines_are_read;
 use node_keepers::Keeps;
@@ -63,3 +64,10 @@ pub fn outputs_are_transcripts<S: Keeps>()
     empty_is_held();
     openings_can_start_again();
 }
+
+/// Whatever `run_node` wrote, whether the run came to the end of its input, ended at a line, or was cut, is such a run: its
+/// whole lines are.
+pub fn outputs_are_such_runs<S: Keeps>()
+    ensures whole { WholeRunsAreSuch (keeper_of S.Kept.content S.Kept.is_honest S.Kept.refusals S.Kept.may_leave) (source_of S.may_refuse S.found) }
+    ensures begun { BegunRunsAreSuch (keeper_of S.Kept.content S.Kept.is_honest S.Kept.refusals S.Kept.may_leave) (source_of S.may_refuse S.found) }
+{}
