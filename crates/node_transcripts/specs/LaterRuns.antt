@@ -130,8 +130,9 @@ pub record IsPartOfAnswer {K : Type 0} (keeper : Keeper K) (source : Source K) (
   pub is : more ≡ front ++ rest
 
 -- What such a run wrote, how that ends, the node that is told by it, and what the next run may find. It stands behind
--- lines that have all that they gave: so also where the run came to its end. Or one line more stands there, with nothing
--- that it gave: so also where that line ended the run. Or with a part of it, and then its changes were committed.
+-- lines that have all that they gave: so also where the run came to its end. Or one line more stands there, with
+-- nothing that it gave: so also where that line ended the run. Or with a part of it, and then its changes were
+-- committed.
 pub data IsBegunRun {K : Type 0} (keeper : Keeper K) (source : Source K) (setup : List Node) (member : Node) (wanted : Option (List ℕ)) (before : Tail) (content : Content)
     : List ℕ → Tail → Running K → Content → Type 0 where
   ToAnswer : {out : List ℕ} {now : Running K} {found : Content} → IsRunOf keeper source setup member wanted before content out now → IsLeftBy keeper now.node.keep found

@@ -13,8 +13,9 @@ use Rattle.node_runs.specs.NodeTurns.{Running, Stage, opening}
 use Rattle.node_transcripts.specs.Laws.{IsAsked, IsCutTranscript}
 use Rattle.node_transcripts.specs.Readable.{AreTold, HasNoRows, IsPlain, IsToldTurn, RunOpensSo}
 
--- behind these lines that node runs, and what they gave can be read: they have no line feeds; their numbers, and that of
--- one more, can be read again; the keeper is honest; what each line gave can be read; and this holds of how it was opened
+-- behind these lines that node runs, and what they gave can be read: they have no line feeds; their numbers, and that
+-- of one more, can be read again; the keeper is honest; what each line gave can be read; and this holds of how it was
+-- opened
 pub record IsReadRun {K : Type 0} {keeper : Keeper K} {source : Source K} {wanted : Option (List ℕ)} {opened : List ℕ} {lines : List (List ℕ)} {ran : Ran} {out : List ℕ} {s : Stage K}
     (Asks : List ℕ → List Node → Node → ℕ → Stored K → K → Type 0) (run : AreNumbered (NodeLineGives keeper source) true (opening wanted opened) lines ran out s) (now : Running K) : Type 0 where
   pub is_running : s.running ≡ Some now
@@ -24,8 +25,8 @@ pub record IsReadRun {K : Type 0} {keeper : Keeper K} {source : Source K} {wante
   pub told : AreTold run
   pub opens : RunOpensSo Asks run
 
--- the same of the lines that were answered whole, where a run was cut, and of the one behind them, if something of it is
--- written
+-- the same of the lines that were answered whole, where a run was cut, and of the one behind them, if something of it
+-- is written
 abbrev pub IsReadBegun : {K : Type 0} {keeper : Keeper K} {source : Source K} {wanted : Option (List ℕ)} {opened : List ℕ} {lines : List (List ℕ)} {out : List ℕ} {last : Stage K}
     → (List ℕ → List Node → Node → ℕ → Stored K → K → Type 0) → IsNumberedBegun (NodeLineGives keeper source) NodeEndGives true (opening wanted opened) lines out last → Running K → Type 0
 IsReadBegun Asks (begun_between run later) now = IsReadRun Asks run now
@@ -41,8 +42,8 @@ IsReadWhole Asks (numbered_end run gives) now = IsReadRun Asks run now
 IsReadWhole {keeper = keeper} {source = source} Asks (numbered_stop {s = s} {t = t} {line = line} {before = before} {more = more} run some gives later) now =
     IsReadRun Asks run now × IsPlain line × IsToldTurn keeper source s.running s (length before + 1) line Ended more t gives
 
--- what was written of a run that was cut is a transcript of the node, before the last line of which something is written, or
--- behind it
+-- what was written of a run that was cut is a transcript of the node, before the last line of which something is
+-- written, or behind it
 abbrev pub BegunRunsAreTranscripts : {K : Type 0} → Keeper K → Source K → Type 0
 BegunRunsAreTranscripts {K} keeper source =
     (wanted : Option (List ℕ)) (opened : List ℕ) (lines : List (List ℕ)) (out : List ℕ) (last : Stage K)

@@ -65,8 +65,7 @@ pub fn outputs_are_transcripts<S: Keeps>()
     openings_can_start_again();
 }
 
-/// Whatever `run_node` wrote, whether the run came to the end of its input, ended at a line, or was cut, is such a run: its
-/// whole lines are.
+/// Whatever `run_node` wrote, once its node ran, is such a run, but for what stands of a line that was cut.
 pub fn outputs_are_such_runs<S: Keeps>()
     ensures whole { WholeRunsAreSuch (keeper_of S.Kept.content S.Kept.is_honest S.Kept.refusals S.Kept.may_leave) (source_of S.may_refuse S.found) }
     ensures begun { BegunRunsAreSuch (keeper_of S.Kept.content S.Kept.is_honest S.Kept.refusals S.Kept.may_leave) (source_of S.may_refuse S.found) }
