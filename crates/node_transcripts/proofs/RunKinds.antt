@@ -184,36 +184,33 @@ module _ {K : Type 0} (keeper : Keeper K) (source : Source K) where
         runs = λ k found kept by. AtLine (run_of run now is) some plain (BehindLine turn more t k gives kept by);
       }
 
-      module _ (told : IsToldTurn keeper source s.running s (length lines + 1) line turn more t gives) (stand : more ≡ [] → ⊥) where
-        next : (n : Running K) × (t.running ≡ Some n)
-        next = next_of s.running now s t (length lines + 1) line turn more is.is_running gives stand
-
-        -- a part of it does
-        within_answer : (front cut rest : List ℕ) → EndsLine front → IsPlain cut → 0 < length rest → more ≡ front ++ rest → (written : List ℕ) → written ≡ (out ++ (echo_of true line ++ front)) ++ cut → Such written t
-        within_answer front cut rest whole plain_cut some_rest is_more written both = record {
-          text = out ++ (echo_of true line ++ front);
-          cut = cut;
-          is = both;
-          plain = plain_cut;
-          after = LastLeft;
-          now = next.0;
-          runs = λ k found kept by.
-              WithinAnswer (run_of run now is) some plain
-              (record {
-                turn = turn;
-                more = more;
-                last = t;
-                gives = gives;
-                told = told;
-                is_running = next.1;
-                few = is.few;
-                whole = whole;
-                rest = rest;
-                some = some_rest;
-                is = is_more;
-              })
-              (subst (λ (x : K). IsLeftBy keeper x found) (kept_by t.running t.spare next.0 k next.1 kept) by);
-        }
+      -- a part of it does
+      within_answer : IsToldTurn keeper source s.running s (length lines + 1) line turn more t gives → (next : Running K) → t.running ≡ Some next → (front cut rest : List ℕ) → EndsLine front → IsPlain cut
+          → 0 < length rest → more ≡ front ++ rest → (written : List ℕ) → written ≡ (out ++ (echo_of true line ++ front)) ++ cut → Such written t
+      within_answer told next running front cut rest whole plain_cut some_rest is_more written both = record {
+        text = out ++ (echo_of true line ++ front);
+        cut = cut;
+        is = both;
+        plain = plain_cut;
+        after = LastLeft;
+        now = next;
+        runs = λ k found kept by.
+            WithinAnswer (run_of run now is) some plain
+            (record {
+              turn = turn;
+              more = more;
+              last = t;
+              gives = gives;
+              told = told;
+              is_running = running;
+              few = is.few;
+              whole = whole;
+              rest = rest;
+              some = some_rest;
+              is = is_more;
+            })
+            (subst (λ (x : K). IsLeftBy keeper x found) (kept_by t.running t.spare next k running kept) by);
+      }
 
     -- all of it does
     longer : {opened : List ℕ} {lines : List (List ℕ)} {ran : Ran} {out : List ℕ} {s t : Stage K} (run : AreNumbered (NodeLineGives keeper source) true (opening wanted opened) lines ran out s) (now : Running K) (is : IsReadRun Asks run now)
@@ -278,7 +275,7 @@ module _ {K : Type 0} (keeper : Keeper K) (source : Source K) where
     answered : {opened : List ℕ} {lines : List (List ℕ)} {ran : Ran} {out : List ℕ} {s t : Stage K} (run : AreNumbered (NodeLineGives keeper source) true (opening wanted opened) lines ran out s) (now : Running K) (is : IsReadRun Asks run now)
         (line : List ℕ) (some : 0 < length line) (plain : IsPlain line) (turn : Turn) (more : List ℕ) (gives : NodeLineGives keeper source s (length lines + 1) line turn more t)
         → IsToldTurn keeper source s.running s (length lines + 1) line turn more t gives → (n : ℕ) → Such (out ++ (echo_of true line ++ take n more)) t
-    answered {out = out} {s = s} {t = t} run now is line some plain turn more gives told n = by_ends (split (take n more)) (split (take n more)).ends
+    answered {lines = lines} {out = out} {s = s} {t = t} run now is line some plain turn more gives told n = by_ends (split (take n more)) (split (take n more)).ends
       where
         stands : (r : IsSplit (take n more)) → EndsLine r.whole → more ≡ [] → ⊥
         stands r whole none =
@@ -294,7 +291,8 @@ module _ {K : Type 0} (keeper : Keeper K) (source : Source K) where
             sym (append-nil (take n more)) ∙ ap (λ l. take n more ++ l) (sym (none_second r.cut (drop n more) e)) ∙ take-append-drop n more in
             longer run now is line some plain turn more gives told (stands r whole) (out ++ (echo_of true line ++ take n more)) (ap (λ l. out ++ (echo_of true line ++ l)) left)
         by_rest r whole (x ∷ xs) e =
-            within_answer run now is line some plain turn more gives told (stands r whole) r.whole r.cut (x ∷ xs) whole r.plain (omega arith)
+            let next = next_of s.running now s t (length lines + 1) line turn more is.is_running gives (stands r whole) in
+            within_answer run now is line some plain turn more gives told next.0 next.1 r.whole r.cut (x ∷ xs) whole r.plain (omega arith)
             (sym (take-append-drop n more) ∙ ap (λ l. l ++ drop n more) r.is ∙ append_assoc r.whole r.cut (drop n more) ∙ ap (λ l. r.whole ++ l) e)
             (out ++ (echo_of true line ++ take n more))
             (ap (λ l. out ++ (echo_of true line ++ l)) r.is ∙ ap (λ l. out ++ l) (sym (append_assoc (echo_of true line) r.whole r.cut)) ∙ sym (append_assoc out (echo_of true line ++ r.whole) r.cut))
