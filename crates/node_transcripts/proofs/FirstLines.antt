@@ -2,7 +2,6 @@
 use Rattle.std.proofs.Common.{◌≡◌, ◌≢◌, ◌⊎◌, ℕ, ◌==◌, Bool, true, false, List, [], ◌∷◌, ◌++◌, All, Option, None, Some, Result, Ok, Err, length, take, refl, sym, ap, subst, ◌∙◌, arith, inl, inr, eqb-true, eq-eqb}
 use Rattle.std.proofs.lemmas.List.{append_cancel_right}
 use Rattle.std.proofs.lemmas.List.Elements.{All-head, All-tail}
-use Rattle.json.specs.Word.{is_space}
 use Rattle.json_text.specs.Fault.{Fails, Read}
 use Rattle.json_text.specs.declared.fault.JsonFault.{JsonFault}
 use Rattle.json_text.specs.declared.fault.JsonFault.TheVariants.{Memory}
@@ -12,7 +11,6 @@ use Rattle.line_runs.specs.declared.lines.TheConstants.{KEPT_BYTES}
 use Rattle.node_lines.specs.ListLines.{BeginsList, IsListLine, IsSpace}
 use Rattle.node_lines.specs.NodeLines.{node_line_in}
 use Rattle.node_lines.specs.declared.node_line.NodeLine.{NodeLine}
-use Rattle.node_lines.proofs.BeginLemmas.{space_is}
 use Rattle.node_lines.proofs.ListLemmas.{begins_here, begins_on}
 use Rattle.node_runs.specs.DoneLines.{malformed_line}
 use Rattle.transcript_lines.specs.Dones.{done_in}
@@ -84,11 +82,25 @@ faults reads e f =
 
 -- ---- whether a line begins as an array does
 
-no_space : (c : ℕ) → is_space c ≡ false → IsSpace c → ⊥
-no_space c e (inl is) = true_false (sym (ap is_space is) ∙ e)
-no_space c e (inr (inl is)) = true_false (sym (ap is_space is) ∙ e)
-no_space c e (inr (inr (inl is))) = true_false (sym (ap is_space is) ∙ e)
-no_space c e (inr (inr (inr is))) = true_false (sym (ap is_space is) ∙ e)
+no_space : (c : ℕ) → (c == 32) ≡ false → (c == 9) ≡ false → (c == 10) ≡ false → (c == 13) ≡ false → IsSpace c → ⊥
+no_space c blank tab feed return (inl is) = true_false (sym (eq-eqb c 32 is) ∙ blank)
+no_space c blank tab feed return (inr (inl is)) = true_false (sym (eq-eqb c 9 is) ∙ tab)
+no_space c blank tab feed return (inr (inr (inl is))) = true_false (sym (eq-eqb c 10 is) ∙ feed)
+no_space c blank tab feed return (inr (inr (inr is))) = true_false (sym (eq-eqb c 13 is) ∙ return)
+
+space_by : (c : ℕ) (a b d e : Bool) → (c == 32) ≡ a → (c == 9) ≡ b → (c == 10) ≡ d → (c == 13) ≡ e → Decided (IsSpace c)
+space_by c true b d e blank tab feed return = inl (inl (eqb-true c 32 blank))
+space_by c false true d e blank tab feed return = inl (inr (inl (eqb-true c 9 tab)))
+space_by c false false true e blank tab feed return = inl (inr (inr (inl (eqb-true c 10 feed))))
+space_by c false false false true blank tab feed return = inl (inr (inr (inr (eqb-true c 13 return))))
+space_by c false false false false blank tab feed return = inr (no_space c blank tab feed return)
+
+-- a space is no bracket
+no_bracket : (c : ℕ) → IsSpace c → c ≡ 91 → ⊥
+no_bracket c (inl is) same = omega (arith, is, same)
+no_bracket c (inr (inl is)) same = omega (arith, is, same)
+no_bracket c (inr (inr (inl is))) same = omega (arith, is, same)
+no_bracket c (inr (inr (inr is))) same = omega (arith, is, same)
 
 here_by : (c : ℕ) (s spaces rest : List ℕ) → All IsSpace spaces → c ∷ s ≡ spaces ++ 91 ∷ rest → (IsSpace c → ⊥) → c ≡ 91
 here_by c s [] rest all is other = ap (first_or 0) is
@@ -98,23 +110,19 @@ back_by : (c : ℕ) (s spaces rest : List ℕ) → All IsSpace spaces → c ∷ 
 back_by c s [] rest all is other = absurd (other (ap (first_or 0) is))
 back_by c s (d ∷ ds) rest all is other = record { spaces = ds; rest = rest; all = All-tail IsSpace d ds all; is = ap behind_first is }
 
--- a space is no bracket
-no_bracket : (c : ℕ) → is_space c ≡ true → c ≡ 91 → ⊥
-no_bracket c e is = true_false (sym e ∙ ap is_space is)
-
 none_by : (spaces rest : List ℕ) → [] ≡ spaces ++ 91 ∷ rest → ⊥
 none_by [] rest e = omega (arith, ap length e)
 none_by (d ∷ ds) rest e = omega (arith, ap length e)
 
-begins_by : (c : ℕ) (s : List ℕ) (space bracket : Bool) → is_space c ≡ space → (c == 91) ≡ bracket → Decided (BeginsList s) → Decided (BeginsList (c ∷ s))
-begins_by c s true bracket e f (inl later) = inl (begins_on c s (space_is c e) later)
-begins_by c s true bracket e f (inr none) = inr (λ b. none (back_by c s b.spaces b.rest b.all b.is (no_bracket c e)))
-begins_by c s false true e f later = inl (subst (λ (x : ℕ). BeginsList (x ∷ s)) (sym (eqb-true c 91 f)) (begins_here s))
-begins_by c s false false e f later = inr (λ b. true_false (sym (eq-eqb c 91 (here_by c s b.spaces b.rest b.all b.is (no_space c e))) ∙ f))
+begins_by : (c : ℕ) (s : List ℕ) (bracket : Bool) → (c == 91) ≡ bracket → Decided (IsSpace c) → Decided (BeginsList s) → Decided (BeginsList (c ∷ s))
+begins_by c s bracket e (inl space) (inl later) = inl (begins_on c s space later)
+begins_by c s bracket e (inl space) (inr none) = inr (λ b. none (back_by c s b.spaces b.rest b.all b.is (no_bracket c space)))
+begins_by c s true e (inr other) later = inl (subst (λ (x : ℕ). BeginsList (x ∷ s)) (sym (eqb-true c 91 e)) (begins_here s))
+begins_by c s false e (inr other) later = inr (λ b. true_false (sym (eq-eqb c 91 (here_by c s b.spaces b.rest b.all b.is other)) ∙ e))
 
 begins : (text : List ℕ) → Decided (BeginsList text)
 begins [] = inr (λ b. none_by b.spaces b.rest b.is)
-begins (c ∷ s) = begins_by c s (is_space c) (c == 91) refl refl (begins s)
+begins (c ∷ s) = begins_by c s (c == 91) refl (space_by c (c == 32) (c == 9) (c == 10) (c == 13) refl refl refl refl) (begins s)
 
 -- ---- what is told of a line
 
