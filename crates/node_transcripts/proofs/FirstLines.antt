@@ -1,5 +1,5 @@
 -- Whether what is told of a line that was refused fits it as an event: that is so, or it is not.
-use Rattle.std.proofs.Common.{◌≡◌, ◌≢◌, ◌⊎◌, ℕ, ◌==◌, Bool, true, false, List, [], ◌∷◌, ◌++◌, All, Option, None, Some, Result, Ok, Err, length, take, refl, sym, ap, subst, ◌∙◌, arith, inl, inr, eqb-true, eq-eqb}
+use Rattle.std.proofs.Common.{◌≡◌, ◌⊎◌, ℕ, ◌==◌, Bool, true, false, List, [], ◌∷◌, ◌++◌, All, Option, None, Some, Result, Ok, Err, length, take, refl, sym, ap, subst, ◌∙◌, arith, inl, inr, eqb-true, eq-eqb}
 use Rattle.std.proofs.lemmas.List.{append_cancel_right}
 use Rattle.std.proofs.lemmas.List.Elements.{All-head, All-tail}
 use Rattle.json_text.specs.Fault.{Fails, Read}
@@ -8,7 +8,7 @@ use Rattle.json_text.specs.declared.fault.JsonFault.TheVariants.{Memory}
 use Rattle.ocpi_types.specs.declared.setup.Node.{Node}
 use Rattle.ocpi_json.specs.SetupForms.{setup_in}
 use Rattle.line_runs.specs.declared.lines.TheConstants.{KEPT_BYTES}
-use Rattle.node_lines.specs.ListLines.{BeginsList, IsListLine, IsSpace}
+use Rattle.node_lines.specs.ListLines.{BeginsList, IsSpace}
 use Rattle.node_lines.specs.NodeLines.{node_line_in}
 use Rattle.node_lines.specs.declared.node_line.NodeLine.{NodeLine}
 use Rattle.node_lines.proofs.ListLemmas.{begins_here, begins_on}

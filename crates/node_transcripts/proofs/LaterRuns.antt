@@ -1,5 +1,5 @@
 -- What runs of one node wrote, one behind the other over one store, is one transcript.
-use Rattle.std.proofs.Common.{◌≡◌, ◌≢◌, ◌⊎◌, ℕ, ◌+◌, ◌<◌, true, false, List, [], ◌∷◌, ◌++◌, All, Option, None, Some, Ok, length, take, refl, sym, ap, subst, ◌∙◌, arith, inl, inr, length-append}
+use Rattle.std.proofs.Common.{◌≡◌, ◌≢◌, ℕ, ◌+◌, ◌<◌, true, false, List, [], ◌∷◌, ◌++◌, Option, None, Some, Ok, length, take, refl, sym, ap, subst, ◌∙◌, arith, inl, inr, length-append}
 use Rattle.std.proofs.lemmas.List.{append-nil, append_assoc}
 use Rattle.std.proofs.lemmas.List.Elements.{All-append, All-cons, All-head, All-nil, All-push, All-tail, All-take}
 use Rattle.std.specs.FinMap.{empty}
@@ -28,18 +28,17 @@ use Rattle.transcript_lines.specs.declared.done.Done.TheVariants as done
 use Rattle.done_laws.specs.Laws.{DoneLinesAreRead, IsLineNumber}
 use Rattle.transcript_parts.specs.Lines.{Line, lines_in}
 use Rattle.transcript_parts.specs.Parts.{AtEnd, AtRun, IsEnding}
-use Rattle.transcript_parts.specs.declared.first_lines.Opened.{Opened}
 use Rattle.transcript_parts.specs.declared.line_read.Ending.TheVariants.{FileEnd, NextRun}
 use Rattle.transcripts.specs.Following.{Follows, GoesOn, Later, More, Passed, ReadTo, Reopens, Standing, Start, begun, nothing_known, restarted}
 use Rattle.transcripts.specs.Told.{Told}
-use Rattle.node_transcripts.specs.LaterRuns.{AllAnswered, AreRuns, AtLine, EndsLine, IsBegunRun, IsFoundAt, IsGiven, IsLeftBy, IsPartOfAnswer, IsRunOf, IsSameNode, LastLeft, NoNode, NoRun, OneMore, SeveralRunsAreTranscripts, Tail, ToAnswer, WithinAnswer}
+use Rattle.node_transcripts.specs.LaterRuns.{AllAnswered, AreRuns, AtLine, EndsLine, IsBegunRun, IsFoundAt, IsGiven, IsLeftBy, IsRunOf, IsSameNode, LastLeft, NoNode, NoRun, OneMore, SeveralRunsAreTranscripts, Tail, ToAnswer, WithinAnswer}
 use Rattle.node_transcripts.specs.Laws.{IsToldOf}
 use Rattle.node_transcripts.specs.Readable.{IsPlain, IsReadable, IsToldEvent, IsToldLine, IsToldTurn, ReadsSetups}
 use Rattle.node_transcripts.proofs.CutLines.{IsCut, behind_first, cut_lines, cut_part, first_or}
 use Rattle.node_transcripts.proofs.CutRuns.{IsNone, ended_empty, the}
 use Rattle.node_transcripts.proofs.EventParts.{left_out}
 use Rattle.node_transcripts.proofs.KeptRows.{IsOpenedAt, IsSafe, event_safe, list_safe, opened_at, run_safe}
-use Rattle.node_transcripts.proofs.LeftLines.{FoundAs, IsBack, back_of, content_left, found_at}
+use Rattle.node_transcripts.proofs.LeftLines.{FoundAs, back_of, content_left, found_at}
 use Rattle.node_transcripts.proofs.LineParts.{IsOpen, ReadsOn, StopsOn, answer_stops, by_answer, event_answer}
 use Rattle.node_transcripts.proofs.ListCuts.{list_stops}
 use Rattle.node_transcripts.proofs.ReadSoFar.{Behind, EmptyBefore, FitsTail, GoesBack, ReadsSo, end_part, fits_setup, line_numbered, line_written, run_part, unbegun_read}

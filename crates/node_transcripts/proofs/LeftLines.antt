@@ -34,7 +34,6 @@ use Rattle.node_runs.specs.NodeTurns.{EventTurn, IsOfNode, Running, Stage, keep_
 use Rattle.node_runs.specs.NodeTurns as turns
 use Rattle.node_runs.specs.declared.fault.NodeStop.{NodeStop}
 use Rattle.node_store.specs.declared.fault.StoreFault.{StoreFault}
-use Rattle.transcript_parts.specs.LineReads.{LineRead}
 use Rattle.transcript_parts.specs.declared.echoed.EchoedLine.{EchoedLine}
 use Rattle.transcript_parts.specs.declared.line_read.Ending.TheVariants.{NextRun}
 use Rattle.transcripts.specs.Following.{ComeInTurn, Gives, GoesOn, LeftOpen, LeftOut, NoneYet, OneMore, PassesLine, Standing, begun, ended, restarted as restarted_told, unanswered_line}

@@ -1,5 +1,5 @@
 -- What runs wrote, one behind the other, is read up to where the next run begins, or to the end of the file.
-use Rattle.std.proofs.Common.{◌≡◌, ◌≢◌, ◌⊎◌, ℕ, ◌+◌, ◌<◌, ◌==◌, Bool, true, false, List, [], ◌∷◌, ◌++◌, All, Option, None, Some, Ok, Err, length, refl, sym, ap, subst, ◌∙◌, arith, inl, inr, eqb-true}
+use Rattle.std.proofs.Common.{◌≡◌, ◌≢◌, ◌⊎◌, ℕ, ◌+◌, ◌<◌, ◌==◌, Bool, true, false, List, [], ◌∷◌, ◌++◌, All, Option, None, Some, Ok, Err, length, refl, sym, ap, subst, ◌∙◌, arith, inl, inr}
 use Rattle.std.proofs.lemmas.Fmt.{decimal_digit}
 use Rattle.std.proofs.lemmas.List.{append-nil, append_assoc}
 use Rattle.std.proofs.lemmas.List.Elements.{All-append, All-cons, All-nil, All-push}
@@ -29,7 +29,7 @@ use Rattle.transcript_parts.specs.LineReads.{LineRead}
 use Rattle.transcript_parts.specs.Lines.{Line}
 use Rattle.transcript_parts.specs.Parts.{AtEnd, AtLast, AtRun, BeforeEnd, BeforeNoLines, BeforeRefusal, BeforeSetup, BeginsRun, FitsFirst, IsEnding, IsOther, IsPart, IsSetupLine, NoneSent, OfNoLines, OfRefused, OfSetup, StandsFirst, TellsDone}
 use Rattle.transcript_parts.specs.declared.line_read.Ending.TheVariants.{FileEnd, NextRun}
-use Rattle.transcripts.specs.Following.{Follows, GoesOn, More, NoEvent, NoSetup, Outside, Passed, ReadTo, Standing, Start, begun, ended, nothing_known, restarted}
+use Rattle.transcripts.specs.Following.{Follows, GoesOn, More, NoEvent, NoSetup, Outside, Passed, ReadTo, Standing, begun, ended, restarted}
 use Rattle.transcripts.specs.Told.{Told}
 use Rattle.node_transcripts.specs.LaterRuns.{AllAnswered, FirstLinesEndRuns, IsFirstLine, IsGiven, IsReadBehind, IsUnbegunRun, LastLeft, LastTwoLeft, LeftFirst, NoLines, RefusedFirst, Tail, tail_behind}
 use Rattle.node_transcripts.specs.Laws.{IsToldOf}

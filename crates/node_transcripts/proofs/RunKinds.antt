@@ -1,5 +1,5 @@
 -- What `run_node` wrote, whenever its node ran, is one of the runs that may stand behind one another.
-use Rattle.std.proofs.Common.{◌≡◌, ◌≢◌, ◌⊎◌, ℕ, ◌+◌, ◌<◌, ◌==◌, Bool, true, false, List, [], ◌∷◌, ◌++◌, All, Option, None, Some, length, take, drop, refl, sym, ap, subst, ◌∙◌, arith, inl, inr, length-append, eqb-true, eq-eqb}
+use Rattle.std.proofs.Common.{◌≡◌, ◌≢◌, ◌⊎◌, ℕ, ◌+◌, ◌<◌, ◌==◌, Bool, true, false, List, [], ◌∷◌, ◌++◌, Option, None, Some, length, take, drop, refl, sym, ap, subst, ◌∙◌, arith, inl, inr, length-append, eqb-true, eq-eqb}
 use Rattle.std.proofs.lemmas.List.{append-nil, append_assoc, take-append-drop}
 use Rattle.std.proofs.lemmas.List.Elements.{All-cons, All-head, All-nil, All-push, All-tail}
 use Rattle.json_text.specs.Fault.{Read}
@@ -21,7 +21,7 @@ use Rattle.node_runs.specs.NodeAnswers.{LineTurn, NodeLineGives, NodeTurn}
 use Rattle.node_runs.specs.NodeAnswers as answers
 use Rattle.node_runs.specs.NodeTurns.{Running, Stage, keep_in, opening}
 use Rattle.node_runs.specs.declared.fault.NodeStop.{NodeStop}
-use Rattle.node_transcripts.specs.LaterRuns.{AllAnswered, AtLine, BeforeLine, BehindLine, EndsLine, IsBegunRun, IsLeftBy, IsRunOf, IsSameNode, LastLeft, Tail, ToAnswer, WithinAnswer}
+use Rattle.node_transcripts.specs.LaterRuns.{AllAnswered, AtLine, BeforeLine, BehindLine, EndsLine, IsLeftBy, IsRunOf, IsSameNode, LastLeft, Tail, ToAnswer, WithinAnswer}
 use Rattle.node_transcripts.specs.Outputs.{IsReadRun}
 use Rattle.node_transcripts.specs.Readable.{IsPlain, IsToldTurn, OpensSo}
 use Rattle.node_transcripts.specs.RunKinds.{BegunRunsAreSuch, IsSuchRun, WholeRunsAreSuch}

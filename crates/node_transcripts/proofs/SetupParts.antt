@@ -19,7 +19,7 @@ use Rattle.node_keepers.specs.Opening.{Source}
 use Rattle.node_cell.specs.Keepers.{Keeper}
 use Rattle.node_cell.specs.Stored.{Stored}
 use Rattle.node_runs.specs.DoneLines.{opened_line}
-use Rattle.node_runs.specs.NodeTurns.{Begins, Running}
+use Rattle.node_runs.specs.NodeTurns.{Begins}
 use Rattle.transcript_lines.specs.declared.done.Done.TheVariants as done
 use Rattle.done_laws.specs.Laws.{DoneLinesAreRead, IsLineNumber}
 use Rattle.transcripts.specs.Following.{First, opening_told}
