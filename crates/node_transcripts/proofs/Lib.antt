@@ -16,3 +16,4 @@ pub mod ReadSoFar
 pub mod LaterRuns
 pub mod Outputs
 pub mod RunKinds
+pub mod EarlyRuns

@@ -138,7 +138,7 @@ fits_no_lines LastTwoLeft number line is rest = record { line = record { number 
 
 -- ---- what a run without lines writes
 
-no_lines_written : malformed_line 0 None Syntax ≡ run_without_lines ++ 10 ∷ []
+pub no_lines_written : malformed_line 0 None Syntax ≡ run_without_lines ++ 10 ∷ []
 no_lines_written = rw (decimal_digit 0 (omega arith), decimal_digit 1 (omega arith)) refl
 
 abbrev has_feed : List ℕ → Bool
@@ -158,7 +158,7 @@ plain_text (x ∷ xs) none =
     let here = plain_by x xs (x == 10) refl none in
     All-cons (λ b. b ≢ 10) x xs here.0 (plain_text xs here.1)
 
-no_lines_plain : IsPlain run_without_lines
+pub no_lines_plain : IsPlain run_without_lines
 no_lines_plain = plain_text run_without_lines refl
 
 no_lines_some : 0 < length run_without_lines

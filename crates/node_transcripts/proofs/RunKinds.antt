@@ -63,7 +63,7 @@ split : (out : List ℕ) → IsSplit out
 split [] = record { whole = []; cut = []; is = refl; plain = All-nil (λ b. b ≢ 10); ends = inl refl }
 split (x ∷ xs) = let r = split xs in split_by x xs (x == 10) refl r r.ends
 
-none_first : (xs ys : List ℕ) → xs ++ ys ≡ [] → xs ≡ []
+pub none_first : (xs ys : List ℕ) → xs ++ ys ≡ [] → xs ≡ []
 none_first [] ys e = refl
 none_first (x ∷ xs) ys e = absurd (omega (arith, ap length e))
 
@@ -72,7 +72,7 @@ none_second [] ys e = e
 none_second (x ∷ xs) ys e = absurd (omega (arith, ap length e))
 
 -- a beginning of an echo is all of it, or holds no line feed
-echo_front : (line front rest : List ℕ) → IsPlain line → line ++ 10 ∷ [] ≡ front ++ rest → (front ≡ line ++ 10 ∷ []) ⊎ IsPlain front
+pub echo_front : (line front rest : List ℕ) → IsPlain line → line ++ 10 ∷ [] ≡ front ++ rest → (front ≡ line ++ 10 ∷ []) ⊎ IsPlain front
 echo_front line [] rest plain e = inr (All-nil (λ b. b ≢ 10))
 echo_front [] (x ∷ xs) rest plain e =
     let none : xs ≡ [] = none_first xs rest (sym (ap behind_first e)) in
@@ -115,7 +115,7 @@ module _ {K : Type 0} (keeper : Keeper K) (source : Source K) where
   no_opening Asks None now s t number line turn out e gives = absurd (subst (λ (p : Option (Running K)). IsNone p) e tt)
   no_opening Asks (Some old) now s t number line turn out e gives = tt
 
-  kept_by : (q : Option (Running K)) (spare : Option K) (now : Running K) (k : K) → q ≡ Some now → keep_in q spare ≡ Some k → k ≡ now.node.keep
+  pub kept_by : (q : Option (Running K)) (spare : Option K) (now : Running K) (k : K) → q ≡ Some now → keep_in q spare ≡ Some k → k ≡ now.node.keep
   kept_by q spare now k e kept = ap (the k) (sym kept ∙ ap (λ (p : Option (Running K)). keep_in p spare) e)
 
   -- ---- the kinds

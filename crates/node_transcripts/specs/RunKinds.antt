@@ -1,16 +1,17 @@
 -- What `run_node` wrote, whenever its node ran, is one of the runs that may stand behind one another.
-use Rattle.std.specs.Prelude.{◌≡◌, ℕ, true, List, ◌++◌, Option, Some}
+use Rattle.std.specs.Prelude.{◌≡◌, ℕ, ◌+◌, true, List, ◌++◌, Option, None, Some, length}
 use Rattle.ocpi_types.specs.declared.setup.Node.{Node}
-use Rattle.line_runs.specs.Numbered.{IsNumberedBegun, IsNumberedRun}
+use Rattle.line_runs.specs.Numbered.{IsNumberedBegun, IsNumberedRun, begun_answer, begun_between, begun_echo, begun_end}
 use Rattle.line_runs.specs.declared.outcome.Ran.{Ran}
 use Rattle.node_store.specs.Contents.{Content}
 use Rattle.node_keepers.specs.Opening.{Source}
 use Rattle.node_cell.specs.Keepers.{Keeper}
+use Rattle.done_laws.specs.Laws.{IsWhole}
 use Rattle.node_runs.specs.NodeAnswers.{NodeEndGives, NodeLineGives}
 use Rattle.node_runs.specs.NodeTurns.{Running, Stage, keep_in, opening}
-use Rattle.node_transcripts.specs.LaterRuns.{IsBegunRun, IsLeftBy, IsSameNode, Tail}
+use Rattle.node_transcripts.specs.LaterRuns.{IsBegunRun, IsLeftBy, IsReadBehind, IsSameNode, IsUnbegunRun, Tail}
 use Rattle.node_transcripts.specs.Outputs.{IsReadBegun, IsReadWhole}
-use Rattle.node_transcripts.specs.Readable.{IsPlain}
+use Rattle.node_transcripts.specs.Readable.{IsPlain, OpensSo}
 
 -- the whole lines of what was written are such a run, whatever may be found where its keeper was left
 pub record IsSuchRun {K : Type 0} (keeper : Keeper K) (source : Source K) (setup : List Node) (member : Node) (wanted : Option (List ℕ)) (before : Tail) (content : Content) (out : List ℕ) (last : Stage K) : Type 0 where
@@ -35,3 +36,27 @@ WholeRunsAreSuch {K} keeper source =
     (setup : List Node) (member : Node) (wanted : Option (List ℕ)) (before : Tail) (content : Content) (opened : List ℕ) (lines : List (List ℕ)) (ran : Ran) (out : List ℕ) (last : Stage K)
     (run : IsNumberedRun (NodeLineGives keeper source) NodeEndGives true (opening wanted opened) lines ran out last) (now : Running K) → IsReadWhole (IsSameNode keeper before setup member content) run now
     → IsSuchRun keeper source setup member wanted before content out last
+
+-- ---- a run whose node did not run before its last line
+
+-- What such a run wrote: no whole line; or, but for what stands of a line that was cut, a run in which no node began; or
+-- one in which it did.
+pub data IsEarlyRun {K : Type 0} (keeper : Keeper K) (source : Source K) (setup : List Node) (member : Node) (wanted : Option (List ℕ)) (before : Tail) (content : Content) (out : List ℕ) (last : Stage K) : Type 0 where
+  NoLine : IsPlain out → IsEarlyRun keeper source setup member wanted before content out last
+  Unbegun : (text cut : List ℕ) → out ≡ text ++ cut → IsPlain cut → (after : Tail) → IsUnbegunRun before text after → IsEarlyRun keeper source setup member wanted before content out last
+  Began : IsSuchRun keeper source setup member wanted before content out last → IsEarlyRun keeper source setup member wanted before content out last
+
+-- no node runs behind the lines before the last one; and that is read where it stands, if something of it is written
+abbrev pub IsReadEarly : {K : Type 0} {keeper : Keeper K} {source : Source K} {wanted : Option (List ℕ)} {opened : List ℕ} {lines : List (List ℕ)} {out : List ℕ} {last : Stage K}
+    → (setup : List Node) (member : Node) (before : Tail) (content : Content) → IsNumberedBegun (NodeLineGives keeper source) NodeEndGives true (opening wanted opened) lines out last → Type 0
+IsReadEarly setup member before content (begun_between {s = s} run later) = s.running ≡ None
+IsReadEarly setup member before content (begun_echo {s = s} run line front more is later) = (s.running ≡ None) × IsPlain line × IsReadBehind before line
+IsReadEarly {keeper = keeper} {source = source} setup member before content (begun_answer {s = s} {t = t} {line = line} {before = earlier} {turn = turn} {more = more} run some gives later n) =
+    (s.running ≡ None) × IsPlain line × IsReadBehind before line × IsWhole (length earlier + 1) × OpensSo keeper source (IsSameNode keeper before setup member content) s.running s (length earlier + 1) line turn more t gives
+IsReadEarly setup member before content (begun_end {s = s} run gives n) = s.running ≡ None
+
+abbrev pub EarlyRunsAreSuch : {K : Type 0} → Keeper K → Source K → Type 0
+EarlyRunsAreSuch {K} keeper source =
+    (setup : List Node) (member : Node) (wanted : Option (List ℕ)) (before : Tail) (content : Content) (opened : List ℕ) (lines : List (List ℕ)) (out : List ℕ) (last : Stage K)
+    (begun : IsNumberedBegun (NodeLineGives keeper source) NodeEndGives true (opening wanted opened) lines out last) → IsReadEarly setup member before content begun
+    → IsEarlyRun keeper source setup member wanted before content out last

@@ -5,7 +5,7 @@ ghost use Rattle.node_keepers.specs.Opening.{source_of};
 ghost use Rattle.node_transcripts.specs.LaterRuns.{FirstLinesEndRuns, SeveralRunsAreTranscripts};
 ghost use Rattle.node_transcripts.specs.Laws.{CutRunsAreTranscripts, EchoesAreTranscripts, RunsAreTranscripts};
 ghost use Rattle.node_transcripts.specs.Outputs.{BegunRunsAreTranscripts, WholeRunsAreTranscripts};
-ghost use Rattle.node_transcripts.specs.RunKinds.{BegunRunsAreSuch, WholeRunsAreSuch};
+ghost use Rattle.node_transcripts.specs.RunKinds.{BegunRunsAreSuch, EarlyRunsAreSuch, WholeRunsAreSuch};
 
 use done_laws::laws::done_lines_are_read;
 use node_keepers::Keeps;
@@ -65,8 +65,11 @@ pub fn outputs_are_transcripts<S: Keeps>()
     openings_can_start_again();
 }
 
-/// Whatever `run_node` wrote, once its node ran, is such a run, but for what stands of a line that was cut.
+/// Whatever `run_node` wrote is such a run, or one in which no node began, but for what stands of a line that was cut.
 pub fn outputs_are_such_runs<S: Keeps>()
     ensures whole { WholeRunsAreSuch (keeper_of S.Kept.content S.Kept.is_honest S.Kept.refusals S.Kept.may_leave) (source_of S.may_refuse S.found) }
     ensures begun { BegunRunsAreSuch (keeper_of S.Kept.content S.Kept.is_honest S.Kept.refusals S.Kept.may_leave) (source_of S.may_refuse S.found) }
-{}
+    ensures early { EarlyRunsAreSuch (keeper_of S.Kept.content S.Kept.is_honest S.Kept.refusals S.Kept.may_leave) (source_of S.may_refuse S.found) }
+{
+    done_lines_are_read();
+}
