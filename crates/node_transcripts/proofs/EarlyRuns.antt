@@ -1,14 +1,14 @@
 -- What `run_node` wrote before its node ran, or with the line that opened it, is one of the runs that may stand behind
 -- one another.
-use Rattle.std.proofs.Common.{◌≡◌, ◌≢◌, ◌⊎◌, ℕ, ◌+◌, ◌<◌, true, List, [], ◌∷◌, ◌++◌, All, Option, None, Some, Ok, length, take, drop, refl, sym, ap, subst, ◌∙◌, arith, inl, inr, length-append}
-use Rattle.std.proofs.lemmas.List.{append-nil, append_assoc, take-append-drop}
+use Rattle.std.proofs.Common.{◌≡◌, ◌≢◌, ◌⊎◌, ℕ, ◌+◌, ◌<◌, true, List, [], ◌∷◌, ◌++◌, All, Option, None, Some, length, take, drop, refl, sym, ap, subst, ◌∙◌, arith, inl, inr, length-append}
+use Rattle.std.proofs.lemmas.List.{append-nil, take-append-drop}
 use Rattle.std.proofs.lemmas.List.Elements.{All-nil, All-push}
 use Rattle.ocpi_types.specs.Setups.{party_of}
 use Rattle.ocpi_types.specs.declared.setup.Node.{Node}
 use Rattle.ocpi_json.specs.SetupForms.{setup_in}
 use Rattle.stored_laws.specs.Nodes.{last_serial}
 use Rattle.node_store.specs.Contents.{Content}
-use Rattle.line_runs.specs.Numbered.{AreNumbered, begun_answer, begun_between, begun_echo, begun_end, echo_of, empty_line, none_numbered, refused_line, taken_line}
+use Rattle.line_runs.specs.Numbered.{AreNumbered, begun_answer, begun_between, begun_echo, begun_end, echo_of, empty_line, none_numbered, numbered_end, numbered_stop, refused_line, taken_line}
 use Rattle.line_runs.specs.declared.outcome.Ran.{Ran}
 use Rattle.line_runs.specs.declared.run.Turn.{Turn}
 use Rattle.line_runs.specs.declared.run.Turn.TheVariants.{Ended, Refused, Taken}
@@ -16,19 +16,18 @@ use Rattle.node_keepers.specs.Opening.{Source}
 use Rattle.node_cell.specs.Keepers.{Keeper}
 use Rattle.node_cell.specs.Stored.{Stored}
 use Rattle.json_text.specs.declared.fault.JsonFault.TheVariants.{Syntax}
-use Rattle.node_runs.specs.DoneLines.{malformed_line, opened_line}
+use Rattle.node_runs.specs.DoneLines.{malformed_line}
 use Rattle.node_runs.specs.NodeAnswers.{NodeEnd, NodeLineGives, NodeTurn}
 use Rattle.node_runs.specs.NodeTurns.{Running, SetupTurn, Stage, opening}
 use Rattle.node_runs.specs.NodeTurns as turns
 use Rattle.transcript_lines.specs.Dones.{run_without_lines}
-use Rattle.transcript_lines.specs.declared.done.Done.TheVariants as done
-use Rattle.done_laws.specs.Laws.{DoneLinesAreRead, IsLineNumber, IsRead, IsWhole}
+use Rattle.done_laws.specs.Laws.{DoneLinesAreRead, IsLineNumber, IsWhole}
 use Rattle.node_transcripts.specs.LaterRuns.{AllAnswered, IsFirstLine, IsLeftBy, IsReadBehind, IsSameNode, IsUnbegunRun, LastLeft, LeftFirst, NoLines, RefusedFirst, Tail, ToAnswer, tail_behind}
 use Rattle.node_transcripts.specs.Readable.{AreTold, IsOpenedSo, IsPlain, IsToldTurn, OpensSo, ReadsSetups, RunOpensSo}
-use Rattle.node_transcripts.specs.RunKinds.{Began, EarlyRunsAreSuch, IsEarlyRun, NoLine, Unbegun}
+use Rattle.node_transcripts.specs.RunKinds.{Began, EarlyRunsAreSuch, EarlyWholeRunsAreSuch, IsEarlyRun, NoLine, Unbegun}
 use Rattle.node_transcripts.proofs.CutRuns.{IsNone}
 use Rattle.node_transcripts.proofs.Outputs.{take_none}
-use Rattle.node_transcripts.proofs.ReadSoFar.{no_lines_plain, no_lines_written}
+use Rattle.node_transcripts.proofs.ReadSoFar.{first_lines_end_runs, no_lines_plain, no_lines_written}
 use Rattle.node_transcripts.proofs.RunKinds.{echo_front, kept_by, none_first}
 use Rattle.node_transcripts.proofs.Runs.{refused_goes_on, taken_goes_on}
 
@@ -46,13 +45,7 @@ one_line line more n plain is =
       | inr some ↦ inr some
     ]
 
-module _ {K : Type 0} (keeper : Keeper K) (source : Source K) (setup : List Node) (member : Node) (wanted : Option (List ℕ)) (before : Tail) (content : Content) where
-  abbrev Asks : List ℕ → List Node → Node → ℕ → Stored K → K → Type 0
-  Asks = IsSameNode keeper before setup member content
-
-  abbrev Early : List ℕ → Stage K → Type 0
-  Early out last = IsEarlyRun keeper source setup member wanted before content out last
-
+module _ {K : Type 0} (keeper : Keeper K) (source : Source K) where
   -- behind a line that holds something, and did not end the run, a node runs
   setup_runs : (s t : Stage K) (number : ℕ) (line : List ℕ) (turn : Turn) (out : List ℕ) → turn ≢ Ended → SetupTurn keeper source s number line turn out t → t.running ≡ None → ⊥
   setup_runs s t number line turn out ends (turns.Opened found read m is rows node begins taken written next) none =
@@ -64,6 +57,21 @@ module _ {K : Type 0} (keeper : Keeper K) (source : Source K) (setup : List Node
   turn_runs None s t number line turn out ends gives none = setup_runs s t number line turn out ends gives none
   turn_runs (Some now) s t number line turn out ends (inl goes) none = subst (λ (p : Option (Running K)). IsNone p) (sym none ∙ ap (λ (z : Stage K). z.running) goes.left) tt
   turn_runs (Some now) s t number line turn out ends (inr lost) none = ends lost.ended
+
+  -- where no node runs nothing was written
+  nothing_before : {wanted : Option (List ℕ)} {opened : List ℕ} {lines : List (List ℕ)} {ran : Ran} {out : List ℕ} {s : Stage K} (run : AreNumbered (NodeLineGives keeper source) true (opening wanted opened) lines ran out s)
+      → s.running ≡ None → out ≡ []
+  nothing_before none_numbered is = refl
+  nothing_before (empty_line run) is = nothing_before run is
+  nothing_before (taken_line {s = s} {t = t} {line = line} {before = earlier} {more = more} run some gives) is = absurd (turn_runs s.running s t (length earlier + 1) line Taken more taken_goes_on gives is)
+  nothing_before (refused_line {s = s} {t = t} {line = line} {before = earlier} {more = more} run some gives) is = absurd (turn_runs s.running s t (length earlier + 1) line Refused more refused_goes_on gives is)
+
+module _ {K : Type 0} (keeper : Keeper K) (source : Source K) (setup : List Node) (member : Node) (wanted : Option (List ℕ)) (before : Tail) (content : Content) where
+  abbrev Asks : List ℕ → List Node → Node → ℕ → Stored K → K → Type 0
+  Asks = IsSameNode keeper before setup member content
+
+  abbrev Early : List ℕ → Stage K → Type 0
+  Early out last = IsEarlyRun keeper source setup member wanted before content out last
 
   -- where no node runs, the lines hold nothing
   record IsBlank {opened : List ℕ} {lines : List (List ℕ)} {ran : Ran} {out : List ℕ} {s : Stage K} (run : AreNumbered (NodeLineGives keeper source) true (opening wanted opened) lines ran out s) : Type 0 where
@@ -77,8 +85,8 @@ module _ {K : Type 0} (keeper : Keeper K) (source : Source K) (setup : List Node
   blank (empty_line {before = earlier} run) is =
       let sofar = blank run is in
       record { none = sofar.none; plain = All-push IsPlain earlier [] sofar.plain (All-nil (λ b. b ≢ 10)); told = sofar.told; opens = sofar.opens }
-  blank (taken_line {s = s} {t = t} {line = line} {before = earlier} {more = more} run some gives) is = absurd (turn_runs s.running s t (length earlier + 1) line Taken more taken_goes_on gives is)
-  blank (refused_line {s = s} {t = t} {line = line} {before = earlier} {more = more} run some gives) is = absurd (turn_runs s.running s t (length earlier + 1) line Refused more refused_goes_on gives is)
+  blank (taken_line {s = s} {t = t} {line = line} {before = earlier} {more = more} run some gives) is = absurd (turn_runs keeper source s.running s t (length earlier + 1) line Taken more taken_goes_on gives is)
+  blank (refused_line {s = s} {t = t} {line = line} {before = earlier} {more = more} run some gives) is = absurd (turn_runs keeper source s.running s t (length earlier + 1) line Refused more refused_goes_on gives is)
 
   -- ---- the first line
 
@@ -88,8 +96,8 @@ module _ {K : Type 0} (keeper : Keeper K) (source : Source K) (setup : List Node
 
   module _ (reads : DoneLinesAreRead) (setups : ReadsSetups) {opened : List ℕ} {lines : List (List ℕ)} {ran : Ran} {out : List ℕ} {s : Stage K}
       (run : AreNumbered (NodeLineGives keeper source) true (opening wanted opened) lines ran out s) (is : IsBlank run) (few : IsWhole (length lines + 1)) (line : List ℕ) (some : 0 < length line) (first : IsFirstLine before line) where
-    number : IsLineNumber (length lines + 1)
-    number = record { some = omega arith; whole = few }
+    first_number : IsLineNumber (length lines + 1)
+    first_number = record { some = omega arith; whole = few }
 
     -- the run was opened, and says so
     began : (t : Stage K) (more : List ℕ) (gives : NodeLineGives keeper source s (length lines + 1) line Taken more t) → IsToldTurn keeper source s.running s (length lines + 1) line Taken more t gives
@@ -133,18 +141,18 @@ module _ {K : Type 0} (keeper : Keeper K) (source : Source K) (setup : List Node
 
         of_gives : (g : SetupTurn keeper source s (length lines + 1) line turn more t) → IsOpenedSo Asks g → Early (out ++ (echo_of true line ++ take n more)) t
         of_gives (turns.Opened found read m asked rows node begins taken written next) same =
-            let told = reads.opened (length lines + 1) (party_of m) rows (last_serial node.state) number ((setups line found read).parties m asked.within) same.few same.serial in
+            let told = reads.opened (length lines + 1) (party_of m) rows (last_serial node.state) first_number ((setups line found read).parties m asked.within) same.few same.serial in
             elim (one_line told.line more n told.plain (written ∙ told.ends)) [
               | inl all ↦ began_so (record { party = party_of m; node = node }) taken (ap (λ (z : Stage K). z.running) next) (out ++ (echo_of true line ++ take n more)) (ap (λ l. out ++ (echo_of true line ++ l)) all)
               | inr cut ↦ left cut
             ]
         of_gives (turns.Unbegun found read asked spare stop unbegun ended written next) same = left (subst IsPlain (sym (take_none n more written)) (All-nil (λ b. b ≢ 10)))
         of_gives (turns.NoSetup fault fails ended written next) same =
-            let told = reads.malformed (length lines + 1) None fault number tt in
+            let told = reads.malformed (length lines + 1) None fault first_number tt in
             elim (one_line told.line more n told.plain (written ∙ told.ends)) [
               | inl all ↦ Unbegun (echo_of true line ++ malformed_line (length lines + 1) None fault) []
                   (behind_echo (take n more) ∙ ap (λ l. echo_of true line ++ l) (all ∙ written) ∙ sym (append-nil (echo_of true line ++ malformed_line (length lines + 1) None fault)))
-                  (All-nil (λ b. b ≢ 10)) AllAnswered (RefusedFirst (length lines + 1) line fault number first fails)
+                  (All-nil (λ b. b ≢ 10)) AllAnswered (RefusedFirst (length lines + 1) line fault first_number first fails)
               | inr cut ↦ left cut
             ]
 
@@ -191,3 +199,22 @@ early_runs_are_such keeper source reads setups setup member wanted before conten
     (record { some = some; plain = is.1; behind = is.2 }) t turn more gives g.2 is.4 g.0 g.1 n
 early_runs_are_such keeper source reads setups setup member wanted before content opened lines out last (begun_end {s = s} {last = at_end} {out = earlier} {more = more} run gives n) none =
     end_early keeper source setup member wanted before content earlier s s.running at_end more n (blank keeper source setup member wanted before content run none).none none gives
+
+-- ---- a run that was not cut
+
+no_lines_end : {K : Type 0} (before : Tail) (q : Option (Running K)) (ran : Ran) (out more : List ℕ) → out ≡ [] → q ≡ None → NodeEnd q ran more → (after : Tail) × IsUnbegunRun before (out ++ more) after
+no_lines_end before (Some now) ran out more none e gives = absurd (subst (λ (p : Option (Running _)). IsNone p) (sym e) tt)
+no_lines_end before None ran out more none e gives = (LastLeft, subst (λ (l : List ℕ). IsUnbegunRun before l LastLeft) (sym (ap (λ l. l ++ more) none ∙ gives.1)) NoLines)
+
+setup_line : {K : Type 0} (keeper : Keeper K) (source : Source K) (q : Option (Running K)) → q ≡ None → (s t : Stage K) (number : ℕ) (line : List ℕ) (turn : Turn) (more : List ℕ) → NodeTurn keeper source q s number line turn more t
+    → SetupTurn keeper source s number line turn more t
+setup_line keeper source None e s t number line turn more gives = gives
+setup_line keeper source (Some now) e s t number line turn more gives = absurd (subst (λ (p : Option (Running _)). IsNone p) (sym e) tt)
+
+pub early_whole_runs_are_such : {K : Type 0} (keeper : Keeper K) (source : Source K) → EarlyWholeRunsAreSuch keeper source
+early_whole_runs_are_such keeper source wanted before opened lines ran out last (numbered_end {s = s} {last = at_end} {out = earlier} {more = more} run gives) none =
+    no_lines_end before s.running at_end earlier more (nothing_before keeper source run none) none gives
+early_whole_runs_are_such keeper source wanted before opened lines ran out last (numbered_stop {s = s} {t = t} {line = line} {before = answered} {out = earlier} {more = more} run some gives later) is =
+    let g = setup_line keeper source s.running is.0 s t (length answered + 1) line Ended more gives in
+    let such = first_lines_end_runs keeper source before s t (length answered + 1) line Ended more g refl (record { some = omega arith; whole = is.3 }) (record { some = some; plain = is.1; behind = is.2 }) in
+    (such.0, subst (λ (l : List ℕ). IsUnbegunRun before l such.0) (sym (ap (λ l. l ++ (echo_of true line ++ more)) (nothing_before keeper source run is.0))) such.1)

@@ -1,7 +1,7 @@
 -- What `run_node` wrote, whenever its node ran, is one of the runs that may stand behind one another.
 use Rattle.std.specs.Prelude.{◌≡◌, ℕ, ◌+◌, true, List, ◌++◌, Option, None, Some, length}
 use Rattle.ocpi_types.specs.declared.setup.Node.{Node}
-use Rattle.line_runs.specs.Numbered.{IsNumberedBegun, IsNumberedRun, begun_answer, begun_between, begun_echo, begun_end}
+use Rattle.line_runs.specs.Numbered.{IsNumberedBegun, IsNumberedRun, begun_answer, begun_between, begun_echo, begun_end, numbered_end, numbered_stop}
 use Rattle.line_runs.specs.declared.outcome.Ran.{Ran}
 use Rattle.node_store.specs.Contents.{Content}
 use Rattle.node_keepers.specs.Opening.{Source}
@@ -39,8 +39,8 @@ WholeRunsAreSuch {K} keeper source =
 
 -- ---- a run whose node did not run before its last line
 
--- What such a run wrote: no whole line; or, but for what stands of a line that was cut, a run in which no node began; or
--- one in which it did.
+-- What such a run wrote: no whole line; or, but for what stands of a line that was cut, a run in which no node began;
+-- or one in which it did.
 pub data IsEarlyRun {K : Type 0} (keeper : Keeper K) (source : Source K) (setup : List Node) (member : Node) (wanted : Option (List ℕ)) (before : Tail) (content : Content) (out : List ℕ) (last : Stage K) : Type 0 where
   NoLine : IsPlain out → IsEarlyRun keeper source setup member wanted before content out last
   Unbegun : (text cut : List ℕ) → out ≡ text ++ cut → IsPlain cut → (after : Tail) → IsUnbegunRun before text after → IsEarlyRun keeper source setup member wanted before content out last
@@ -60,3 +60,14 @@ EarlyRunsAreSuch {K} keeper source =
     (setup : List Node) (member : Node) (wanted : Option (List ℕ)) (before : Tail) (content : Content) (opened : List ℕ) (lines : List (List ℕ)) (out : List ℕ) (last : Stage K)
     (begun : IsNumberedBegun (NodeLineGives keeper source) NodeEndGives true (opening wanted opened) lines out last) → IsReadEarly setup member before content begun
     → IsEarlyRun keeper source setup member wanted before content out last
+
+-- the same of a run that was not cut
+abbrev pub IsReadEarlyWhole : {K : Type 0} {keeper : Keeper K} {source : Source K} {wanted : Option (List ℕ)} {opened : List ℕ} {lines : List (List ℕ)} {ran : Ran} {out : List ℕ} {last : Stage K}
+    → (before : Tail) → IsNumberedRun (NodeLineGives keeper source) NodeEndGives true (opening wanted opened) lines ran out last → Type 0
+IsReadEarlyWhole before (numbered_end {s = s} run gives) = s.running ≡ None
+IsReadEarlyWhole before (numbered_stop {s = s} {line = line} {before = earlier} run some gives later) = (s.running ≡ None) × IsPlain line × IsReadBehind before line × IsWhole (length earlier + 1)
+
+abbrev pub EarlyWholeRunsAreSuch : {K : Type 0} → Keeper K → Source K → Type 0
+EarlyWholeRunsAreSuch {K} keeper source =
+    (wanted : Option (List ℕ)) (before : Tail) (opened : List ℕ) (lines : List (List ℕ)) (ran : Ran) (out : List ℕ) (last : Stage K)
+    (run : IsNumberedRun (NodeLineGives keeper source) NodeEndGives true (opening wanted opened) lines ran out last) → IsReadEarlyWhole before run → (after : Tail) × IsUnbegunRun before out after

@@ -5,7 +5,7 @@ ghost use Rattle.node_keepers.specs.Opening.{source_of};
 ghost use Rattle.node_transcripts.specs.LaterRuns.{FirstLinesEndRuns, SeveralRunsAreTranscripts};
 ghost use Rattle.node_transcripts.specs.Laws.{CutRunsAreTranscripts, EchoesAreTranscripts, RunsAreTranscripts};
 ghost use Rattle.node_transcripts.specs.Outputs.{BegunRunsAreTranscripts, WholeRunsAreTranscripts};
-ghost use Rattle.node_transcripts.specs.RunKinds.{BegunRunsAreSuch, EarlyRunsAreSuch, WholeRunsAreSuch};
+ghost use Rattle.node_transcripts.specs.RunKinds.{BegunRunsAreSuch, EarlyRunsAreSuch, EarlyWholeRunsAreSuch, WholeRunsAreSuch};
 
 use done_laws::laws::done_lines_are_read;
 use node_keepers::Keeps;
@@ -70,6 +70,7 @@ pub fn outputs_are_such_runs<S: Keeps>()
     ensures whole { WholeRunsAreSuch (keeper_of S.Kept.content S.Kept.is_honest S.Kept.refusals S.Kept.may_leave) (source_of S.may_refuse S.found) }
     ensures begun { BegunRunsAreSuch (keeper_of S.Kept.content S.Kept.is_honest S.Kept.refusals S.Kept.may_leave) (source_of S.may_refuse S.found) }
     ensures early { EarlyRunsAreSuch (keeper_of S.Kept.content S.Kept.is_honest S.Kept.refusals S.Kept.may_leave) (source_of S.may_refuse S.found) }
+    ensures early_whole { EarlyWholeRunsAreSuch (keeper_of S.Kept.content S.Kept.is_honest S.Kept.refusals S.Kept.may_leave) (source_of S.may_refuse S.found) }
 {
     done_lines_are_read();
 }

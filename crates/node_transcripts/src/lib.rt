@@ -26,8 +26,9 @@
 //!   may have been refused, and have taken hold all the same. By the same (`AtLine`, `IsFoundAt`).
 //! - Before, between and behind them may stand runs in which no node began: without lines, refused at the first line,
 //!   or left at it. Each that ended at its first line is one of these. By the same (`IsUnbegunRun`); `first_lines`.
-//! - Each run in which the node began, however it came to its end, is one of those. Its whole lines count. By law
-//!   `outputs_are_such_runs` (`WholeRunsAreSuch`, `BegunRunsAreSuch` of `specs/RunKinds`).
+//! - Each run is one of those, however it came to its end, where a whole line of it was written. What stands of a line
+//!   that was cut does not count. By law `outputs_are_such_runs`: `whole`, `begun` where the node ran, `early`,
+//!   `early_whole` before that (`specs/RunKinds`).
 //!
 //! # How it is built
 //!
