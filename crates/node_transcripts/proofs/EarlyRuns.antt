@@ -13,19 +13,20 @@ use Rattle.line_runs.specs.declared.outcome.Ran.{Ran}
 use Rattle.line_runs.specs.declared.run.Turn.{Turn}
 use Rattle.line_runs.specs.declared.run.Turn.TheVariants.{Ended, Refused, Taken}
 use Rattle.node_keepers.specs.Opening.{Source}
-use Rattle.node_cell.specs.Keepers.{Keeper}
+use Rattle.node_cell.specs.Keepers.{IsSettled, Keeper, KeepsOn}
 use Rattle.node_cell.specs.Stored.{Stored}
 use Rattle.json_text.specs.declared.fault.JsonFault.TheVariants.{Syntax}
 use Rattle.node_runs.specs.DoneLines.{malformed_line}
 use Rattle.node_runs.specs.NodeAnswers.{NodeEnd, NodeLineGives, NodeTurn}
-use Rattle.node_runs.specs.NodeTurns.{Running, SetupTurn, Stage, opening}
+use Rattle.node_runs.specs.NodeTurns.{IsUnbegun, Running, SetupTurn, Stage, keep_in, opening}
 use Rattle.node_runs.specs.NodeTurns as turns
+use Rattle.node_runs.specs.declared.fault.NodeStop.{NodeStop}
 use Rattle.transcript_lines.specs.Dones.{run_without_lines}
 use Rattle.done_laws.specs.Laws.{DoneLinesAreRead, IsLineNumber, IsWhole}
 use Rattle.node_transcripts.specs.LaterRuns.{AllAnswered, IsFirstLine, IsLeftBy, IsReadBehind, IsSameNode, IsUnbegunRun, LastLeft, LeftFirst, NoLines, RefusedFirst, Tail, ToAnswer, tail_behind}
 use Rattle.node_transcripts.specs.Readable.{AreTold, IsOpenedSo, IsPlain, IsToldTurn, OpensSo, ReadsSetups, RunOpensSo}
-use Rattle.node_transcripts.specs.RunKinds.{Began, EarlyRunsAreSuch, EarlyWholeRunsAreSuch, IsEarlyRun, NoLine, Unbegun}
-use Rattle.node_transcripts.proofs.CutRuns.{IsNone}
+use Rattle.node_transcripts.specs.RunKinds.{Began, EarlyRunsAreSuch, EarlyWholeRunsAreSuch, IsEarlyRun, IsUnbegunSo, IsUnmadeSo, KeepsSo, LeavesSame, NoLine, Unbegun, UnbegunSo}
+use Rattle.node_transcripts.proofs.CutRuns.{IsNone, the}
 use Rattle.node_transcripts.proofs.Outputs.{take_none}
 use Rattle.node_transcripts.proofs.ReadSoFar.{first_lines_end_runs, no_lines_plain, no_lines_written}
 use Rattle.node_transcripts.proofs.RunKinds.{echo_front, kept_by, none_first}
@@ -76,23 +77,49 @@ module _ {K : Type 0} (keeper : Keeper K) (source : Source K) (setup : List Node
   -- where no node runs, the lines hold nothing
   record IsBlank {opened : List ℕ} {lines : List (List ℕ)} {ran : Ran} {out : List ℕ} {s : Stage K} (run : AreNumbered (NodeLineGives keeper source) true (opening wanted opened) lines ran out s) : Type 0 where
     pub none : out ≡ []
+    pub spare : s.spare ≡ None
     pub plain : All IsPlain lines
     pub told : AreTold run
     pub opens : RunOpensSo Asks run
 
   blank : {opened : List ℕ} {lines : List (List ℕ)} {ran : Ran} {out : List ℕ} {s : Stage K} (run : AreNumbered (NodeLineGives keeper source) true (opening wanted opened) lines ran out s) → s.running ≡ None → IsBlank run
-  blank none_numbered is = record { none = refl; plain = All-nil IsPlain; told = tt; opens = tt }
+  blank none_numbered is = record { none = refl; spare = refl; plain = All-nil IsPlain; told = tt; opens = tt }
   blank (empty_line {before = earlier} run) is =
       let sofar = blank run is in
-      record { none = sofar.none; plain = All-push IsPlain earlier [] sofar.plain (All-nil (λ b. b ≢ 10)); told = sofar.told; opens = sofar.opens }
+      record { none = sofar.none; spare = sofar.spare; plain = All-push IsPlain earlier [] sofar.plain (All-nil (λ b. b ≢ 10)); told = sofar.told; opens = sofar.opens }
   blank (taken_line {s = s} {t = t} {line = line} {before = earlier} {more = more} run some gives) is = absurd (turn_runs keeper source s.running s t (length earlier + 1) line Taken more taken_goes_on gives is)
   blank (refused_line {s = s} {t = t} {line = line} {before = earlier} {more = more} run some gives) is = absurd (turn_runs keeper source s.running s t (length earlier + 1) line Refused more refused_goes_on gives is)
 
   -- ---- the first line
 
   -- of which nothing is written, but maybe a part of one line more
-  left_first : (last : Stage K) (line written cut : List ℕ) → IsFirstLine before line → written ≡ echo_of true line ++ cut → IsPlain cut → Early written last
-  left_first last line written cut first both plain = Unbegun (echo_of true line) cut both plain (tail_behind before (setup_in line)) (LeftFirst line first)
+  left_first : (last : Stage K) (line written cut : List ℕ) → IsFirstLine before line → written ≡ echo_of true line ++ cut → IsPlain cut → LeavesSame keeper content last → Early written last
+  left_first last line written cut first both plain leaves = Unbegun (echo_of true line) cut both plain (tail_behind before (setup_in line)) (LeftFirst line first) leaves
+
+  -- ---- what is left of the keeper
+
+  -- no keeper was opened
+  none_opened : (last : Stage K) → last.running ≡ None → last.spare ≡ None → LeavesSame keeper content last
+  none_opened last running spare k found kept by =
+      absurd (subst (λ (p : Option K). IsNone p) (sym spare ∙ ap (λ (p : Option (Running K)). keep_in p last.spare) (sym running) ∙ kept) tt)
+
+  -- one that keeps on what was found
+  keeps_on : (fresh k : K) (found : Content) → KeepsOn keeper fresh k → IsSettled keeper fresh → KeepsSo keeper content fresh → IsLeftBy keeper k found → found ≡ content
+  keeps_on fresh k found keeps settled so by =
+      let earlier : keeper.is_honest fresh = keeps.earlier by.honest in
+      elim by.is [
+        | inl same ↦ same ∙ keeps.same by.honest ∙ so earlier
+        | inr may ↦ settled earlier found (keeps.stops by.honest found may) ∙ so earlier
+      ]
+
+  unmade_leaves : {found_setup : List Node} {asked_for : Option (List ℕ)} {asked : List ℕ} {spare : Option K} {stop : NodeStop} (last : Stage K) → last.running ≡ None → last.spare ≡ spare
+      → (unbegun : IsUnbegun keeper source found_setup asked_for asked spare stop) → IsUnmadeSo (KeepsSo keeper content) unbegun → LeavesSame keeper content last
+  unmade_leaves last running spare_is (turns.Unknown none places left why) so = none_opened last running (spare_is ∙ left)
+  unmade_leaves last running spare_is (turns.Unkept m is fault refuses places left why) so = none_opened last running (spare_is ∙ left)
+  unmade_leaves last running spare_is (turns.NotMade m is fault j unmade found_there places left why) so =
+      λ k found kept by.
+      let same : k ≡ j = ap (the k) (sym kept ∙ ap (λ (p : Option (Running K)). keep_in p last.spare) running ∙ spare_is ∙ left) in
+      keeps_on unmade.fresh j found unmade.keeps unmade.settled so (subst (λ (x : K). IsLeftBy keeper x found) same by)
 
   module _ (reads : DoneLinesAreRead) (setups : ReadsSetups) {opened : List ℕ} {lines : List (List ℕ)} {ran : Ran} {out : List ℕ} {s : Stage K}
       (run : AreNumbered (NodeLineGives keeper source) true (opening wanted opened) lines ran out s) (is : IsBlank run) (few : IsWhole (length lines + 1)) (line : List ℕ) (some : 0 < length line) (first : IsFirstLine before line) where
@@ -129,76 +156,83 @@ module _ {K : Type 0} (keeper : Keeper K) (source : Source K) (setup : List Node
         })
 
     -- what became of it
-    setup_early : (t : Stage K) (turn : Turn) (more : List ℕ) (gives : SetupTurn keeper source s (length lines + 1) line turn more t) → IsOpenedSo Asks gives → (n : ℕ)
+    setup_early : (t : Stage K) (turn : Turn) (more : List ℕ) (gives : SetupTurn keeper source s (length lines + 1) line turn more t) → IsOpenedSo Asks gives → IsUnbegunSo (KeepsSo keeper content) gives → s.running ≡ None → (n : ℕ)
         → ((now : Running K) → turn ≡ Taken → t.running ≡ Some now → (written : List ℕ) → written ≡ out ++ (echo_of true line ++ more) → Early written t) → Early (out ++ (echo_of true line ++ take n more)) t
-    setup_early t turn more gives opens n began_so = of_gives gives opens
+    setup_early t turn more gives opens unbegun_so running n began_so = of_gives gives opens unbegun_so
       where
         behind_echo : (cut : List ℕ) → out ++ (echo_of true line ++ cut) ≡ echo_of true line ++ cut
         behind_echo cut = ap (λ l. l ++ (echo_of true line ++ cut)) is.none
 
-        left : IsPlain (take n more) → Early (out ++ (echo_of true line ++ take n more)) t
-        left plain = left_first t line (out ++ (echo_of true line ++ take n more)) (take n more) first (behind_echo (take n more)) plain
+        left : IsPlain (take n more) → LeavesSame keeper content t → Early (out ++ (echo_of true line ++ take n more)) t
+        left plain leaves = left_first t line (out ++ (echo_of true line ++ take n more)) (take n more) first (behind_echo (take n more)) plain leaves
 
-        of_gives : (g : SetupTurn keeper source s (length lines + 1) line turn more t) → IsOpenedSo Asks g → Early (out ++ (echo_of true line ++ take n more)) t
-        of_gives (turns.Opened found read m asked rows node begins taken written next) same =
+        of_gives : (g : SetupTurn keeper source s (length lines + 1) line turn more t) → IsOpenedSo Asks g → IsUnbegunSo (KeepsSo keeper content) g → Early (out ++ (echo_of true line ++ take n more)) t
+        of_gives (turns.Opened found read m asked rows node begins taken written next) same so =
             let told = reads.opened (length lines + 1) (party_of m) rows (last_serial node.state) first_number ((setups line found read).parties m asked.within) same.few same.serial in
             elim (one_line told.line more n told.plain (written ∙ told.ends)) [
               | inl all ↦ began_so (record { party = party_of m; node = node }) taken (ap (λ (z : Stage K). z.running) next) (out ++ (echo_of true line ++ take n more)) (ap (λ l. out ++ (echo_of true line ++ l)) all)
-              | inr cut ↦ left cut
+              | inr cut ↦ left cut (λ k found_there kept by. keeps_on begins.starts.fresh node.keep found_there begins.starts.reopens.keeps begins.starts.settled same.keeps (subst (λ (x : K). IsLeftBy keeper x found_there)
+                  (kept_by keeper source t.running t.spare (record { party = party_of m; node = node }) k (ap (λ (z : Stage K). z.running) next) kept) by))
             ]
-        of_gives (turns.Unbegun found read asked spare stop unbegun ended written next) same = left (subst IsPlain (sym (take_none n more written)) (All-nil (λ b. b ≢ 10)))
-        of_gives (turns.NoSetup fault fails ended written next) same =
+        of_gives (turns.Unbegun found read asked spare stop unbegun ended written next) same so =
+            left (subst IsPlain (sym (take_none n more written)) (All-nil (λ b. b ≢ 10))) (unmade_leaves t (ap (λ (z : Stage K). z.running) next) (ap (λ (z : Stage K). z.spare) next) unbegun so)
+        of_gives (turns.NoSetup fault fails ended written next) same so =
+            let leaves : LeavesSame keeper content t = none_opened t (ap (λ (z : Stage K). z.running) next ∙ running) (ap (λ (z : Stage K). z.spare) next ∙ is.spare) in
             let told = reads.malformed (length lines + 1) None fault first_number tt in
             elim (one_line told.line more n told.plain (written ∙ told.ends)) [
               | inl all ↦ Unbegun (echo_of true line ++ malformed_line (length lines + 1) None fault) []
                   (behind_echo (take n more) ∙ ap (λ l. echo_of true line ++ l) (all ∙ written) ∙ sym (append-nil (echo_of true line ++ malformed_line (length lines + 1) None fault)))
-                  (All-nil (λ b. b ≢ 10)) AllAnswered (RefusedFirst (length lines + 1) line fault first_number first fails)
-              | inr cut ↦ left cut
+                  (All-nil (λ b. b ≢ 10)) AllAnswered (RefusedFirst (length lines + 1) line fault first_number first fails) leaves
+              | inr cut ↦ left cut leaves
             ]
 
     by_turn : (t : Stage K) (turn : Turn) (more : List ℕ) (gives : NodeLineGives keeper source s (length lines + 1) line turn more t) → IsToldTurn keeper source s.running s (length lines + 1) line turn more t gives
-        → OpensSo keeper source Asks s.running s (length lines + 1) line turn more t gives → (g : SetupTurn keeper source s (length lines + 1) line turn more t) → IsOpenedSo Asks g → (n : ℕ) → Early (out ++ (echo_of true line ++ take n more)) t
-    by_turn t Taken more gives told opens g same n = setup_early t Taken more g same n (λ now taken running written both. began t more gives told opens now running written both)
-    by_turn t Refused more gives told opens g same n = setup_early t Refused more g same n (λ now taken running written both. absurd (refused_not_taken taken))
-    by_turn t Ended more gives told opens g same n = setup_early t Ended more g same n (λ now taken running written both. absurd (ended_not_taken taken))
+        → OpensSo keeper source Asks s.running s (length lines + 1) line turn more t gives → (g : SetupTurn keeper source s (length lines + 1) line turn more t) → IsOpenedSo Asks g → IsUnbegunSo (KeepsSo keeper content) g → s.running ≡ None → (n : ℕ) → Early (out ++ (echo_of true line ++ take n more)) t
+    by_turn t Taken more gives told opens g same so running n = setup_early t Taken more g same so running n (λ now taken running written both. began t more gives told opens now running written both)
+    by_turn t Refused more gives told opens g same so running n = setup_early t Refused more g same so running n (λ now taken running written both. absurd (refused_not_taken taken))
+    by_turn t Ended more gives told opens g same so running n = setup_early t Ended more g same so running n (λ now taken running written both. absurd (ended_not_taken taken))
 
   -- where no node runs the line is one that opens the run
   opening_line : (q : Option (Running K)) → q ≡ None → (s t : Stage K) (number : ℕ) (line : List ℕ) (turn : Turn) (more : List ℕ) (gives : NodeTurn keeper source q s number line turn more t)
-      → OpensSo keeper source Asks q s number line turn more t gives → (g : SetupTurn keeper source s number line turn more t) × IsOpenedSo Asks g × IsToldTurn keeper source q s number line turn more t gives
-  opening_line None e s t number line turn more gives opens = (gives, opens, tt)
-  opening_line (Some now) e s t number line turn more gives opens = absurd (subst (λ (p : Option (Running K)). IsNone p) (sym e) tt)
+      → OpensSo keeper source Asks q s number line turn more t gives → UnbegunSo keeper source (KeepsSo keeper content) q s number line turn more t gives
+      → (g : SetupTurn keeper source s number line turn more t) × IsOpenedSo Asks g × IsUnbegunSo (KeepsSo keeper content) g × IsToldTurn keeper source q s number line turn more t gives
+  opening_line None e s t number line turn more gives opens unbegun = (gives, opens, unbegun, tt)
+  opening_line (Some now) e s t number line turn more gives opens unbegun = absurd (subst (λ (p : Option (Running K)). IsNone p) (sym e) tt)
 
   -- a beginning of an echo
-  echoed_early : (out : List ℕ) (last : Stage K) → out ≡ [] → (line front rest : List ℕ) → IsPlain line → IsReadBehind before line → echo_of true line ≡ front ++ rest → Early (out ++ front) last
-  echoed_early out last none [] front rest plain behind e =
-      NoLine (subst IsPlain (sym (ap (λ l. l ++ front) none ∙ none_first front rest (sym e))) (All-nil (λ b. b ≢ 10)))
-  echoed_early out last none (x ∷ xs) front rest plain behind e =
+  echoed_early : (out : List ℕ) (last : Stage K) → LeavesSame keeper content last → out ≡ [] → (line front rest : List ℕ) → IsPlain line → IsReadBehind before line → echo_of true line ≡ front ++ rest → Early (out ++ front) last
+  echoed_early out last leaves none [] front rest plain behind e =
+      NoLine (subst IsPlain (sym (ap (λ l. l ++ front) none ∙ none_first front rest (sym e))) (All-nil (λ b. b ≢ 10))) leaves
+  echoed_early out last leaves none (x ∷ xs) front rest plain behind e =
       elim (echo_front (x ∷ xs) front rest plain e) [
         | inl all ↦ left_first last (x ∷ xs) (out ++ front) [] (record { some = omega arith; plain = plain; behind = behind })
-            (ap (λ l. l ++ front) none ∙ all ∙ sym (append-nil ((x ∷ xs) ++ 10 ∷ []))) (All-nil (λ b. b ≢ 10))
-        | inr some ↦ NoLine (subst IsPlain (sym (ap (λ l. l ++ front) none)) some)
+            (ap (λ l. l ++ front) none ∙ all ∙ sym (append-nil ((x ∷ xs) ++ 10 ∷ []))) (All-nil (λ b. b ≢ 10)) leaves
+        | inr some ↦ NoLine (subst IsPlain (sym (ap (λ l. l ++ front) none)) some) leaves
       ]
 
   -- an input without lines
-  end_early : (out : List ℕ) (last : Stage K) (q : Option (Running K)) (ran : Ran) (more : List ℕ) (n : ℕ) → out ≡ [] → q ≡ None → NodeEnd q ran more → Early (out ++ take n more) last
-  end_early out last (Some now) ran more n none e gives = absurd (subst (λ (p : Option (Running K)). IsNone p) (sym e) tt)
-  end_early out last None ran more n none e gives =
+  end_early : (out : List ℕ) (last : Stage K) → LeavesSame keeper content last → (q : Option (Running K)) (ran : Ran) (more : List ℕ) (n : ℕ) → out ≡ [] → q ≡ None → NodeEnd q ran more → Early (out ++ take n more) last
+  end_early out last leaves (Some now) ran more n none e gives = absurd (subst (λ (p : Option (Running K)). IsNone p) (sym e) tt)
+  end_early out last leaves None ran more n none e gives =
       elim (one_line run_without_lines more n no_lines_plain (gives.1 ∙ no_lines_written)) [
-        | inl all ↦ Unbegun (malformed_line 0 None Syntax) [] (ap (λ l. l ++ take n more) none ∙ all ∙ gives.1 ∙ sym (append-nil (malformed_line 0 None Syntax))) (All-nil (λ b. b ≢ 10)) LastLeft NoLines
-        | inr cut ↦ NoLine (subst IsPlain (sym (ap (λ l. l ++ take n more) none)) cut)
+        | inl all ↦ Unbegun (malformed_line 0 None Syntax) [] (ap (λ l. l ++ take n more) none ∙ all ∙ gives.1 ∙ sym (append-nil (malformed_line 0 None Syntax))) (All-nil (λ b. b ≢ 10)) LastLeft NoLines leaves
+        | inr cut ↦ NoLine (subst IsPlain (sym (ap (λ l. l ++ take n more) none)) cut) leaves
       ]
 
 pub early_runs_are_such : {K : Type 0} (keeper : Keeper K) (source : Source K) → DoneLinesAreRead → ReadsSetups → EarlyRunsAreSuch keeper source
-early_runs_are_such keeper source reads setups setup member wanted before content opened lines out last (begun_between run later) none =
-    NoLine (subst IsPlain (sym (blank keeper source setup member wanted before content run none).none) (All-nil (λ b. b ≢ 10)))
+early_runs_are_such keeper source reads setups setup member wanted before content opened lines out last (begun_between run later) running =
+    let lines_so = blank keeper source setup member wanted before content run running in
+    NoLine (subst IsPlain (sym lines_so.none) (All-nil (λ b. b ≢ 10))) (none_opened keeper source setup member wanted before content last running lines_so.spare)
 early_runs_are_such keeper source reads setups setup member wanted before content opened lines out last (begun_echo {out = earlier} run line front more e later) is =
-    echoed_early keeper source setup member wanted before content earlier last (blank keeper source setup member wanted before content run is.0).none line front more is.1 is.2 e
+    let lines_so = blank keeper source setup member wanted before content run is.0 in
+    echoed_early keeper source setup member wanted before content earlier last (none_opened keeper source setup member wanted before content last is.0 lines_so.spare) lines_so.none line front more is.1 is.2 e
 early_runs_are_such keeper source reads setups setup member wanted before content opened lines out last (begun_answer {s = s} {t = t} {line = line} {before = earlier} {turn = turn} {more = more} run some gives later n) is =
-    let g = opening_line keeper source setup member wanted before content s.running is.0 s t (length earlier + 1) line turn more gives is.4 in
+    let g = opening_line keeper source setup member wanted before content s.running is.0 s t (length earlier + 1) line turn more gives is.4 is.5 in
     by_turn keeper source setup member wanted before content reads setups run (blank keeper source setup member wanted before content run is.0) is.3 line some
-    (record { some = some; plain = is.1; behind = is.2 }) t turn more gives g.2 is.4 g.0 g.1 n
-early_runs_are_such keeper source reads setups setup member wanted before content opened lines out last (begun_end {s = s} {last = at_end} {out = earlier} {more = more} run gives n) none =
-    end_early keeper source setup member wanted before content earlier s s.running at_end more n (blank keeper source setup member wanted before content run none).none none gives
+    (record { some = some; plain = is.1; behind = is.2 }) t turn more gives g.3 is.4 g.0 g.1 g.2 is.0 n
+early_runs_are_such keeper source reads setups setup member wanted before content opened lines out last (begun_end {s = s} {last = at_end} {out = earlier} {more = more} run gives n) running =
+    let lines_so = blank keeper source setup member wanted before content run running in
+    end_early keeper source setup member wanted before content earlier s (none_opened keeper source setup member wanted before content s running lines_so.spare) s.running at_end more n lines_so.none running gives
 
 -- ---- a run that was not cut
 

@@ -27,8 +27,8 @@
 //! - Before, between and behind them may stand runs in which no node began: without lines, refused at the first line,
 //!   or left at it. Each that ended at its first line is one of these. By the same (`IsUnbegunRun`); `first_lines`.
 //! - Each run is one of those, however it came to its end, where a whole line of it was written. What stands of a line
-//!   that was cut does not count. By law `outputs_are_such_runs`: `whole`, `begun` where the node ran, `early`,
-//!   `early_whole` before that (`specs/RunKinds`).
+//!   that was cut does not count. One in which no node began leaves what it found. By law `outputs_are_such_runs`:
+//!   `whole`, `begun` where the node ran; `early`, `early_whole` before that (`specs/RunKinds`).
 //!
 //! # How it is built
 //!
