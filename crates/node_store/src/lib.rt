@@ -24,9 +24,9 @@
 //! - After changes that were made, a stop leaves just what is kept then, whatever was refused before. By
 //!   `Keep::commit`: `settled`.
 //! - All this is said of a keeper that is honest after the call. By `is_honest`, in `honest`.
-//! - `ListKeep` always is, begins empty, and keeps rows. It never counts a refusal, so that each call of it fails for
-//!   want of memory alone. By `is_honest`, `refusals` of `ListKeep`; `ListKeep::new`, `has_rows`; `counted`, `bad`,
-//!   `layout`.
+//! - `ListKeep` always is, begins empty, and keeps rows, whose texts it writes only where they are loaded. It never
+//!   counts a refusal, so that each call of it fails for want of memory alone. By `is_honest`, `refusals` of
+//!   `ListKeep`; `ListKeep::new`, `has_rows`; `counted`, `bad`, `layout`.
 //! - `TableKeep` is, as long as nobody else writes the database and the disk returns what was written (`IsClean`). In
 //!   memory it always is. By `stays_honest`.
 //! - What a `TableKeep` keeps are its version and the texts of `row_text`, as the last change or the opening left them.

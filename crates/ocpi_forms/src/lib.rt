@@ -38,9 +38,11 @@
 //!
 //! A record that is written is an `impl Record`: its members, in the byte order of their names, as a list (`members`,
 //! of the kinds in `specs/Members`), what its types keep (`fits`), and `write`, one line a member, into a
-//! `RecordWriter`. That is `json`'s writer of tokens, seen as the list of tokens that were written: no tree is made.
-//! `proofs/Said` joins the steps to the JSON value, `proofs/Tagged` and `MemberForms` say which member each name
-//! finds in its tree, and `proofs/ReadAgain` that the text is read as that tree. So "a written packet is read as
+//! `RecordWriter`: no tree is made. Its bytes are `json`'s print of some tokens, which is its type's invariant
+//! (`specs/Writing`), and it is seen as the list of these tokens. One lemma says what one more token does (`pushed`
+//! of `proofs/Writing`). Names stand ready in quotes (`quoted_name`), and a text with escapes is left to `json`'s own
+//! writer. `proofs/Said` joins the steps to the JSON value, `proofs/Tagged` and `MemberForms` say which member each
+//! name finds in its tree, and `proofs/ReadAgain` that the text is read as that tree. So "a written packet is read as
 //! itself" is a line for each member in its topic's lemmas, and one for the packet.
 #![tactic(auto)]
 
