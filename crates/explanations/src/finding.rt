@@ -1,6 +1,6 @@
 //! Where in a line the member is that is at fault.
 
-use crate::forms::{Form, Scope, are_providers, quotes_hint};
+use crate::forms::{Form, Scope, are_providers, quotes_hint, write_wanted};
 use crate::nearest::nearest_name;
 use crate::shapes::{Member, Shape, has_data};
 use crate::showing::{show_text, show_value};
@@ -126,26 +126,37 @@ impl Search {
         value: &Value<'_>,
         object: &Value<'_>,
     ) -> Result<bool, AllocError> {
-        match (self.fault, form, value) {
-            (JsonFault::UnknownWord(_), Form::Word(list), Value::String(word))
-            | (JsonFault::UnknownKind, Form::Name(list), Value::String(word)) => {
-                if list.has(word) {
-                    return Ok(false);
-                }
-                self.tell_wrong(form, value)
-            }
-            (JsonFault::WrongForm(_), Form::NewId(scope), Value::String(id))
-                if form.is_met(value) => {
+        match self.fault {
+            JsonFault::UnknownWord(_) | JsonFault::UnknownKind => self.judge_word(form, value),
+            JsonFault::WrongForm(_) => self.judge_form(form, value, object),
+            _ => Ok(false),
+        }
+    }
+
+    /// The same, of a word that may not be one of its list.
+    fn judge_word(&mut self, form: Form, value: &Value<'_>) -> Result<bool, AllocError> {
+        match (form.words(), value) {
+            (Some(list), Value::String(word)) if !list.has(word) => self.tell_wrong(form, value),
+            _ => Ok(false),
+        }
+    }
+
+    /// The same, of a value that may have another form, or be there before.
+    fn judge_form(
+        &mut self,
+        form: Form,
+        value: &Value<'_>,
+        object: &Value<'_>,
+    ) -> Result<bool, AllocError> {
+        if !form.is_met(value) || has_bad_provider(form, value, object) {
+            return self.tell_wrong(form, value);
+        }
+        match (form, value) {
+            (Form::NewId(scope), Value::String(id)) => {
                 if self.is_seen(scope, id)? {
                     return self.tell_repeated(id);
                 }
                 Ok(false)
-            }
-            (JsonFault::WrongForm(_), _, _) => {
-                if form.is_met(value) && !has_bad_provider(form, value, object) {
-                    return Ok(false);
-                }
-                self.tell_wrong(form, value)
             }
             _ => Ok(false),
         }
@@ -154,7 +165,9 @@ impl Search {
     fn tell_wrong(&mut self, form: Form, value: &Value<'_>) -> Result<bool, AllocError> {
         self.told.push_str("found ")?;
         show_value(value, &mut self.told)?;
-        write!(self.told, "; wanted {form}{}", quotes_hint(form, value))?;
+        self.told.push_str("; wanted ")?;
+        write_wanted(form, &mut self.told)?;
+        self.told.push_str(quotes_hint(form, value))?;
         Ok(true)
     }
 
@@ -172,11 +185,12 @@ impl Search {
         object: &Value<'_>,
     ) -> Result<bool, AllocError> {
         let found = if object.get(field.name()).is_some() {
-            "null"
+            "found null; wanted "
         } else {
-            "nothing"
+            "found nothing; wanted "
         };
-        write!(self.told, "found {found}; wanted {form}")?;
+        self.told.push_str(found)?;
+        write_wanted(form, &mut self.told)?;
         if let Some(name) = nearest_name(self.alloc, field.name(), object)? {
             self.told.push_str(". Is it misspelled as ")?;
             show_text(name, &mut self.told)?;
@@ -266,18 +280,21 @@ fn walk_member(
     if search.look(field, form, is_needed, object)? {
         return Ok(true);
     }
-    match (form, object.get(field.name())) {
-        (Form::Objects(shape, _, _), Some(Value::Array(items))) => {
-            walk_items(search, field, shape, items.as_slice(), steps)
+    let Some(value) = object.get(field.name()) else {
+        return Ok(false);
+    };
+    if let Some(shape) = form.element_shape() {
+        return match value {
+            Value::Array(items) => walk_items(search, field, shape, items.as_slice(), steps),
+            _ => Ok(false),
+        };
+    }
+    match form.shape_in(object) {
+        Some(shape) => {
+            let step = Step { field, place: None };
+            walk_inside(search, step, shape, value, steps)
         }
-        (_, Some(value)) => match form.shape_in(object) {
-            Some(shape) => {
-                let step = Step { field, place: None };
-                walk_inside(search, step, shape, value, steps)
-            }
-            None => Ok(false),
-        },
-        _ => Ok(false),
+        None => Ok(false),
     }
 }
 

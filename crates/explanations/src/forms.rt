@@ -5,7 +5,7 @@ use crate::word_lists::WordList;
 use json::Value;
 use ocpi_text::{CiText, E4, Moment, Party, Quantity, Whole};
 use ocpi_types::PricePerKwh;
-use std::fmt;
+use std::alloc::AllocError;
 
 /// Where a list has no most.
 pub const ANY_NUMBER: usize = usize::MAX;
@@ -157,6 +157,14 @@ pub fn quotes_hint(form: Form, value: &Value<'_>) -> &'static str {
 }
 
 impl Form {
+    /// The list of which a word of this form is one.
+    pub fn words(self) -> Option<WordList> {
+        match self {
+            Form::Word(list) | Form::Name(list) => Some(list),
+            _ => None,
+        }
+    }
+
     /// Whether a value may stand under a name of this form. What an object or the objects of a list have is not asked,
     /// nor is whether a text differs from others or is a word of its list.
     pub fn is_met(self, value: &Value<'_>) -> bool {
@@ -176,44 +184,50 @@ impl Form {
     }
 }
 
-/// What is wanted, in words.
-impl fmt::Display for Form {
-    fn fmt<W: fmt::Write>(&self, f: &mut fmt::Formatter<W>) -> fmt::Result {
-        match *self {
-            Form::CiString(most) => write!(
-                f,
-                "a text of at most {most} printable ASCII characters"
-            ),
-            Form::Exactly(count) => write!(f, "a text of {count} printable ASCII characters"),
-            Form::NewId(Scope::Nodes) | Form::Party => f.write_str("a party, as BE/BEC"),
-            Form::NewId(_) => f.write_str("a text of at most 36 printable ASCII characters"),
-            Form::FreeText(most) => write!(
-                f,
-                "a text of at most {most} characters, none a control character"
-            ),
-            Form::Moment => f.write_str("a moment in UTC, as 2025-01-01T10:00:00Z"),
-            Form::Whole => f.write_str("a whole number of at most 18 digits"),
-            Form::StatusCode => f.write_str("a whole number from 1000 to 9999"),
-            Form::Decimal => f.write_str(
-                "a number without an exponent, below 100000000000 in magnitude",
-            ),
-            Form::Quantity => {
-                f.write_str("a number without an exponent, not negative and below 100000000000")
-            }
-            Form::Price => f.write_str("a number without an exponent, from 0 to 10000"),
-            Form::Truth => f.write_str("true or false"),
-            Form::Word(list) | Form::Name(list) => write!(f, "one of {}", list.words()),
-            Form::Object(_) | Form::Body | Form::Data(_) => f.write_str("an object"),
-            Form::Objects(_, _, most) if most == ANY_NUMBER => {
-                f.write_str("a list of one or more objects")
-            }
-            Form::Objects(_, least, most) => write!(f, "a list of {least} to {most} objects"),
-            Form::Uids => f.write_str("a list of texts of at most 36 printable ASCII characters"),
-            Form::Providers => {
-                f.write_str(
-                    "a list of at most 63 parties, which differ from one another and from the operator",
-                )
-            }
+/// What is wanted under a name of a form whose words have no number and no list; else no text.
+fn fixed_words(form: Form) -> &'static str {
+    match form {
+        Form::NewId(Scope::Nodes) | Form::Party => "a party, as BE/BEC",
+        Form::NewId(_) => "a text of at most 36 printable ASCII characters",
+        Form::Moment => "a moment in UTC, as 2025-01-01T10:00:00Z",
+        Form::Whole => "a whole number of at most 18 digits",
+        Form::StatusCode => "a whole number from 1000 to 9999",
+        Form::Decimal => "a number without an exponent, below 100000000000 in magnitude",
+        Form::Quantity => { "a number without an exponent, not negative and below 100000000000" }
+        Form::Price => "a number without an exponent, from 0 to 10000",
+        Form::Truth => "true or false",
+        Form::Object(_) | Form::Body | Form::Data(_) => "an object",
+        Form::Objects(_, _, _) => "a list of one or more objects",
+        Form::Uids => "a list of texts of at most 36 printable ASCII characters",
+        Form::Providers => {
+            "a list of at most 63 parties, which differ from one another and from the operator"
         }
+        Form::CiString(_) | Form::Exactly(_) | Form::FreeText(_) | Form::Word(_) | Form::Name(_) =>
+            "",
+    }
+}
+
+/// Adds what is wanted under a name of a form, in words.
+pub fn write_wanted(form: Form, output: &mut String) -> Result<(), AllocError> {
+    match form {
+        Form::CiString(most) => write!(
+            output,
+            "a text of at most {most} printable ASCII characters"
+        ),
+        Form::Exactly(count) => write!(output, "a text of {count} printable ASCII characters"),
+        Form::FreeText(most) => {
+            write!(
+                output,
+                "a text of at most {most} characters, none a control character"
+            )
+        }
+        Form::Word(list) | Form::Name(list) => {
+            output.push_str("one of ")?;
+            output.push_str(list.words())
+        }
+        Form::Objects(_, least, most) if most < ANY_NUMBER => {
+            write!(output, "a list of {least} to {most} objects")
+        }
+        _ => output.push_str(fixed_words(form)),
     }
 }

@@ -229,6 +229,14 @@ impl Choice {
 }
 
 impl Form {
+    /// The shape of the elements of a list of objects.
+    pub fn element_shape(self) -> Option<Shape> {
+        match self {
+            Form::Objects(shape, _, _) => Some(shape),
+            _ => None,
+        }
+    }
+
     /// The shape of the object under a name of this form, in that object, if it is looked at.
     pub fn shape_in(self, object: &Value<'_>) -> Option<Shape> {
         match self {

@@ -34,8 +34,9 @@ impl<R: BufRead, E: Write> BufRead for WatchedReader<'_, '_, R, E> {
     ghost consumable_len = { λ w. R.consumable_len w.reader };
 
     fn fill_buf(&mut self) -> io::Result<&[u8]> {
+        let watch = self.watch;
         let shown = self.reader.fill_buf()?;
-        show(self.watch, shown);
+        show(watch, shown);
         Ok(shown)
     }
 
