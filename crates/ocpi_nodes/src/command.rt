@@ -60,7 +60,7 @@ pub struct WeaveWords<'a> {
 /// `--strict`, or gives clap's text: the help or the version that was asked for, or what is wrong.
 pub fn take_words<'a>(alloc: Global, words: &'a [String]) -> Result<Word<'a>, Error> {
     let command = Command::new(alloc, "ocpi_nodes")
-        .version("0.1.0")
+        .version("0.2.0")
         .about("OCPI 2.2.1 nodes for remote start and reservation")
         .after_help(help::PROGRAM);
     let command = with_word(command, answer(alloc))?;
