@@ -130,13 +130,13 @@ module _ (setup : List Node) (ways : List Told) (h : LineEvents) where
     }
 
     -- it goes on without the line
-    pub one_counted : (count : ℕ) → IsCounted place count → IsCounted (place + 1) count
+    one_counted : (count : ℕ) → IsCounted place count → IsCounted (place + 1) count
     one_counted count is fit =
         more_counted count count (restarted w ∷ []) fit.0 (is fit) (omega arith) (λ i j d below bound. absurd (omega (arith, below, bound)))
         (λ t among. inl (sym (in_single (restarted w) t among)))
 
     -- and with it
-    pub two_counted : (count : ℕ) → MayBeCarriedOut setup w h → (more : ℕ) → more ≤ count + 1 → IsCounted place count → IsCounted (place + 1) more
+    two_counted : (count : ℕ) → MayBeCarriedOut setup w h → (more : ℕ) → more ≤ count + 1 → IsCounted place count → IsCounted (place + 1) more
     two_counted count may more grows is fit =
         more_counted count more (restarted w ∷ carried.0 ∷ []) fit.0 (is fit) (omega (arith, grows))
         (joined HaveDiverged (restarted w ∷ []) (carried.0 ∷ []) (λ i j d below bound. absurd (omega (arith, below, bound))) (λ i j d below bound. absurd (omega (arith, below, bound)))
@@ -154,6 +154,11 @@ module _ (setup : List Node) (ways : List Told) (h : LineEvents) where
 
         parted : HaveDiverged (restarted w) carried.0
         parted = let (l, begins) = carried_begins w h carried.0 carried.1 in diverge_there w.sources Restarted (Echoed l) (restarted w) carried.0 (restart_begins w) begins (restarted_differs l)
+
+    pub counted_more : (count : ℕ) (changes : Bool) (next : ℕ) → (IsTrue changes → next ≤ count + 1) → (changes ≡ false → next ≡ count) → (IsTrue changes → MayBeCarriedOut setup w h) → IsCounted place count
+        → IsCounted (place + 1) next
+    counted_more count true next more same may is = two_counted count (may refl) next (more refl) is
+    counted_more count false next more same may is = subst (IsCounted (place + 1)) (sym (same refl)) (one_counted count is)
 
   -- all of them
   pub all_counted : (place count : ℕ) → place ≡ length ways → 64 < count → IsCounted place count → LeavesTooMany setup ways h

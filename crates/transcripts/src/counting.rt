@@ -1,6 +1,6 @@
 //! Whether a stop leaves more ways than are followed.
 
-ghost use Rattle.std.specs.Prelude.{◌≡◌, IfOk, IsTrue, true};
+ghost use Rattle.std.specs.Prelude.{◌≡◌, ◌≤◌, ◌+◌, IfOk, IsTrue, false, true};
 ghost use Rattle.transcripts.specs.Ways.{LeavesTooMany, MayBeCarriedOut};
 
 use crate::line_events::LineEvents;
@@ -58,6 +58,18 @@ fn would_change<'a>(
     }
 }
 
+/// One more where something changes.
+fn counted(count: usize, changes: bool) -> usize
+    ensures more { IsTrue changes → result ≤ count + 1 }
+    ensures same { changes ≡ false → result ≡ count }
+{
+    if changes {
+        count.saturating_add(1)
+    } else {
+        count
+    }
+}
+
 /// Whether there are more ways than are followed behind a line that a stop left open: with it, where that changes a row,
 /// and without it. An error is want of memory.
 pub(crate) fn are_too_many<'a>(
@@ -74,8 +86,7 @@ pub(crate) fn are_too_many<'a>(
     }
     for way in ways {
         match would_change(alloc, setup, way, left) {
-            Ok(true) => count = count.saturating_add(1),
-            Ok(false) => {}
+            Ok(changes) => count = counted(count, changes),
             Err(_) => return Err(AllocError),
         }
     }
