@@ -44,11 +44,14 @@ module _ (setup : List Node) (way : Told) (h : LineEvents) (x : NodeEvent) (hold
   event = record { text = h.line; event = Ok x }
 
   entered : IsOwn way x → (packets : List Packet) (t : NodeState) → Leads way.replay.state x.kind packets true t → (new : Told) × CarriedOut way h new
-  entered own packets t leads = (restarted between, record {
-    between = between;
-    come = subst (λ es. ComeInTurn (unanswered_line h.line) way es true between) (sym holds) (OneMore event NoneYet (inl happens) ((λ some. inr refl), (λ either. refl)));
-    starts = refl;
-  })
+  entered own packets t leads = (
+    restarted between,
+    record {
+      between = between;
+      come = subst (λ es. ComeInTurn (unanswered_line h.line) way es true between) (sym holds) (OneMore event NoneYet (inl happens) ((λ some. inr refl), (λ either. refl)));
+      starts = refl;
+    },
+  )
     where
       between : Told
       between = record {

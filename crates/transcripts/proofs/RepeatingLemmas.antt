@@ -47,7 +47,7 @@ one_step s t u e f one same (Does x did) (Does y done) =
     let left = does_lead s e t x did in
     let right = subst (λ k. Leads s k f.packets (is_some (changes_of y)) u) same (does_lead s f u y done) in
     let (packets, changed, state) = stepped_alike e.packets f.packets (is_some (changes_of x)) (is_some (changes_of y)) t u
-        (one (Stepped e.packets (is_some (changes_of x)) t) (Stepped f.packets (is_some (changes_of y)) u) left right) in
+    (one (Stepped e.packets (is_some (changes_of x)) t) (Stepped f.packets (is_some (changes_of y)) u) left right) in
     (state, packets)
 one_step s t u e f one same (Idle idle) (Idle other) = (idle.same ∙ sym other.same, idle.sends ∙ sym other.sends)
 one_step s t u e f one same (Does x did) (Idle other) = absurd (none other.why)
@@ -91,7 +91,7 @@ repeated_is setup way again is is_again repeated same forced =
     let here = ap (λ ns. opening_of ns again.replay.member) setup_is ∙ ap (opening_of way.replay.setup) member in
     let replays = subst (λ s. Replays s again.replay.entries again.replay.state) here is_again.is_replay.replays in
     let (state, entries) = repeated_alike way.replay.entries again.replay.entries (opening_of way.replay.setup way.replay.member) way.replay.state again.replay.state forced repeated.are
-        is.is_replay.replays replays in
+    is.is_replay.replays replays in
     same_told way again (same_replay again.replay way.replay setup_is member (sym state) (sym entries)) repeated.sources
 
 -- ---- entries that are repeated one by one

@@ -81,8 +81,8 @@ module _ (setup : List Node) (earlier : List Told) (text : List ℕ) (lines rest
       number = stops.number;
       too_many = λ forced.
           let found : AreTooMany _ = stops.too_many.go_on is_read.diverge
-              (λ w among. (transcript_keeps setup earlier (lines_in text) lines _ w (reads w among) refl).0 ∙ sym is_read.setup_is)
-              (λ several w among. forced several _ w (reads_behind w among) refl) in
+          (λ w among. (transcript_keeps setup earlier (lines_in text) lines _ w (reads w among) refl).0 ∙ sym is_read.setup_is)
+          (λ several w among. forced several _ w (reads_behind w among) refl) in
           record {
             histories = found.histories;
             many = found.many;

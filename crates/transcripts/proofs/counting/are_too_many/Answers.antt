@@ -1,4 +1,5 @@
 use Rattle.std.proofs.Common.{◌≡◌, ◌+◌, ◌∙◌, Some, ap, arith, length, sym}
+use Rattle.std.proofs.lemmas.Bool.{ltb-true}
 use Rattle.std.proofs.lemmas.Option.{slice_get-get_or}
 use Rattle.std.specs.Prelude.{slice_get}
 use Rattle.transcripts.proofs.CountingLemmas.{all_counted, counted_more, none_counted}
@@ -17,4 +18,4 @@ pub returns : goal.returns
 returns c = λ many.
     let ways = c.args.ways.now in
     let whole : c.loop-way.way-index ≡ length ways = omega (arith, c.loop-way-test.false, c.loop-way.auto.way-index-end) in
-    all_counted c.args.setup.now ways c.args.left.now c.loop-way.way-index c.loop-way.count whole (omega (arith, many)) c.loop-way.invariant
+    all_counted c.args.setup.now ways c.args.left.now c.loop-way.way-index c.loop-way.count whole (ltb-true 64 c.loop-way.count many) c.loop-way.invariant
