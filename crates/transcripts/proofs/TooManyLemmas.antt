@@ -2,7 +2,7 @@
 use Rattle.std.proofs.Common.{◌≡◌, ◌⊎◌, inl, inr, ◌∙◌, ℕ, true, false, List, [], Option, None, Some, refl, sym, ap, subst}
 use Rattle.std.specs.Prelude.{Contains}
 use Rattle.ocpi_types.specs.declared.setup.Node.{Node}
-use Rattle.transcript_parts.specs.Beginnings.{IsOfOneWay}
+use Rattle.transcript_parts.specs.Beginnings.{IsNotARun, IsNotPassed, IsWrongIn}
 use Rattle.transcript_parts.specs.LineReads.{GaveNothing, LineRead}
 use Rattle.transcript_parts.specs.Lines.{Line, line_of, lines_in}
 use Rattle.transcript_parts.specs.Parts.{IsPart}
@@ -17,27 +17,36 @@ use Rattle.transcripts.proofs.FollowingLemmas.{standing, transcript_keeps}
 
 -- ---- faults that do not tell it
 
-pub one_way_tells : (old : Reading) (p : LineRead) (f : TranscriptFault) → IsOfOneWay f → TellsTooMany old p f
-one_way_tells old p (transcript_fault.Wrong n) one = tt
-one_way_tells old p (transcript_fault.NotARun n) one = tt
-one_way_tells old p (transcript_fault.TooManyWays n) one = absurd one
-one_way_tells old p transcript_fault.Memory one = tt
+-- why a part is not passed over where no run is open
+pub not_passed_tells : (old : Reading) (p : LineRead) (f : TranscriptFault) → IsNotPassed p f → TellsTooMany old p f
+not_passed_tells old p (transcript_fault.Wrong n) named = tt
+not_passed_tells old p (transcript_fault.NotARun n) named = tt
+not_passed_tells old p (transcript_fault.TooManyWays n) named = absurd named
+not_passed_tells old p transcript_fault.Memory named = tt
 
-pub one_way_fits : (setup : List Node) (earlier : List Told) (text : List ℕ) (f : TranscriptFault) → IsOfOneWay f → TooManyFit setup earlier text f
-one_way_fits setup earlier text (transcript_fault.Wrong n) one = tt
-one_way_fits setup earlier text (transcript_fault.NotARun n) one = tt
-one_way_fits setup earlier text (transcript_fault.TooManyWays n) one = absurd one
-one_way_fits setup earlier text transcript_fault.Memory one = tt
+-- why a line is no setup
+pub no_setup_tells : (old : Reading) (p : LineRead) (at : ℕ) (f : TranscriptFault) → IsNotARun at f → TellsTooMany old p f
+no_setup_tells old p at (transcript_fault.Wrong n) named = tt
+no_setup_tells old p at (transcript_fault.NotARun n) named = tt
+no_setup_tells old p at (transcript_fault.TooManyWays n) named = absurd named
+no_setup_tells old p at transcript_fault.Memory named = tt
 
-not_a_run : (f : TranscriptFault) → TellsNotARun f → IsOfOneWay f
-not_a_run (transcript_fault.Wrong n) tells = tt
-not_a_run (transcript_fault.NotARun n) tells = tt
-not_a_run (transcript_fault.TooManyWays n) tells = absurd tells
-not_a_run transcript_fault.Memory tells = tt
+-- why lines begin with no part
+pub no_part_fits : (setup : List Node) (earlier : List Told) (text : List ℕ) (lines : List Line) (f : TranscriptFault) → IsWrongIn lines f → TooManyFit setup earlier text f
+no_part_fits setup earlier text lines (transcript_fault.Wrong n) wrong = tt
+no_part_fits setup earlier text lines (transcript_fault.NotARun n) wrong = tt
+no_part_fits setup earlier text lines (transcript_fault.TooManyWays n) wrong = absurd wrong
+no_part_fits setup earlier text lines transcript_fault.Memory wrong = tt
+
+not_a_run_tells : (old : Reading) (p : LineRead) (f : TranscriptFault) → TellsNotARun f → TellsTooMany old p f
+not_a_run_tells old p (transcript_fault.Wrong n) tells = tt
+not_a_run_tells old p (transcript_fault.NotARun n) tells = tt
+not_a_run_tells old p (transcript_fault.TooManyWays n) tells = absurd tells
+not_a_run_tells old p transcript_fault.Memory tells = tt
 
 -- a line that holds no event, or for which memory ran out
 pub no_events_tell : (old : Reading) (p : LineRead) (f : TranscriptFault) → TellsNotARun f ⊎ (f ≡ transcript_fault.Memory) → TellsTooMany old p f
-no_events_tell old p f (inl tells) = one_way_tells old p f (not_a_run f tells)
+no_events_tell old p f (inl tells) = not_a_run_tells old p f tells
 no_events_tell old p f (inr memory) = subst (TellsTooMany old p) (sym memory) tt
 
 -- ---- a line that a stop left open

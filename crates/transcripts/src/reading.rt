@@ -12,7 +12,7 @@ ghost use Rattle.transcripts.specs.Following.{
   is_open_behind,
 };
 ghost use Rattle.transcripts.specs.Ways.{TellsTooMany};
-ghost use Rattle.transcript_parts.specs.Beginnings.{Accuses, IsOfOneWay};
+ghost use Rattle.transcript_parts.specs.Beginnings.{Accuses};
 ghost use Rattle.transcript_parts.specs.LineReads.{GaveNothing};
 ghost use Rattle.transcript_parts.specs.declared.line_read.Ending.TheVariants.{Answered, FileEnd, NextRun};
 ghost use Rattle.transcript_lines.specs.declared.done.Done.TheVariants as done;
@@ -414,7 +414,7 @@ impl<'a> Reading<'a> {
     ) -> Result<bool, TranscriptFault>
         ensures same { IfOk result (λ same. IsTrue same ↔ (setup_in part.now.line.bytes ≡ Ok self.now.setup)) }
         ensures none { IfErr result (λ fault. Accuses fault → setup_in part.now.line.bytes ≡ Ok self.now.setup → ⊥) }
-        ensures one_way { IfErr result IsOfOneWay }
+        ensures many { IfErr result (TellsTooMany self.now part.now) }
     {
         match opened_setup(self.alloc, scratch, part.line()) {
             Ok(setup) => Ok(are_equal(&setup, self.setup)),

@@ -2,12 +2,11 @@ use Rattle.std.proofs.Common.{◌≡◌, [], false, None, refl, sym, subst}
 use Rattle.std.specs.Prelude.{IfNone, IfSome}
 use Rattle.transcript_parts.specs.Lines.{lines_in}
 use Rattle.transcript_parts.specs.Parts.{IsPart}
-use Rattle.transcript_parts.proofs.BeginningLemmas.{wrong_of_one_way}
 use Rattle.transcript_parts.proofs.PartLemmas.{part_shortens}
 use Rattle.transcripts.specs.Following.{IsRead}
 use Rattle.transcripts.proofs.FollowingLemmas.{more_read, nothing_read, reading}
 use Rattle.transcripts.proofs.HistoryLemmas.{KnowsAll, accused_lines, accused_part, knows_more, knows_nothing, knows_whole}
-use Rattle.transcripts.proofs.TooManyLemmas.{one_way_fits, too_many_fit}
+use Rattle.transcripts.proofs.TooManyLemmas.{no_part_fits, too_many_fit}
 use Rattle.transcripts.proofs.transcript.read_parts.Goals as goal
 
 pub loop-part-init : goal.loop-part-init
@@ -63,7 +62,7 @@ returns-in-Err-take-clause-none c =
 
 pub returns-in-Err-clause-many : goal.returns-in-Err-clause-many
 returns-in-Err-clause-many c =
-    one_way_fits c.args.setup.now c.args.earlier.now c.args.text.now c.in-Err.fault (wrong_of_one_way c.loop-part.lines c.in-Err.fault c.in-Err.ensures.wrong)
+    no_part_fits c.args.setup.now c.args.earlier.now c.args.text.now c.loop-part.lines c.in-Err.fault c.in-Err.ensures.wrong
 
 pub returns-in-Err-take-clause-many : goal.returns-in-Err-take-clause-many
 returns-in-Err-take-clause-many c =

@@ -1,7 +1,6 @@
 use Rattle.transcripts.specs.Accusing.{EndsBy, EndsByLine, KeepsLine}
 use Rattle.transcripts.specs.Following.{TakesLine}
 use Rattle.transcripts.proofs.AccusingLemmas.{ends_other_setup, err_more}
-use Rattle.transcripts.proofs.TooManyLemmas.{one_way_tells}
 use Rattle.transcripts.proofs.WayLemmas.{on_more}
 use Rattle.transcripts.proofs.reading.Reading.open.Goals as goal
 
@@ -21,6 +20,3 @@ returns-else-is_empty-clause-all c = on_more c.open_later.result (λ (k : KeepsL
 pub returns-else-is_empty-clause-none : goal.returns-else-is_empty-clause-none
 returns-else-is_empty-clause-none c =
     err_more (EndsByLine c.args.self.now c.args.part.now) (EndsBy c.args.earlier.now c.args.self.now c.args.part.now) c.open_later.result (λ f ends. ends c.args.earlier.now) c.open_later.ensures.none
-
-pub returns-in-Err-clause-many : goal.returns-in-Err-clause-many
-returns-in-Err-clause-many c = one_way_tells c.args.self.now c.args.part.now c.in-Err.fault c.in-Err.ensures.one_way

@@ -1,12 +1,11 @@
 use Rattle.std.proofs.Common.{refl}
 use Rattle.transcript_parts.specs.Beginnings.{Accuses, IsNoRun, IsNotPassed}
-use Rattle.transcript_parts.proofs.BeginningLemmas.{unpassed_of_one_way}
 use Rattle.transcripts.specs.Accusing.{EndsByLine}
 use Rattle.transcripts.specs.Following.{Outside}
 use Rattle.transcripts.specs.Ways.{TellsTooMany}
 use Rattle.transcripts.proofs.AccusingLemmas.{ends_outside, err_more, keeps_outside}
 use Rattle.transcripts.proofs.FollowingLemmas.{on_ok, passes_line}
-use Rattle.transcripts.proofs.TooManyLemmas.{one_way_tells}
+use Rattle.transcripts.proofs.TooManyLemmas.{not_passed_tells}
 use Rattle.transcripts.proofs.WayLemmas.{on_more}
 use Rattle.transcripts.proofs.reading.Reading.take_outside.Goals as goal
 
@@ -23,4 +22,4 @@ returns-clause-none c = err_more (λ f. Accuses f → IsNoRun c.args.part.now �
 
 pub returns-clause-many : goal.returns-clause-many
 returns-clause-many c = err_more (IsNotPassed c.args.part.now) (TellsTooMany c.args.self.now c.args.part.now) c.pass_line.result
-    (λ f named. one_way_tells c.args.self.now c.args.part.now f (unpassed_of_one_way c.args.part.now f named)) c.pass_line.ensures.named
+    (not_passed_tells c.args.self.now c.args.part.now) c.pass_line.ensures.named
