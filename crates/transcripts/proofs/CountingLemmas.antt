@@ -1,26 +1,26 @@
 -- How many ways go on behind a line that a stop left open, one way after another.
-use Rattle.std.proofs.Common.{◌≡◌, ◌≢◌, ◌⊎◌, ◌↔◌, inl, inr, ◌<◌, ◌≤◌, ◌+◌, ℕ, Bool, true, false, IsTrue, List, [], ◌∷◌, ◌++◌, get_or, length, take, Option, None, Some, Ok, refl, sym, ap, subst, ◌∙◌, arith, length-append}
+use Rattle.std.proofs.Common.{◌≡◌, inl, inr, ◌<◌, ◌≤◌, ◌+◌, ℕ, Bool, true, false, IsTrue, List, [], ◌∷◌, ◌++◌, get_or, length, take, Some, Ok, refl, sym, ap, subst, ◌∙◌, arith, length-append}
 use Rattle.std.proofs.Math.Seq.{take-length}
-use Rattle.std.proofs.lemmas.List.Elements.{Contains-append_cases, Contains-append_left, Contains-append_right, Contains-push}
+use Rattle.std.proofs.lemmas.List.Elements.{Contains-append_cases, Contains-append_left, Contains-push}
 use Rattle.std.proofs.lemmas.List.{get_or-take, length-take-le}
 use Rattle.std.proofs.lemmas.Option.{get_or_from_slice_get, slice_get_within}
-use Rattle.std.specs.Prelude.{AllPairs, Contains, slice_get}
+use Rattle.std.specs.Prelude.{Contains, slice_get}
 use Rattle.histories.proofs.Lists.{is_in, take_one}
-use Rattle.node_replay.specs.Replayed.{Carried, Enters, Foretells, Leads, Passed, Refused, Replay}
+use Rattle.node_replay.specs.Replayed.{Carried, Foretells, Leads, Passed, Refused}
 use Rattle.ocpi_types.specs.declared.node_events.NodeEvent.{NodeEvent}
 use Rattle.ocpi_types.specs.declared.packet.Packet.{Packet}
 use Rattle.ocpi_types.specs.declared.setup.Node.{Node}
-use Rattle.tables.proofs.Elements.{in_front, in_none, in_single, joined, no_pairs}
+use Rattle.tables.proofs.Elements.{in_none, in_single, joined, no_pairs}
 use Rattle.transcript_parts.specs.declared.line_read.Ending.TheVariants.{NextRun}
 use Rattle.transcripts.specs.Exact.{HoldsOnly, WouldChange}
 use Rattle.transcripts.specs.Following.{CarriedOut, ComeInTurn, GoesOn, Happens, IsOwn, NoneYet, OneMore, restarted, unanswered_line}
 use Rattle.transcripts.specs.LineEvents.{LineEvent, LineEvents}
 use Rattle.transcripts.specs.Told.{IsTold, Told}
-use Rattle.transcripts.specs.Diverging.{AllDiverge, BeginsFrom, HaveDiverged}
-use Rattle.transcripts.specs.Ways.{AreTooMany, GoesOnFrom, HadNoChoice, IsRepeated, LeavesTooMany, MayBeCarriedOut}
+use Rattle.transcripts.specs.Diverging.{AllDiverge, HaveDiverged}
+use Rattle.transcripts.specs.Ways.{GoesOnFrom, HadNoChoice, IsRepeated, LeavesTooMany, MayBeCarriedOut}
 use Rattle.transcripts.specs.declared.source.Source.TheVariants.{Echoed, Restarted}
 use Rattle.world_steps.specs.World.{NodeState}
-use Rattle.transcripts.proofs.DivergingLemmas.{both_diverge, carried_begins, diverge_there, diverges_on, goes_on_begins, restart_begins, restarted_differs}
+use Rattle.transcripts.proofs.DivergingLemmas.{both_diverge, carried_begins, diverge_there, goes_on_begins, restart_begins, restarted_differs}
 use Rattle.transcripts.proofs.RepeatingLemmas.{repeated_is}
 
 -- ---- a line that may be carried out

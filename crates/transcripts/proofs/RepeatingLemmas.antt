@@ -1,17 +1,17 @@
 -- A node to which the same events came is the same, where they left it no choice.
-use Rattle.std.proofs.Common.{◌≡◌, ◌≢◌, ◌⊎◌, ◌↔◌, inl, inr, ℕ, zero, suc, Bool, true, false, IsTrue, List, [], ◌∷◌, ◌++◌, length, map, Option, None, Some, refl, sym, ap, subst, ◌∙◌, arith, append_assoc, append-nil, length-append}
+use Rattle.std.proofs.Common.{◌≡◌, ◌≢◌, ◌⊎◌, ◌↔◌, inl, inr, ℕ, zero, suc, Bool, true, false, IsTrue, List, [], ◌∷◌, ◌++◌, length, Some, refl, sym, ap, subst, ◌∙◌, arith, append_assoc, append-nil}
 use Rattle.std.proofs.lemmas.Option.{same_Some}
-use Rattle.std.specs.Prelude.{Contains, slice_get}
+use Rattle.std.specs.Prelude.{slice_get}
 use Rattle.histories.specs.declared.entry.Entry.{Entry}
-use Rattle.history_laws.specs.Replays.{Brings, Did, Does, EntryStep, Idle, Replays, WasIdle}
-use Rattle.node_replay.specs.Replayed.{ChangesRows, Enters, IsReplay, Leads, Passes, Replay, restart_entry, started_again}
+use Rattle.history_laws.specs.Replays.{Brings, Did, Does, EntryStep, Idle, Replays}
+use Rattle.node_replay.specs.Replayed.{Enters, Leads, Replay, restart_entry, started_again}
 use Rattle.ocpi_types.specs.Setups.{party_of}
 use Rattle.ocpi_types.specs.declared.node_events.NodeEventKind.{NodeEventKind}
 use Rattle.ocpi_types.specs.declared.node_events.NodeEventKind.TheVariants as event
 use Rattle.ocpi_types.specs.declared.packet.Packet.{Packet}
 use Rattle.ocpi_types.specs.declared.setup.Node.{Node}
 use Rattle.transcripts.specs.Following.{HasOneAnswer, Stepped}
-use Rattle.transcripts.specs.Told.{AreSources, HasSources, IsEventLine, IsSource, IsTold, Told}
+use Rattle.transcripts.specs.Told.{AreSources, HasSources, IsSource, IsTold, Told}
 use Rattle.transcripts.specs.Ways.{AreRepeats, HadNoChoice, IsRepeat, IsRepeated, LeaveNoChoice, Repeats}
 use Rattle.transcripts.specs.declared.source.Source.{Source}
 use Rattle.transcripts.specs.declared.source.Source.TheVariants.{Echoed, Restarted}

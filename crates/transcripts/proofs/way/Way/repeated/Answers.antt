@@ -1,4 +1,4 @@
-use Rattle.std.proofs.Common.{◌≡◌, ◌∙◌, List, ap, subst}
+use Rattle.std.proofs.Common.{◌∙◌, List, ap, subst}
 use Rattle.std.specs.Prelude.{Contains}
 use Rattle.histories.specs.declared.entry.Entry.{Entry}
 use Rattle.ocpi_types.specs.Setups.{party_of}
