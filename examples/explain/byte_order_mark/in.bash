@@ -1,3 +1,3 @@
 # Writes a byte order mark, and then the setup of a charge.
 printf '\357\273\277'
-head -n 1 examples/charge.jsonl
+head -n 1 examples/play/charge/in.jsonl

@@ -1,5 +1,5 @@
 # Writes the setup of a charge and lines that are wrong, each in another way; the last one has 1,100,000 bytes.
-head -n 1 examples/charge.jsonl
+head -n 1 examples/play/charge/in.jsonl
 cat <<'LINES'
 {"event":"tick","node":"BE/BEC","at":"2025-01-01 10:00:00"}
 {"event":"meter","node":"BE/BEC","at":"2025-01-01T10:00:00Z","evse_uid":"E1"}
