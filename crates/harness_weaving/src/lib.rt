@@ -18,7 +18,7 @@
 //! - Where it is refused as not woven, there were cells of all nodes of the setup, and their histories have no
 //!   interleaving. By `run_and_weave`: `err` (`IsNoRun` of `specs/Faults`).
 //! - That it answers a run where there is memory. No clause says so: a run that always stops meets each clause (tested
-//!   (the run of `thread_stress`)).
+//!   by the run of `thread_stress`).
 #![tactic(auto)]
 
 mod fault;

@@ -13,8 +13,8 @@
 //! - There is none where a packet came that was never sent or was sent otherwise, nor where from some places on each
 //!   next entry waits for what is sent behind them. By laws `never_sent_excludes`, `different_excludes`,
 //!   `blocks_exclude`.
-//! - The order is that of rounds: each history in turn goes on as far as it can. No clause says so (tested (cases
-//!   `woven`)).
+//! - The order is that of rounds: each history in turn goes on as far as it can. No clause says so (tested by cases
+//!   `woven`).
 #![tactic(auto)]
 
 mod entry;

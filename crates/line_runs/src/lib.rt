@@ -34,10 +34,10 @@
 //! - `ReadFailed` comes only with the reader's note that a read failed. By `failed`.
 //! - At most 1,000,000,000 lines are read, whatever the outcome. By `reads`.
 //! - With a store each event's packets are written out before the next event is carried out. No clause says so: says
-//!   what a flush has written (tested (`tools/try_stores`, `faults/stop_in_store.py`)).
-//! - Both are told, what stopped the run first. No clause says so (tested (`tools/try_stores`)).
-//! - It writes the text of the fault to standard error. No clause says so (tested (`tools/try_stores`, and
-//!   `/dev/full`)).
+//!   what a flush has written (tested by `tools/try_stores`, `faults/stop_in_store.py`).
+//! - Both are told, what stopped the run first. No clause says so (tested by `tools/try_stores`).
+//! - It writes the text of the fault to standard error. No clause says so (tested by `tools/try_stores`, and
+//!   `/dev/full`).
 //!
 //! # How it is built
 //!

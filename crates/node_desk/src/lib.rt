@@ -29,7 +29,8 @@
 //! - A refusal hands the event back and leaves the pass as it was. The call found a cell of this desk that did not
 //!   enter the event. The history is full, or shorter than the pass has seen, or the cell refuses; the first two are
 //!   asked first. By `Desk::call`: `back`, `kept`, `rewound`, `refused` (`WasRefused`, `IsNotCalled`).
-//! - That a call which might be entered is not refused for want of memory. No clause says so (tested (cases `cells`)).
+//! - That a call which might be entered is not refused for want of memory. No clause says so (tested by the cases
+//!   `cells`).
 //! - Closing takes exactly as many passes as the desk has, and else hands all back. The history is then that of the
 //!   beginning and as many entries more as the passes count, a replay from the state then; and the keeper, if it is
 //!   honest, has just the rows of the node. By `Desk::close`: `goes_on`, `entries`, `replays`, `holds`, `cell`, `all`,
@@ -37,7 +38,7 @@
 //! - A line is made a packet as `read_packet` reads it. By `prepare`.
 //! - Reading a line, applying an event and auditing wait for nobody. By their bounds: no `Wait`.
 //! - That calls, openings, closings and audits succeed where there is memory. No clause says so: want of memory meets
-//!   each clause (tested (cases `cells`)).
+//!   each clause (tested by the cases `cells`).
 //! - That a call of many threads returns, and which of two comes first. No clause says so (not tested).
 #![tactic(auto)]
 

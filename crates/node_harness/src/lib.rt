@@ -19,7 +19,7 @@
 //!   the entries. Those that are no deliveries are events of its script, in their order. By `run_nodes`: `settled`
 //!   (`AreSettled` of `specs/Settled`).
 //! - Nodes work at the same time. What links lose, repeat and hold comes so. A run is answered where there is memory.
-//!   No clause says so: a run that always stops meets each clause (tested (cases `threads`)).
+//!   No clause says so: a run that always stops meets each clause (tested by the cases `threads`).
 //! - That it returns, and in which order threads come. No clause says so (not tested).
 #![tactic(auto)]
 

@@ -31,19 +31,19 @@
 //! - The rows of a file are those that it held; a text that is no row is told only where it held one. The file was
 //!   copied as it was closed. By `rows_in` (`specs/InFiles`).
 //! - A log is removed only while this program holds the locks of its file, and where its name still leads to that file.
-//!   No clause says so: says what lies on a disk (tested (`tools/try_stores`, `faults/open_at_once.py`)).
+//!   No clause says what lies on a disk (tested by `tools/try_stores`, `faults/open_at_once.py`).
 //! - A closing is refused for what a commit may be refused, `Refused` or `Memory`. All keepers are closed, also where
 //!   one is refused, and where a later one is not opened. By `Keeps::close`, `close_all`: the fault; that all are, and
 //!   what each left, none (proved; the rest by reading).
 //! - The rows of the i-th node are in `node<i>.db`, and new files are empty. No clause says so: a `Keep` has no name
-//!   (tested (`tools/try_stores`)).
+//!   (tested by `tools/try_stores`).
 //! - The keepers in files tell their folder, the path of the file that was opened last, or refused, and of the first
 //!   that could not be closed. By `FileKeeps::new`: `folder`, `path`, `unclosed`; `FileKeeps::path`: `none`, `last`;
 //!   `FileKeeps::unclosed`: `none`, `first`.
 //! - A file that was closed holds all rows, and no other stands beside it. None is left beside a file that was refused,
-//!   but maybe an empty log. No clause says so: says what lies on a disk (tested (`tools/try_stores`)).
-//! - A file must not exist, or must, and why it was refused is told in words. No clause says so: says what lies on a
-//!   disk, and `words_for` has none (tested (examples, `tools/try_stores`)).
+//!   but maybe an empty log. No clause says what lies on a disk (tested by `tools/try_stores`).
+//! - A file must not exist, or must, and why it was refused is told in words. No clause says what lies on a disk, and
+//!   `words_for` has none (tested by examples, `tools/try_stores`).
 //!
 //! # How it is built
 //!

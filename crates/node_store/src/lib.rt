@@ -49,7 +49,8 @@
 //! - What a refused opening leaves comes back, locked until it is let go: the files, in which a stop leaves what they
 //!   held, or a store under way where they held none yet; or the connection. By `open_file_from`: `left` (`IsLeft`),
 //!   `spared`.
-//! - Where nothing comes back, the file is as it was. No clause says so: can speak of it (tested (`tools/try_stores`)).
+//! - Where nothing comes back, the file is as it was. No clause says so: can speak of it (tested by
+//!   `tools/try_stores`).
 //! - A closing has copied what was committed last into the file, which has it by itself, also after a stop. One that
 //!   was refused gives the store back, and a stop leaves nothing new. By `close_files`: `copied`, `usable`, `fault`,
 //!   `unclosed` (where the disk returns what was written).

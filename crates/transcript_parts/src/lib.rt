@@ -40,7 +40,7 @@
 //! - The beginning of a file is the line of the first run that was opened, which reads as its setup. Before it each
 //!   line is one that is passed so. By `find_beginning`: `setup`, `found` (`BeginsWith`).
 //! - It is refused, but for want of memory, only where the file has no such beginning. By `find_beginning`: `none`.
-//! - That no line before the one that is named could have been named. No clause says so (tested (examples)).
+//! - That no line before the one that is named could have been named. No clause says so (tested by the examples).
 //!
 //! # How it is built
 //!

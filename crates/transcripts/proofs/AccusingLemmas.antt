@@ -1,9 +1,8 @@
 -- What each turn of reading keeps of all that was known, and that nothing is lost where a part is accused.
 use Rattle.std.proofs.Common.{◌≡◌, ◌≢◌, ◌⊎◌, inl, inr, ◌∙◌, ℕ, Bool, true, false, List, [], ◌∷◌, length, Result, Ok, Err, Option, None, Some, refl, sym, ap, subst, arith}
 use Rattle.std.proofs.lemmas.List.Elements.{Contains-push}
-use Rattle.std.specs.Prelude.{Contains, IfErr, IfOk, OnOk}
+use Rattle.std.specs.Prelude.{Contains, IfErr}
 use Rattle.json_text.specs.declared.fault.JsonFault.{JsonFault}
-use Rattle.node_lines.specs.declared.node_line.NodeLine.TheVariants.{One, Several}
 use Rattle.node_lines.specs.NodeLines.{node_line_in}
 use Rattle.node_replay.specs.Replayed.{Replay}
 use Rattle.node_steps.specs.declared.fault.NodeFault.TheVariants as node_fault
@@ -22,12 +21,12 @@ use Rattle.transcript_parts.specs.declared.first_lines.Opened.{Opened}
 use Rattle.transcript_parts.specs.declared.line_read.Ending.TheVariants.{Answered, FileEnd, NextRun}
 use Rattle.transcripts.specs.Accusing.{ComesOn, ComesToNone, EndsByLine, KeepsComing, KeepsLine, OpensNone}
 use Rattle.transcripts.specs.Covering.{ComesTo, Covers, EndsAll, FollowsOn, GoesTo, HasWay, HasWayOf, IsSameLine, KeepsAll, LosesNone, LosesNoneByRun}
-use Rattle.transcripts.specs.Following.{ComeWithoutChoice, ComesToNode, FitsEvent, Follows, FollowsWithoutChoice, GoesOnWithoutChoice, IsNew, IsNoEvent, LeavesOpen, MayStarve, Opens, Reading, Reopens, Standing, StandsAt, TellsNotARun, ended, in_run, is_open_behind, opening_told}
-use Rattle.transcripts.specs.LineEvents.{HasShape, HasShapeBy, Holds, HoldsBy, LineEvent, LineEvents, event_at}
+use Rattle.transcripts.specs.Following.{ComeWithoutChoice, ComesToNode, FitsEvent, GoesOnWithoutChoice, IsNew, IsNoEvent, LeavesOpen, MayStarve, Opens, Reading, Reopens, Standing, StandsAt, TellsNotARun, ended, in_run, is_open_behind, opening_told}
+use Rattle.transcripts.specs.LineEvents.{HasShape, Holds, HoldsBy, LineEvents}
 use Rattle.transcripts.specs.Told.{Told}
 use Rattle.world_laws.specs.Laws.{IsSetup}
 use Rattle.transcripts.proofs.CoveringLemmas.{follows_answered, follows_last, follows_malformed, follows_opened, follows_outside, follows_shown, follows_starved, follows_stopped}
-use Rattle.transcripts.proofs.FollowingLemmas.{goes_on_member, reading, standing}
+use Rattle.transcripts.proofs.FollowingLemmas.{goes_on_member, standing}
 use Rattle.transcripts.proofs.HoldingLemmas.{held_alike, shape_alike}
 use Rattle.transcripts.proofs.StandingLemmas.{spelled_once}
 use Rattle.transcripts.proofs.WayLemmas.{in_none}

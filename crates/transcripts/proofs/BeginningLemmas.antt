@@ -1,5 +1,5 @@
 -- Up to the first run that is opened, each part of a transcript is passed outside a run.
-use Rattle.std.proofs.Common.{◌≡◌, ◌⊎◌, inl, inr, ◌∙◌, ℕ, Bool, true, false, List, [], Option, None, Some, refl, sym, ap, subst}
+use Rattle.std.proofs.Common.{◌≡◌, ◌⊎◌, inl, inr, ◌∙◌, ℕ, false, List, [], None, refl, ap}
 use Rattle.ocpi_types.specs.Setups.{party_of}
 use Rattle.ocpi_types.specs.declared.setup.Node.{Node}
 use Rattle.transcript_parts.specs.Beginnings.{BeginsWith, IsNoRun}
@@ -7,7 +7,7 @@ use Rattle.transcript_parts.specs.Beginnings as beginnings
 use Rattle.transcript_parts.specs.LineReads.{GaveNothing, LineRead}
 use Rattle.transcript_parts.specs.Lines.{Line, lines_in}
 use Rattle.transcript_parts.specs.Parts.{IsPart}
-use Rattle.transcripts.specs.Following.{Came, First, Follows, IsTranscriptOf, Last, Later, LeftOpen, LeftOut, More, NoEvent, NoSetup, Opens, Outside, Passed, PassesLine, ReadTo, Standing, Start, Starved}
+use Rattle.transcripts.specs.Following.{Came, First, Follows, Last, Later, LeftOpen, LeftOut, More, NoEvent, NoSetup, Opens, Outside, Passed, PassesLine, ReadTo, Standing, Start, Starved}
 use Rattle.transcripts.specs.Laws.{TranscriptsHaveBeginnings}
 use Rattle.transcripts.specs.Told.{Told}
 

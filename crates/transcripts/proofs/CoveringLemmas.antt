@@ -1,9 +1,7 @@
 -- No way is lost as a transcript is read part by part: what each part makes of a node, by what ends it.
-use Rattle.std.proofs.Common.{◌≡◌, ◌≢◌, ◌⊎◌, inl, inr, ◌∙◌, ℕ, Bool, true, false, List, [], ◌∷◌, ◌++◌, length, Result, Ok, Err, Option, None, Some, refl, sym, ap, subst, arith, length-append}
-use Rattle.std.specs.Prelude.{Contains, IfErr, slice_get}
+use Rattle.std.proofs.Common.{◌≡◌, ◌⊎◌, inl, inr, ℕ, Bool, true, false, List, [], ◌∷◌, ◌++◌, length, Ok, Option, Some, ap, subst, arith, length-append}
+use Rattle.std.specs.Prelude.{slice_get}
 use Rattle.json_text.specs.declared.fault.JsonFault.{JsonFault}
-use Rattle.node_lines.specs.declared.node_line.NodeLine.TheVariants.{One}
-use Rattle.node_lines.specs.NodeLines.{node_line_in}
 use Rattle.node_steps.specs.declared.fault.NodeFault.TheVariants as node_fault
 use Rattle.ocpi_types.specs.Setups.{party_of}
 use Rattle.ocpi_types.specs.declared.node_events.NodeEvent.{NodeEvent}
@@ -11,13 +9,11 @@ use Rattle.ocpi_types.specs.declared.packet.Packet.{Packet}
 use Rattle.ocpi_types.specs.declared.setup.Node.{Node}
 use Rattle.transcript_lines.specs.declared.done.Done.{Done}
 use Rattle.transcript_lines.specs.declared.done.Done.TheVariants as done
-use Rattle.transcript_parts.specs.Beginnings.{Accuses, FitsNoRun, IsNoRun}
+use Rattle.transcript_parts.specs.Beginnings.{FitsNoRun, IsNoRun}
 use Rattle.transcript_parts.specs.LineReads.{GaveNothing, LineRead}
-use Rattle.transcript_parts.specs.Lines.{Line, line_of}
 use Rattle.transcript_parts.specs.Parts.{FitsFirst}
 use Rattle.transcript_parts.specs.declared.echoed.EchoedLine.{EchoedLine}
 use Rattle.transcript_parts.specs.declared.first_lines.Opened.{Opened}
-use Rattle.transcript_parts.specs.declared.line_read.Ending.{Ending}
 use Rattle.transcript_parts.specs.declared.line_read.Ending.TheVariants.{Answered, FileEnd, NextRun}
 use Rattle.transcripts.specs.Accusing.{OpensNone}
 use Rattle.transcripts.specs.Following.{Came, ComeInTurn, ComeWithoutChoice, ComesToNode, First, FitsEvent, FitsNothing, Follows, FollowsWithoutChoice, Gives, GoesOnWithoutChoice, IsNoEvent, Last, Later, LeavesOpen, LeftOpen, LeftOut, Malformed, MayStarve, NoEvent, NoSetup, NoneYet, OneMore, Opens, Outside, Passed, PassesLine, Refused, Reopens, ShowsEvent, Skipped, Standing, Starved, ended}

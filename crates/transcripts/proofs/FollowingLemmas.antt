@@ -5,6 +5,8 @@ use Rattle.std.specs.Prelude.{Contains, OnOk}
 use Rattle.ocpi_types.specs.Setups.{party_of}
 use Rattle.ocpi_types.specs.declared.packet.Packet.{Packet}
 use Rattle.ocpi_types.specs.declared.setup.Node.{Node}
+use Rattle.tables.proofs.Elements.{no_pairs}
+use Rattle.transcripts.specs.Diverging.{AllDiverge, HaveDiverged, KeepDiverged}
 use Rattle.transcripts.specs.Following.{AllCome, AllGoOn, Came, ComeInTurn, ComesOf, First, Follows, Gives, GoesOn, Happens, IsNew, IsOneOf, IsRead, IsWayOf, Last, Later, LeftOpen, LeftOut, More, NoEvent, NoSetup, NoneYet, OneMore, Outside, Passed, PassesLine, ReadTo, Reading, ShowsEvent, Standing, Start, Starved, TakesLine, TakesPart, in_run, is_open_behind, opening_told}
 use Rattle.transcripts.specs.LineEvents.{HasShape, Holds, LineEvent, LineEvents}
 use Rattle.transcript_parts.specs.Lines.{Line, line_of}
@@ -99,7 +101,7 @@ abbrev pub reading : List Node → List Told → Bool → Option LineEvents → 
 reading setup ways within left = record { setup = setup; ways = ways; within = within; unanswered = left }
 
 pub nothing_read : (setup : List Node) (earlier : List Told) (all : List Line) → IsRead setup earlier all all (reading setup [] false None)
-nothing_read setup earlier all = record { setup_is = refl; each = λ s is. start s.told s.within s.unanswered is.way is.within is.unanswered }
+nothing_read setup earlier all = record { setup_is = refl; each = λ s is. start s.told s.within s.unanswered is.way is.within is.unanswered; diverge = no_pairs HaveDiverged }
   where
     start : (told : Option Told) (within : Bool) (left : Option LineEvents) → IsWayOf [] told → within ≡ false → left ≡ None → ReadTo setup earlier all all (standing told within left)
     start None within left is v e = subst (ReadTo setup earlier all all) (sym (same_standing None within false left None v e)) Start
@@ -110,6 +112,7 @@ pub more_read : (setup : List Node) (earlier : List Told) (all lines rest : List
 more_read setup earlier all lines rest p old new r is takes = record {
   setup_is = takes.setup ∙ r.setup_is;
   each = λ t one. let (s, was, f) = takes.each t one in More p (r.each s was) is (subst (λ n. Follows n earlier s p t) r.setup_is f);
+  diverge = takes.diverge r.diverge;
 }
 
 -- ---- what a part makes of the ways
@@ -129,6 +132,7 @@ passes old new p setup ways nothing each earlier = record {
     Passed nothing (subst (PassesLine (standing t.told old.within old.unanswered) p)
         (same_standing t.told new.within t.within new.unanswered t.unanswered (sym one.within) (sym one.unanswered)) (each t.told)),
   );
+  diverge = λ all. subst AllDiverge (sym ways) all;
 }
 
 -- and nothing else is known behind it
@@ -147,9 +151,9 @@ on_both (Err b) x y f = tt
 
 -- it came to the node
 pub happened : (old new : Reading) (p : LineRead) (line : LineEvents) → line_of line.line ≡ p.line → Holds line → HasShape line p → new.setup ≡ old.setup → new.within ≡ is_open_behind p.ending
-    → new.unanswered ≡ old.unanswered → AllCome old.ways line.events p new.ways → new.ways ≢ [] → ShowsEvent p p.ending → TakesLine (in_run old) p new
-happened old new p line is_line holds shape setup within left all some shows earlier =
-    record { setup = setup; each = λ t one. by t.told t.within t.unanswered one.way (one.within ∙ within) (one.unanswered ∙ left) }
+    → new.unanswered ≡ old.unanswered → AllCome old.ways line.events p new.ways → KeepDiverged old.ways new.ways → new.ways ≢ [] → ShowsEvent p p.ending → TakesLine (in_run old) p new
+happened old new p line is_line holds shape setup within left all diverge some shows earlier =
+    record { setup = setup; each = λ t one. by t.told t.within t.unanswered one.way (one.within ∙ within) (one.unanswered ∙ left); diverge = diverge }
   where
     Before : Standing → Type 0
     Before t = (s : Standing) × IsOneOf (in_run old) s × Follows old.setup earlier s p t
@@ -182,7 +186,11 @@ happened old new p line is_line holds shape setup within left all some shows ear
 pub opened_first : (earlier : List Told) (old new : Reading) (p : LineRead) (member : Node) (at : ℕ) → Contains old.setup member → IsNew earlier (party_of member)
     → setup_in p.line.bytes ≡ Ok old.setup → GaveNothing p → p.ending ≡ Answered (done.Opened (party_of member) 0 0) at → old.ways ≡ []
     → new ≡ reading old.setup (opening_told old.setup member ∷ []) true None → TakesPart earlier old p new
-opened_first earlier old new p member at among fresh reads no_packets answered empty is = record { setup = ap (λ r. r.setup) is; each = λ t one. of t (subst (λ r. IsOneOf r t) is one) }
+opened_first earlier old new p member at among fresh reads no_packets answered empty is = record {
+  setup = ap (λ r. r.setup) is;
+  each = λ t one. of t (subst (λ r. IsOneOf r t) is one);
+  diverge = λ none. subst (λ r. AllDiverge r.ways) (sym is) (λ i j d below bound. absurd (omega (arith, below, bound)));
+}
   where
     Before : Standing → Type 0
     Before t = (s : Standing) × IsOneOf old s × Follows old.setup earlier s p t
@@ -218,9 +226,9 @@ opened_first earlier old new p member at among fresh reads no_packets answered e
 -- a later one
 pub opened_later : (old new : Reading) (p : LineRead) (opened : Opened) → setup_in p.line.bytes ≡ Ok old.setup → GaveNothing p
     → p.ending ≡ Answered (done.Opened opened.party opened.rows opened.serial) opened.number → new.setup ≡ old.setup → new.within ≡ true → new.unanswered ≡ None
-    → AllGoOn old.ways old.unanswered opened new.ways → new.ways ≢ [] → TakesLine old p new
-opened_later old new p opened reads no_packets answered setup within left all some earlier =
-    record { setup = setup; each = λ t one. by t.told t.within t.unanswered one.way (one.within ∙ within) (one.unanswered ∙ left) }
+    → AllGoOn old.ways old.unanswered opened new.ways → KeepDiverged old.ways new.ways → new.ways ≢ [] → TakesLine old p new
+opened_later old new p opened reads no_packets answered setup within left all diverge some earlier =
+    record { setup = setup; each = λ t one. by t.told t.within t.unanswered one.way (one.within ∙ within) (one.unanswered ∙ left); diverge = diverge }
   where
     Before : Standing → Type 0
     Before t = (s : Standing) × IsOneOf old s × Follows old.setup earlier s p t

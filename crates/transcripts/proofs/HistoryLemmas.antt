@@ -1,5 +1,5 @@
 -- The rest of a history, from some lines of its transcript on, and that it goes on from what is known of it.
-use Rattle.std.proofs.Common.{◌≡◌, ◌≢◌, ◌⊎◌, ◌∙◌, ℕ, List, [], ◌∷◌, false, length, Option, None, Some, refl, sym, ap, subst, arith}
+use Rattle.std.proofs.Common.{◌≡◌, ◌∙◌, ℕ, List, [], false, length, None, refl, sym, ap, subst, arith}
 use Rattle.ocpi_types.specs.declared.setup.Node.{Node}
 use Rattle.transcript_parts.specs.Beginnings.{Accuses, IsWrongIn}
 use Rattle.transcript_parts.specs.LineReads.{LineRead}

@@ -9,3 +9,7 @@ pub mod BeginningLemmas
 pub mod CoveringLemmas
 pub mod AccusingLemmas
 pub mod HistoryLemmas
+pub mod DivergingLemmas
+pub mod RepeatingLemmas
+pub mod CountingLemmas
+pub mod TooManyLemmas

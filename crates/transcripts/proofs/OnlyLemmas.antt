@@ -29,12 +29,12 @@ use Rattle.world_steps.specs.World.{NodeState}
 abbrev replay : List Node → Node → NodeState → List Entry → Replay
 replay setup member state entries = record { setup = setup; member = member; state = state; entries = entries }
 
-same_replay : (a b : Replay) → a.setup ≡ b.setup → a.member ≡ b.member → a.state ≡ b.state → a.entries ≡ b.entries → a ≡ b
+pub same_replay : (a b : Replay) → a.setup ≡ b.setup → a.member ≡ b.member → a.state ≡ b.state → a.entries ≡ b.entries → a ≡ b
 same_replay a b setup member state entries =
     ap (λ x. replay x a.member a.state a.entries) setup ∙ ap (λ x. replay b.setup x a.state a.entries) member
     ∙ ap (λ x. replay b.setup b.member x a.entries) state ∙ ap (λ x. replay b.setup b.member b.state x) entries
 
-stepped_alike : (p q : List Packet) (b c : Bool) (s t : NodeState) → Stepped p b s ≡ Stepped q c t → (p ≡ q) × (b ≡ c) × (s ≡ t)
+pub stepped_alike : (p q : List Packet) (b c : Bool) (s t : NodeState) → Stepped p b s ≡ Stepped q c t → (p ≡ q) × (b ≡ c) × (s ≡ t)
 stepped_alike p q b c s t e = (cc, cc, cc)
 
 declined_alike : (f g : NodeFault) → Declined f ≡ Declined g → f ≡ g

@@ -22,6 +22,7 @@ use Rattle.transcript_parts.specs.Lines.{Line, line_of, lines_in}
 use Rattle.transcript_parts.specs.LineReads.{GaveNothing, LineRead}
 use Rattle.transcript_parts.specs.Beginnings.{FitsNoRun}
 use Rattle.transcript_parts.specs.Parts.{FitsFirst, IsPart}
+use Rattle.transcripts.specs.Diverging.{AllDiverge, KeepDiverged}
 use Rattle.transcripts.specs.LineEvents.{HasShape, Holds, LineEvent, LineEvents, ending_at, packets_at}
 use Rattle.transcripts.specs.Told.{Told}
 use Rattle.transcript_parts.specs.declared.fault.TranscriptFault.{TranscriptFault}
@@ -363,10 +364,11 @@ pub record IsOneOf (r : Reading) (s : Standing) : Type 0 where
   pub within : s.within ≡ r.within
   pub unanswered : s.unanswered ≡ r.unanswered
 
--- each way came of an earlier one by the part
+-- each way came of an earlier one by the part, and they are different where those were
 pub record TakesPart (earlier : List Told) (old : Reading) (p : LineRead) (new : Reading) : Type 0 where
   pub setup : new.setup ≡ old.setup
   pub each : (t : Standing) → IsOneOf new t → (s : Standing) × IsOneOf old s × Follows old.setup earlier s p t
+  pub diverge : KeepDiverged old.ways new.ways
 
 -- and so by a line within a run
 abbrev pub TakesLine : Reading → LineRead → Reading → Type 0
@@ -394,7 +396,8 @@ AllGoOn ways left o new = (t : Told) → Contains new t → (s : Told) × Contai
 abbrev pub Adds : (Told → Type 0) → List Told → List Told → Type 0
 Adds P before after = (t : Told) → Contains after t → Contains before t ⊎ P t
 
--- what is known of each way, behind the parts of a file up to some lines
+-- what is known of each way, behind the parts of a file up to some lines, and that all are different
 pub record IsRead (setup : List Node) (earlier : List Told) (all : List Line) (lines : List Line) (r : Reading) : Type 0 where
   pub setup_is : r.setup ≡ setup
   pub each : (s : Standing) → IsOneOf r s → ReadTo setup earlier all lines s
+  pub diverge : AllDiverge r.ways

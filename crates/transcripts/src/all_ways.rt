@@ -1,11 +1,13 @@
 //! All ways in which what a transcript tells may have happened, those first that are preferred.
 
-ghost use Rattle.std.specs.Prelude.{◌≡◌, IfOk, IsPermutation, IsTrue, OnOk, Some};
+ghost use Rattle.std.specs.Prelude.{◌≡◌, ◌++◌, ◌∷◌, IfOk, IsPermutation, IsTrue, OnOk, Some, [], reverse};
 ghost use Rattle.node_replay.specs.Replayed.{started_again};
 ghost use Rattle.transcripts.specs.Covering.{LosesNone, LosesNoneByRun};
+ghost use Rattle.transcripts.specs.Diverging.{AddsBehind, AddsBehindEvent, KeepDiverged};
 ghost use Rattle.transcripts.specs.Exact.{AddsEach, CarriedOutAs, GoesOnAs};
 ghost use Rattle.transcripts.specs.Following.{Adds, AllCome, AllGoOn, GoesOn, StandsAt, restarted};
 ghost use Rattle.transcripts.specs.Told.{Told};
+ghost use Rattle.transcripts.specs.declared.source.Source.TheVariants.{Restarted};
 
 use crate::line_events::{LineEvent, LineEvents};
 use crate::turns::come_in_turn;
@@ -15,7 +17,8 @@ use transcript_parts::{LineRead, Opened};
 
 /// Turns the order round.
 fn turn_round<'a>(ways: &mut Vec<Way<'a>>)
-    ensures { IsPermutation ways.old.items ways.new.items }
+    ensures moved { IsPermutation ways.old.items ways.new.items }
+    ensures turned { ways.new.items ≡ reverse ways.old.items }
 {
     ways.as_mut_slice().reverse();
 }
@@ -30,6 +33,7 @@ pub(crate) fn happen_in_ways<'a>(
 ) -> Result<(), AllocError>
     ensures come { OnOk result (AllCome ways.old.items events.now part.now ways.new.items) }
     ensures none_lost { OnOk result (LosesNone ways.old.items events.now part.now ways.new.items) }
+    ensures diverge { OnOk result (KeepDiverged ways.old.items ways.new.items) }
 {
     let mut left = std::mem::replace(ways, Vec::new(alloc));
     while let Some(mut way) = left.pop() {
@@ -54,6 +58,7 @@ fn push_standing<'a>(
 ) -> Result<(), AllocError>
     ensures adds { OnOk result (Adds (λ t. (t ≡ way.entry) × StandsAt opened.now t) ways.old.items ways.new.items) }
     ensures each { OnOk result (AddsEach (λ t. (way.entry.replay ≡ t.replay) × StandsAt opened.now t) ways.old.items ways.new.items) }
+    ensures diverge { OnOk result (AddsBehind way.entry.sources ways.old.items ways.new.items) }
 {
     match way.stands_at(opened) {
         Ok(true) => match ways.push(way) {
@@ -73,6 +78,7 @@ fn push_restarted<'a>(
 ) -> Result<(), AllocError>
     ensures adds { OnOk result (Adds (λ t. (t ≡ restarted way.entry) × StandsAt opened.now t) ways.old.items ways.new.items) }
     ensures each { OnOk result (AddsEach (λ t. (started_again way.entry.replay ≡ t.replay) × StandsAt opened.now t) ways.old.items ways.new.items) }
+    ensures diverge { OnOk result (AddsBehind (way.entry.sources ++ Restarted ∷ []) ways.old.items ways.new.items) }
 {
     match way.restart() {
         Ok(()) => push_standing(way, opened, ways),
@@ -91,6 +97,7 @@ fn push_carried_out<'a>(
 ) -> Result<(), AllocError>
     ensures adds { OnOk result (Adds (λ t. GoesOn way.entry (Some left.now) t × StandsAt opened.now t) ways.old.items ways.new.items) }
     ensures each { OnOk result (AddsEach (λ t. CarriedOutAs way.entry left.now t × StandsAt opened.now t) ways.old.items ways.new.items) }
+    ensures diverge { OnOk result (AddsBehindEvent way.entry.sources ways.old.items ways.new.items) }
 {
     let part = LineRead::unanswered(alloc, left.line());
     match come_in_turn(&mut way, left.events(), &part) {
@@ -125,6 +132,7 @@ fn push_both<'a>(
 ) -> Result<(), AllocError>
     ensures adds { OnOk result (Adds (λ t. GoesOn way.entry (Some left.now) t × StandsAt opened.now t) ways.old.items ways.new.items) }
     ensures each { OnOk result (AddsEach (λ t. GoesOnAs way.entry (Some left.now) t × StandsAt opened.now t) ways.old.items ways.new.items) }
+    ensures diverge { OnOk result (AddsBehind way.entry.sources ways.old.items ways.new.items) }
 {
     match changes_none(&way, left) {
         Ok(true) => return push_restarted(way, opened, ways),
@@ -151,6 +159,7 @@ fn push_going_on<'a>(
 ) -> Result<(), AllocError>
     ensures adds { OnOk result (Adds (λ t. GoesOn way.entry unanswered.now t × StandsAt opened.now t) ways.old.items ways.new.items) }
     ensures each { OnOk result (AddsEach (λ t. GoesOnAs way.entry unanswered.now t × StandsAt opened.now t) ways.old.items ways.new.items) }
+    ensures diverge { OnOk result (AddsBehind way.entry.sources ways.old.items ways.new.items) }
 {
     match unanswered {
         Some(left) => push_both(alloc, way, left, opened, ways),
@@ -168,6 +177,7 @@ pub(crate) fn go_on<'a>(
 ) -> Result<(), AllocError>
     ensures go_on { OnOk result (AllGoOn ways.old.items unanswered.now opened.now ways.new.items) }
     ensures none_lost { OnOk result (LosesNoneByRun ways.old.items unanswered.now opened.now ways.new.items) }
+    ensures diverge { OnOk result (KeepDiverged ways.old.items ways.new.items) }
 {
     let mut left = std::mem::replace(ways, Vec::new(alloc));
     while let Some(way) = left.pop() {

@@ -1,109 +1,93 @@
 //! Whether a stop leaves more ways than are followed.
 
-use crate::line_events::{LineEvent, LineEvents};
-use crate::members::member_spelled;
+ghost use Rattle.std.specs.Prelude.{◌≡◌, ◌≤◌, ◌+◌, IfOk, IsTrue, false, true};
+ghost use Rattle.transcripts.specs.Ways.{LeavesTooMany, MayBeCarriedOut};
+
+use crate::line_events::LineEvents;
+use crate::turns::come_in_turn;
 use crate::way::Way;
-use histories::Entry;
 use node_core::nodes_of;
-use node_replay::{NodeReplay, ReplayFault, Replayed};
-use ocpi_types::{NodeEvent, NodeEventKind, Setup};
+use ocpi_types::Setup;
 use std::alloc::{AllocError, Global};
+use transcript_parts::LineRead;
 
 /// The most ways that are followed.
 const MOST_WAYS: usize = 64;
 
-/// Carries a node through what happened at an equal one. An error is want of memory.
-fn repeat(replay: &mut NodeReplay<'_>, entries: &[Entry]) -> Result<(), AllocError> {
-    for entry in entries {
-        let event = entry.event.copy()?;
-        match event {
-            NodeEventKind::Restart => replay.restart()?,
-            other => match replay.apply(other) {
-                Ok(_) => {}
-                Err(ReplayFault::Core(_)) => {}
-                Err(ReplayFault::Memory) => return Err(AllocError),
-            },
-        }
-    }
-    Ok(())
-}
-
-/// An event comes to a node. Whether a row changed. An error is want of memory.
-fn changes(replay: &mut NodeReplay<'_>, event: &NodeEvent) -> Result<bool, AllocError> {
-    if !event.node.is_same(replay.party()) {
-        return Ok(false);
-    }
-    let kind = event.kind.copy()?;
-    match replay.apply(kind) {
-        Ok(Replayed::Stepped { changed }) => Ok(changed),
-        Ok(Replayed::Skipped) => Ok(false),
-        Err(ReplayFault::Core(_)) => Ok(false),
-        Err(ReplayFault::Memory) => Err(AllocError),
-    }
-}
-
-/// Whether a row changes as events come to a node, one after another. An error is want of memory.
-fn some_change(replay: &mut NodeReplay<'_>, events: &[LineEvent<'_>]) -> Result<bool, AllocError> {
-    for event in events {
-        match event.event() {
-            Ok(own) => {
-                if changes(replay, own)? {
-                    return Ok(true);
-                }
-            }
-            Err(_) => {}
-        }
-    }
-    Ok(false)
-}
-
-/// Whether several events change a row of the node of a way, if they are carried out: found at an equal node, which is
-/// carried through all that happened at that one. An error is want of memory.
-fn several_would_change(
+/// Whether the events of a line that is an array change a row of the node of a way, if they are carried out: found at
+/// another node, to which all that came to that one comes once more. An error is want of memory.
+fn several_would_change<'a>(
     alloc: Global,
-    setup: &Setup,
-    way: &Way<'_>,
-    events: &[LineEvent<'_>],
-) -> Result<bool, AllocError> {
-    let nodes = nodes_of(setup);
-    let Some(member) = member_spelled(nodes, way.party()) else {
-        return Ok(false);
+    setup: &'a Setup,
+    way: &Way<'a>,
+    left: &LineEvents<'a>,
+) -> Result<bool, AllocError>
+    requires { left.now.several ≡ true }
+    ensures { IfOk result (λ changes. IsTrue changes → MayBeCarriedOut setup.now way.now left.now) }
+{
+    let mut again = match way.repeated(alloc, nodes_of(setup)) {
+        Ok(Some(again)) => again,
+        Ok(None) => return Ok(false),
+        Err(_) => return Err(AllocError),
     };
-    let mut replay = NodeReplay::open(alloc, nodes, member)?;
-    match repeat(&mut replay, way.entries()) {
-        Ok(()) => some_change(&mut replay, events),
+    way.is_told();
+    again.is_told();
+    let part = LineRead::unanswered(alloc, left.line());
+    match come_in_turn(&mut again, left.events(), &part) {
+        Ok(Some(changed)) => Ok(changed),
+        Ok(None) => Ok(false),
         Err(_) => Err(AllocError),
     }
 }
 
 /// Whether the events of a line change a row of the node of a way, if they are carried out. An error is want of memory.
-fn would_change(
+fn would_change<'a>(
     alloc: Global,
-    setup: &Setup,
-    way: &Way<'_>,
-    left: &LineEvents<'_>,
-) -> Result<bool, AllocError> {
+    setup: &'a Setup,
+    way: &Way<'a>,
+    left: &LineEvents<'a>,
+) -> Result<bool, AllocError>
+    ensures { IfOk result (λ changes. IsTrue changes → MayBeCarriedOut setup.now way.now left.now) }
+{
+    if left.are_several() {
+        return several_would_change(alloc, setup, way, left);
+    }
     match left.only_event() {
         Some(event) => way.would_change(event),
-        None => several_would_change(alloc, setup, way, left.events()),
+        None => Ok(false),
+    }
+}
+
+/// One more where something changes.
+fn counted(count: usize, changes: bool) -> usize
+    ensures more { IsTrue changes → result ≤ count + 1 }
+    ensures same { changes ≡ false → result ≡ count }
+{
+    if changes {
+        count.saturating_add(1)
+    } else {
+        count
     }
 }
 
 /// Whether there are more ways than are followed behind a line that a stop left open: with it, where that changes a row,
 /// and without it. An error is want of memory.
-pub(crate) fn are_too_many(
+pub(crate) fn are_too_many<'a>(
     alloc: Global,
-    setup: &Setup,
-    ways: &[Way<'_>],
-    left: &LineEvents<'_>,
-) -> Result<bool, AllocError> {
+    setup: &'a Setup,
+    ways: &[Way<'a>],
+    left: &LineEvents<'a>,
+) -> Result<bool, AllocError>
+    ensures { IfOk result (λ many. IsTrue many → LeavesTooMany setup.now ways.now left.now) }
+{
     let mut count = ways.len();
     if count <= MOST_WAYS / 2 {
         return Ok(false);
     }
     for way in ways {
-        if would_change(alloc, setup, way, left)? {
-            count = count.saturating_add(1);
+        match would_change(alloc, setup, way, left) {
+            Ok(changes) => count = counted(count, changes),
+            Err(_) => return Err(AllocError),
         }
     }
     Ok(count > MOST_WAYS)

@@ -26,8 +26,13 @@
 //!   (`AccusesRightly` of `specs/Accusing`).
 //! - In each transcript a run is opened, whose line is the setup. Before the first one each line is refused as the
 //!   first one of a run, or a stop left it. By law `transcripts_have_beginnings`.
-//! - Which line is told. That more than 64 ways are left where that is told. Which way is taken behind stops. No clause
-//!   says so (tested (examples)).
+//! - `TooManyWays` is told only where more than 64 histories fit the file up to the line that it names, which a stop
+//!   left. Each goes on with that line or without it, and each two have an entry from different places. By
+//!   `read_transcript`: `many` (`TooManyFit` of `specs/Ways`).
+//! - Of a line with several events that is said where all histories that fit up to there left the node no choice. By
+//!   the same (`LeftNoChoice`).
+//! - Which line `NotARun` or `Wrong` tells. That `TooManyWays` is told wherever more than 64 histories fit. Which way
+//!   is taken behind stops. No clause says so (tested by the examples).
 //! - A line that was skipped or refused, but for want of memory, is one that the node skips or refuses so. `rows` and
 //!   `serial` of a later `opened` are those of that moment. Lines are entered within a run alone. No packets stand
 //!   between a setup and its `opened`. By `read_transcript`: `told` (`Follows` of `specs/Following`).
@@ -51,6 +56,15 @@
 //! `proofs/HistoryLemmas`). Each turn inverts only the head of the rest of a history (`ReadOn`), and parts are
 //! unique. A `ReadTo`, which grows at its end, is turned round once (`read_on`). What a part can make of a node is
 //! told by what ends it, one lemma for each end (`proofs/CoveringLemmas`); `cc` refutes the other constructors.
+//!
+//! That too many ways are told rightly rests on ways that are different. Two have diverged where, up to some entry,
+//! theirs come from the same places of the file, and that one from different ones (`Diverge` of `specs/Diverging`).
+//! What happens later only adds entries, so they stay different, and nothing has to be kept beside a way. A loop that
+//! takes ways from the end of one list and puts what they go on as behind another keeps that all of both lists are
+//! different (`one_goes_on`). Whether a line of several events changes a row is found at another node, to which all
+//! events come once more. That is the same node where none of them left a choice. The premise is said of the entries
+//! alone (`LeaveNoChoice` of `specs/Ways`), so the proof is a recursion over them, and needs nothing of how they were
+//! read.
 #![tactic(auto)]
 
 mod all_ways;

@@ -4,8 +4,10 @@ ghost use Rattle.std.specs.Prelude.{◌≡◌, ◌↔◌, Contains, IfNone, IfSo
 ghost use Rattle.ocpi_types.specs.Setups.{party_of};
 ghost use Rattle.ocpi_types.specs.declared.setup.Node.{Node as NodeOf};
 ghost use Rattle.transcripts.specs.Following.{IsNew};
+ghost use Rattle.transcripts.specs.Told.{Told};
 
 use crate::transcript::Transcript;
+use crate::way::Way;
 use ocpi_text::Party;
 use ocpi_types::Node;
 
@@ -39,4 +41,23 @@ pub(crate) fn is_new(transcripts: &[Transcript<'_>], party: &Party) -> bool
         }
     }
     true
+}
+
+/// Whether the node of a way is of that party, as it is spelled.
+fn is_of(way: &Way<'_>, party: &Party) -> bool
+    ensures { IsTrue result ↔ (party_of way.now.replay.member ≡ party.now) }
+{
+    way.party().as_str() == party.as_str()
+}
+
+/// Whether the node of one of the ways is.
+pub(crate) fn one_is_of(ways: &[Way<'_>], party: &Party) -> bool
+    ensures { (t : Told) → Contains ways.now t → party_of t.replay.member ≡ party.now → IsTrue result }
+{
+    for way in ways {
+        if is_of(way, party) {
+            return true;
+        }
+    }
+    false
 }

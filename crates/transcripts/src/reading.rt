@@ -2,7 +2,6 @@
 
 ghost use Rattle.std.specs.Prelude.{◌≡◌, ◌≢◌, ◌↔◌, Contains, IfErr, IfNone, IfOk, IfSome, IsTrue, None, Ok, OnOk, Some, [], false, true, ℕ};
 ghost use Rattle.ocpi_json.specs.SetupForms.{setup_in};
-ghost use Rattle.ocpi_types.specs.Setups.{party_of};
 ghost use Rattle.transcripts.specs.Accusing.{ComesToNone, EndsBy, EndsByLine, KeepsComing, KeepsLine, OpensNone};
 ghost use Rattle.transcripts.specs.Covering.{KeepsAll};
 ghost use Rattle.transcripts.specs.Following.{
@@ -12,7 +11,7 @@ ghost use Rattle.transcripts.specs.Following.{
   in_run,
   is_open_behind,
 };
-ghost use Rattle.transcripts.specs.Told.{Told};
+ghost use Rattle.transcripts.specs.Ways.{TellsTooMany};
 ghost use Rattle.transcript_parts.specs.Beginnings.{Accuses};
 ghost use Rattle.transcript_parts.specs.LineReads.{GaveNothing};
 ghost use Rattle.transcript_parts.specs.declared.line_read.Ending.TheVariants.{Answered, FileEnd, NextRun};
@@ -24,7 +23,7 @@ use crate::all_ways::{go_on, happen_in_ways};
 use crate::counting::are_too_many;
 use crate::line_events::{LineEvents, events_of};
 use crate::malformed::{fits_event, may_starve};
-use crate::members::{is_new, member_spelled};
+use crate::members::{is_new, member_spelled, one_is_of};
 use crate::tellings::has_shape;
 use crate::transcript::Transcript;
 use crate::way::Way;
@@ -32,7 +31,6 @@ use json_text::JsonFault;
 use node_core::nodes_of;
 use node_steps::NodeFault;
 use ocpi_json::Scratch;
-use ocpi_text::Party;
 use ocpi_types::Setup;
 use setup_equality::are_equal;
 use std::alloc::Global;
@@ -90,25 +88,6 @@ fn is_starved(done: &Done) -> bool
     }
 }
 
-/// Whether the node of a way is of that party, as it is spelled.
-fn is_of(way: &Way<'_>, party: &Party) -> bool
-    ensures { IsTrue result ↔ (party_of way.now.replay.member ≡ party.now) }
-{
-    way.party().as_str() == party.as_str()
-}
-
-/// Whether the node of one of the ways is.
-fn one_is_of(ways: &[Way<'_>], party: &Party) -> bool
-    ensures { (t : Told) → Contains ways.now t → party_of t.replay.member ≡ party.now → IsTrue result }
-{
-    for way in ways {
-        if is_of(way, party) {
-            return true;
-        }
-    }
-    false
-}
-
 impl<'a> Reading<'a> {
     /// Nothing is read yet.
     pub(crate) fn new(alloc: Global, setup: &'a Setup) -> Reading<'a>
@@ -153,6 +132,7 @@ impl<'a> Reading<'a> {
         ensures each { OnOk result (TakesPart earlier.now self.old part.entry self.new) }
         ensures all { OnOk result (KeepsAll earlier.now self.old part.entry self.new) }
         ensures none { IfErr result (EndsBy earlier.now self.old part.entry) }
+        ensures many { IfErr result (TellsTooMany self.old part.entry) }
     {
         self.take_line(scratch, &part, earlier)
     }
@@ -167,6 +147,7 @@ impl<'a> Reading<'a> {
         ensures each { OnOk result (TakesPart earlier.now self.old part.now self.new) }
         ensures all { OnOk result (KeepsAll earlier.now self.old part.now self.new) }
         ensures none { IfErr result (EndsBy earlier.now self.old part.now) }
+        ensures many { IfErr result (TellsTooMany self.old part.now) }
     {
         match opened_by(part.ending()) {
             Some(opened) => self.open(scratch, part, opened, earlier),
@@ -192,6 +173,7 @@ impl<'a> Reading<'a> {
         ensures each { OnOk result (TakesLine self.old part.now self.new) }
         ensures all { OnOk result (KeepsLine self.old part.now self.new) }
         ensures none { IfErr result (EndsByLine self.old part.now) }
+        ensures many { IfErr result (TellsTooMany self.old part.now) }
     {
         pass_line(self.alloc, scratch, part)
     }
@@ -207,6 +189,7 @@ impl<'a> Reading<'a> {
         ensures each { OnOk result (TakesLine self.old part.now self.new) }
         ensures all { OnOk result (KeepsLine self.old part.now self.new) }
         ensures none { IfErr result (EndsByLine self.old part.now) }
+        ensures many { IfErr result (TellsTooMany self.old part.now) }
     {
         match part.ending() {
             Ending::Answered { done, .. } => self.take_answered(scratch, part, done),
@@ -228,6 +211,7 @@ impl<'a> Reading<'a> {
         ensures each { OnOk result (TakesLine self.old part.now self.new) }
         ensures all { OnOk result (KeepsLine self.old part.now self.new) }
         ensures none { IfErr result (EndsByLine self.old part.now) }
+        ensures many { IfErr result (TellsTooMany self.old part.now) }
     {
         match done {
             Done::Malformed(told) => return self.take_malformed(scratch, part, *told),
@@ -253,6 +237,7 @@ impl<'a> Reading<'a> {
         ensures each { OnOk result (TakesLine self.old part.now self.new) }
         ensures all { OnOk result (KeepsLine self.old part.now self.new) }
         ensures none { IfErr result (EndsByLine self.old part.now) }
+        ensures many { IfErr result (TellsTooMany self.old part.now) }
     {
         if !part.gave_nothing() {
             return Err(TranscriptFault::NotARun(part.line().number));
@@ -283,6 +268,7 @@ impl<'a> Reading<'a> {
         ensures each { OnOk result (TakesLine self.old part.now self.new) }
         ensures all { OnOk result (KeepsLine self.old part.now self.new) }
         ensures none { IfErr result (EndsByLine self.old part.now) }
+        ensures many { IfErr result (TellsTooMany self.old part.now) }
     {
         if !part.gave_nothing() {
             return Err(TranscriptFault::NotARun(part.line().number));
@@ -306,6 +292,7 @@ impl<'a> Reading<'a> {
         ensures each { OnOk result (TakesLine self.old part.now self.new) }
         ensures all { OnOk result (KeepsLine self.old part.now self.new) }
         ensures none { IfErr result (EndsByLine self.old part.now) }
+        ensures many { IfErr result (TellsTooMany self.old part.now) }
     {
         self.within = false;
         if part.gave_nothing() {
@@ -327,6 +314,7 @@ impl<'a> Reading<'a> {
         ensures each { OnOk result (TakesLine self.old part.now self.new) }
         ensures all { OnOk result (KeepsLine self.old part.now self.new) }
         ensures none { IfErr result (EndsByLine self.old part.now) }
+        ensures many { IfErr result (TellsTooMany self.old part.now) }
     {
         if part.gave_nothing() {
             return Ok(());
@@ -342,6 +330,7 @@ impl<'a> Reading<'a> {
         ensures each { OnOk result (TakesLine (in_run self.old) part.now self.new) }
         ensures all { OnOk result (KeepsComing (in_run self.old) part.now self.new) }
         ensures none { IfErr result (ComesToNone (in_run self.old) part.now) }
+        ensures many { IfErr result (TellsTooMany (in_run self.old) part.now) }
     {
         let events = match events_of(self.alloc, scratch, part) {
             Ok(events) => events,
@@ -374,6 +363,7 @@ impl<'a> Reading<'a> {
         ensures each { OnOk result (TakesLine (in_run self.old) part.now self.new) }
         ensures all { OnOk result (KeepsLine (in_run self.old) part.now self.new) }
         ensures none { IfErr result (λ fault. Accuses fault → ⊥) }
+        ensures many { IfErr result (TellsTooMany (in_run self.old) part.now) }
     {
         let events = match events_of(self.alloc, scratch, part) {
             Ok(events) => events,
@@ -402,6 +392,7 @@ impl<'a> Reading<'a> {
         ensures each { OnOk result (TakesPart earlier.now self.old part.now self.new) }
         ensures all { OnOk result (KeepsAll earlier.now self.old part.now self.new) }
         ensures none { IfErr result (EndsBy earlier.now self.old part.now) }
+        ensures many { IfErr result (TellsTooMany self.old part.now) }
     {
         match self.is_same_setup(scratch, part) {
             Ok(true) => {}
@@ -423,6 +414,7 @@ impl<'a> Reading<'a> {
     ) -> Result<bool, TranscriptFault>
         ensures same { IfOk result (λ same. IsTrue same ↔ (setup_in part.now.line.bytes ≡ Ok self.now.setup)) }
         ensures none { IfErr result (λ fault. Accuses fault → setup_in part.now.line.bytes ≡ Ok self.now.setup → ⊥) }
+        ensures many { IfErr result (TellsTooMany self.now part.now) }
     {
         match opened_setup(self.alloc, scratch, part.line()) {
             Ok(setup) => Ok(are_equal(&setup, self.setup)),
@@ -444,6 +436,7 @@ impl<'a> Reading<'a> {
         ensures each { OnOk result (TakesPart earlier.now self.old part.now self.new) }
         ensures all { OnOk result (KeepsAll earlier.now self.old part.now self.new) }
         ensures none { IfErr result (EndsBy earlier.now self.old part.now) }
+        ensures many { IfErr result (TellsTooMany self.old part.now) }
     {
         let nodes = nodes_of(self.setup);
         let Some(member) = member_spelled(nodes, &opened.party) else {
@@ -477,6 +470,7 @@ impl<'a> Reading<'a> {
         ensures each { OnOk result (TakesLine self.old part.now self.new) }
         ensures all { OnOk result (KeepsLine self.old part.now self.new) }
         ensures none { IfErr result (EndsByLine self.old part.now) }
+        ensures many { IfErr result (TellsTooMany self.old part.now) }
     {
         if !one_is_of(self.ways.as_slice(), &opened.party) {
             return Err(TranscriptFault::Wrong(opened.number));

@@ -7,6 +7,7 @@ ghost use Rattle.transcripts.specs.Covering.{IsComplete};
 ghost use Rattle.transcripts.specs.Following.{IsNew, IsRead, IsTranscriptOf};
 ghost use Rattle.transcript_parts.specs.Lines.{lines_in};
 ghost use Rattle.transcripts.specs.Told.{IsTold};
+ghost use Rattle.transcripts.specs.Ways.{TooManyFit};
 
 use crate::reading::Reading;
 use crate::source::Source;
@@ -87,6 +88,7 @@ fn read_parts<'a>(
     ensures each { IfOk result (IsRead setup.now earlier.now (lines_in text.now) []) }
     ensures all { IfOk result (IsComplete setup.now earlier.now (lines_in text.now) []) }
     ensures none { IfErr result (AccusesRightly setup.now earlier.now text.now) }
+    ensures many { IfErr result (TooManyFit setup.now earlier.now text.now) }
 {
     parts_are_unique();
     let mut lines = Lines::new(text);
@@ -126,6 +128,7 @@ pub fn read_transcript<'a>(
     ensures setup { IfOk result (λ t. t.replay.setup ≡ setup.now) }
     ensures new { IfOk result (λ t. IsNew earlier.now (party_of t.replay.member)) }
     ensures none { IfErr result (AccusesRightly setup.now earlier.now text.now) }
+    ensures many { IfErr result (TooManyFit setup.now earlier.now text.now) }
 {
     match read_parts(alloc, scratch, setup, text, earlier) {
         Ok(reading) => match reading.into_first() {

@@ -9,18 +9,20 @@ ghost use Rattle.stored_laws.specs.Nodes.{last_serial};
 ghost use Rattle.transcripts.specs.Exact.{OnlyGives, WouldChange};
 ghost use Rattle.transcripts.specs.Following.{FitsEntry, Gives, StandsAt, TellsMalformed, TellsRefused, TellsSkipped, opening_told, restarted};
 ghost use Rattle.transcripts.specs.Told.{IsTold};
+ghost use Rattle.transcripts.specs.Ways.{IsRepeated, Repeats};
 ghost use Rattle.transcript_parts.specs.declared.line_read.Ending.TheVariants.{Answered};
 ghost use Rattle.world_laws.specs.Laws.{IsSetup};
 
 use crate::line_events::LineEvent;
 use crate::malformed::is_same_fault;
+use crate::members::member_spelled;
 use crate::source::Source;
 use histories::Entry;
 use json_text::JsonFault;
 use node_replay::{NodeReplay, ReplayFault, Replayed};
 use node_steps::NodeFault;
 use ocpi_text::Party;
-use ocpi_types::{Node, NodeEvent, Packet};
+use ocpi_types::{Node, NodeEvent, NodeEventKind, Packet};
 use packet_equality::is_equal_packets;
 use std::alloc::{AllocError, Global};
 use std::marker::Model;
@@ -149,6 +151,43 @@ fn changed_where(fits: bool, changed: bool) -> Option<bool>
     if fits { Some(changed) } else { None }
 }
 
+/// An event of an entry comes to another node, or that starts again as its node did. Whether it is entered there. An error
+/// is want of memory.
+fn repeat(replay: &mut NodeReplay<'_>, entry: &Entry) -> Result<bool, AllocError>
+    ensures { IfOk result (λ done. IsTrue done → Repeats (entry.now ∷ []) replay.old replay.new) }
+{
+    let event = match entry.event.copy() {
+        Ok(event) => event,
+        Err(_) => return Err(AllocError),
+    };
+    match event {
+        NodeEventKind::Restart => match replay.restart() {
+            Ok(()) => Ok(true),
+            Err(_) => Err(AllocError),
+        },
+        other => match replay.apply(other) {
+            Ok(Replayed::Stepped { .. }) => Ok(true),
+            Ok(Replayed::Skipped) => Ok(false),
+            Err(ReplayFault::Core(_)) => Ok(false),
+            Err(ReplayFault::Memory) => Err(AllocError),
+        },
+    }
+}
+
+/// The events of entries come to another node. Whether each is entered there. An error is want of memory.
+fn repeat_all(replay: &mut NodeReplay<'_>, entries: &[Entry]) -> Result<bool, AllocError>
+    ensures { IfOk result (λ done. IsTrue done → Repeats entries.now replay.old replay.new) }
+{
+    for entry in entries {
+        match repeat(replay, entry) {
+            Ok(true) => {}
+            Ok(false) => return Ok(false),
+            Err(_) => return Err(AllocError),
+        }
+    }
+    Ok(true)
+}
+
 impl<'a> Way<'a> {
     /// A node before its first event. An error is want of memory.
     pub(crate) fn open(
@@ -272,6 +311,30 @@ impl<'a> Way<'a> {
         sources.push(Source::Restarted)?;
         let replay = self.replay.restarted_copy()?;
         Ok(Way { replay, sources })
+    }
+
+    /// A way of another node, to which all that came to this one comes once more. None where that is refused there, or no
+    /// node is of that party. An error is want of memory.
+    pub(crate) fn repeated(
+        &self,
+        alloc: Global,
+        nodes: &'a [Node],
+    ) -> Result<Option<Way<'a>>, AllocError>
+        requires { IsSetup nodes.now }
+        ensures { IfOk result (λ again. IfSome again (IsRepeated nodes.now self.now)) }
+    {
+        self.is_told();
+        let Some(member) = member_spelled(nodes, self.party()) else {
+            return Ok(None);
+        };
+        let mut replay = NodeReplay::open(alloc, nodes, member)?;
+        match repeat_all(&mut replay, self.entries()) {
+            Ok(true) => {}
+            Ok(false) => return Ok(None),
+            Err(_) => return Err(AllocError),
+        }
+        let sources = Vec::from_slice(alloc, self.sources.as_slice())?;
+        Ok(Some(Way { replay, sources }))
     }
 
     /// Whether the node is of the party of a run that was opened, with a last packet of that serial.

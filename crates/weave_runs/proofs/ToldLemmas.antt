@@ -16,6 +16,7 @@ use Rattle.tables.proofs.Elements.{in_none, in_single}
 use Rattle.transcripts.specs.Accusing.{AccusesRightly}
 use Rattle.transcripts.specs.Following.{IsTranscriptOf}
 use Rattle.transcripts.specs.Told.{IsTold, Told}
+use Rattle.transcripts.specs.Ways.{TooManyFit}
 use Rattle.transcript_parts.specs.declared.fault.TranscriptFault.{TranscriptFault}
 use Rattle.weave_runs.specs.Accusations.{RefusesAt}
 use Rattle.weave_runs.specs.declared.told.TranscriptFile.{TranscriptFile}
@@ -86,10 +87,11 @@ module _ (setup : List Node) where
       each j g u here there =
           both j g u (got_pushed (take i files) f j g (sym (ap (λ fs. slice_get fs j) (take_one files i f at)) ∙ here)) (got_pushed told t j u there)
 
-  -- the one behind them is refused, by a fault that accuses rightly
+  -- the one behind them is refused, by a fault that accuses rightly, or tells rightly that too many ways are left
   pub refuses_here : (files : List TranscriptFile) (told earlier : List Told) (i : ℕ) (f : TranscriptFile) (name : List ℕ) (fault of : TranscriptFault) → slice_get files i ≡ Some f
-      → AreTranscripts setup (take i files) told → f.name.now ≡ name → earlier ≡ told → fault ≡ of → AccusesRightly setup earlier f.text.now fault → RefusesAt setup files name of
-  refuses_here files told earlier i f name fault of at are is same fault_is rightly = record {
+      → AreTranscripts setup (take i files) told → f.name.now ≡ name → earlier ≡ told → fault ≡ of → AccusesRightly setup earlier f.text.now fault → TooManyFit setup earlier f.text.now fault
+      → RefusesAt setup files name of
+  refuses_here files told earlier i f name fault of at are is same fault_is rightly many = record {
     front = take i files;
     file = f;
     behind = drop (i + 1) files;
@@ -98,6 +100,7 @@ module _ (setup : List Node) where
     told = told;
     are_transcripts = are;
     rightly = subst (AccusesRightly setup told f.text.now) fault_is (subst (λ (ts : List Told). AccusesRightly setup ts f.text.now fault) same rightly);
+    many = subst (TooManyFit setup told f.text.now) fault_is (subst (λ (ts : List Told). TooManyFit setup ts f.text.now fault) same many);
   }
 
 -- ---- all of them

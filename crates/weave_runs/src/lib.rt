@@ -33,12 +33,15 @@
 //! - Where that is `NotARun` or `WrongTranscript`, no history that leaves its node no choice has the file for its
 //!   transcript; and where the first file has no beginning, none of any setup has. By the same (`AccusesRightly` of
 //!   `transcripts/specs/Accusing`; `HasNoBeginning`).
+//! - Where it is `TooManyWays`, more than 64 histories fit that file up to the line that is named. It is never told of
+//!   a first file that has no beginning. By the same (`TooManyFit` of `transcripts/specs/Ways`; `HasNoBeginning`).
 //! - Where writing fails, a beginning of that is written. By `run_weave`: `err`.
-//! - Which line such a refusal names, and by which of the two. No clause says so (tested (examples)).
+//! - Which line `NotARun` or `WrongTranscript` names, and which of the two it is. No clause says so (tested by the
+//!   examples).
 //! - No files give nothing, and nothing else does. By `run_weave`: `ok` (`IsRunText`).
-//! - Nothing is written before all of it is made. No clause says so (tested (examples)).
+//! - Nothing is written before all of it is made. No clause says so (tested by the examples).
 //! - What standard error says beside a refusal is so: who has no file, and which member differs first. No clause says
-//!   so (tested (examples)).
+//!   so (tested by the examples).
 #![tactic(auto)]
 
 ghost use Rattle.std.specs.Prelude.{◌≡◌, IfErr, IfOk, List, ℕ, string_bytes, take};

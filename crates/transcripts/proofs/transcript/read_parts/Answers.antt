@@ -6,6 +6,7 @@ use Rattle.transcript_parts.proofs.PartLemmas.{part_shortens}
 use Rattle.transcripts.specs.Following.{IsRead}
 use Rattle.transcripts.proofs.FollowingLemmas.{more_read, nothing_read, reading}
 use Rattle.transcripts.proofs.HistoryLemmas.{KnowsAll, accused_lines, accused_part, knows_more, knows_nothing, knows_whole}
+use Rattle.transcripts.proofs.TooManyLemmas.{no_part_fits, too_many_fit}
 use Rattle.transcripts.proofs.transcript.read_parts.Goals as goal
 
 pub loop-part-init : goal.loop-part-init
@@ -58,3 +59,14 @@ returns-in-Err-take-clause-none c =
     subst (λ o. IfSome o (λ p. IsPart c.loop-part.lines p c.next_part.new.lines)) c.in-Ok-Some.field-0-is c.in-Ok-Some.ensures.some in
     accused_part c.args.setup.now c.args.earlier.now (lines_in c.args.text.now) c.loop-part.lines c.loop-part.reading c.loop-part.invariant.knows c.next_part.new.lines c.in-Ok-Some.part
     c.parts_are_unique.ensures c.loop-part.invariant.is_read.setup_is is c.args.text.now c.in-Err-take.fault refl c.in-Err-take.ensures.none
+
+pub returns-in-Err-clause-many : goal.returns-in-Err-clause-many
+returns-in-Err-clause-many c =
+    no_part_fits c.args.setup.now c.args.earlier.now c.args.text.now c.loop-part.lines c.in-Err.fault c.in-Err.ensures.wrong
+
+pub returns-in-Err-take-clause-many : goal.returns-in-Err-take-clause-many
+returns-in-Err-take-clause-many c =
+    let is : IsPart c.loop-part.lines c.in-Ok-Some.part c.next_part.new.lines =
+    subst (λ o. IfSome o (λ p. IsPart c.loop-part.lines p c.next_part.new.lines)) c.in-Ok-Some.field-0-is c.in-Ok-Some.ensures.some in
+    too_many_fit c.args.setup.now c.args.earlier.now c.args.text.now c.loop-part.lines c.next_part.new.lines c.loop-part.reading c.in-Ok-Some.part c.loop-part.invariant.is_read is c.in-Err-take.fault
+    c.in-Err-take.ensures.many

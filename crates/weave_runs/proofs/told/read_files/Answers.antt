@@ -21,10 +21,10 @@ loop-file-preserved c =
 pub returns-in-Err-clause-err : goal.returns-in-Err-clause-err
 returns-in-Err-clause-err c =
     refuses_here c.args.setup.now c.args.files.now c.loop-file.transcripts.items _ c.loop-file.file-index _ _ _ _ (slice_get-get_or c.args.files.now c.loop-file.file-index _ (omega arith))
-    c.loop-file.invariant.1 (sym c.of.ensures.name) c.as_slice-earlier.ensures.value (sym c.of.ensures.fault) c.in-Err.ensures.none
+    c.loop-file.invariant.1 (sym c.of.ensures.name) c.as_slice-earlier.ensures.value (sym c.of.ensures.fault) c.in-Err.ensures.none c.in-Err.ensures.many
 
 pub returns-in-Err-push-clause-err : goal.returns-in-Err-push-clause-err
 returns-in-Err-push-clause-err c =
     refuses_here c.args.setup.now c.args.files.now c.loop-file.transcripts.items c.loop-file.transcripts.items c.loop-file.file-index _ _ Memory _
     (slice_get-get_or c.args.files.now c.loop-file.file-index _ (omega arith)) c.loop-file.invariant.1 (sym c.of-in-Err-push.ensures.name) refl (sym c.of-in-Err-push.ensures.fault)
-    (λ accused. absurd accused)
+    (λ accused. absurd accused) tt

@@ -23,5 +23,6 @@ returns c =
       none = λ accused setup t is.
           let begins = c.transcripts_have_beginnings.ensures setup [] c.in-Some.first.now.text.now t is in
           c.in-Err.ensures.none accused begins.0 setup begins.1;
+      one_way = c.in-Err.ensures.named;
     } in
     ok_more c.refused_file.result (λ w is. file_refused c.args.words.now c.args.files.now _ _ (AtFirst refuses) w is) c.refused_file.ensures

@@ -1,9 +1,11 @@
 use Rattle.std.proofs.Common.{◌≡◌, ◌<◌, List, length, refl, ap, subst, ◌∙◌, rules, arith}
 use Rattle.transcripts.specs.Covering.{LosesNone}
-use Rattle.transcripts.specs.Following.{AllCome}
+use Rattle.transcripts.specs.Diverging.{KeepDiverged}
+use Rattle.transcripts.specs.Following.{AllCome, in_run}
 use Rattle.transcripts.specs.LineEvents.{LineEvent}
 use Rattle.transcripts.proofs.AccusingLemmas.{comes_in_no_shape, comes_to_no_way, comes_to_none, keeps_happened, nothing_in}
 use Rattle.transcripts.proofs.FollowingLemmas.{happened}
+use Rattle.transcripts.proofs.TooManyLemmas.{no_events_tell}
 use Rattle.transcripts.proofs.reading.Reading.happen.Goals as goal
 
 pub returns-in-Err-clause-none : goal.returns-in-Err-clause-none
@@ -30,6 +32,7 @@ returns-clause-each c =
     (ap (λ r. r.setup) c.self.view_is) (ap (λ r. r.within) c.self.view_is ∙ c.requires.within) (ap (λ r. r.unanswered) c.self.view_is)
     (subst (λ ws. AllCome ws line.events c.args.part.now c.happen_in_ways.new.ways.items) (ap (λ r. r.ways) c.self.view_is)
     (subst (λ (es : List LineEvent). AllCome c.self.inside.ways.items es c.args.part.now c.happen_in_ways.new.ways.items) c.events.ensures c.in-Ok-happen_in_ways.ensures.come))
+    (subst (λ ws. KeepDiverged ws c.happen_in_ways.new.ways.items) (ap (λ r. r.ways) c.self.view_is) c.in-Ok-happen_in_ways.ensures.diverge)
     (λ none. let long = ap length none in absurd (omega (arith, some, long))) c.requires.shows
 
 pub returns-clause-all : goal.returns-clause-all
@@ -39,3 +42,6 @@ returns-clause-all c =
     (subst (λ ws. LosesNone ws line.events c.args.part.now c.happen_in_ways.new.ways.items) (ap (λ r. r.ways) c.self.view_is)
     (subst (λ (es : List LineEvent). LosesNone c.self.inside.ways.items es c.args.part.now c.happen_in_ways.new.ways.items) c.events.ensures c.in-Ok-happen_in_ways.ensures.none_lost))
     _ refl (ap (λ r. r.within) c.self.view_is ∙ c.requires.within) (ap (λ r. r.unanswered) c.self.view_is)
+
+pub returns-in-Err-clause-many : goal.returns-in-Err-clause-many
+returns-in-Err-clause-many c = no_events_tell (in_run c.args.self.now) c.args.part.now c.in-Err.fault c.in-Err.ensures.fault

@@ -1,11 +1,10 @@
 use Rattle.std.proofs.Common.{◌≡◌, [], ◌∷◌, ◌++◌, None, true, refl, sym, ap, subst, ◌∙◌, rules, arith}
 use Rattle.std.specs.Prelude.{Contains}
 use Rattle.ocpi_types.specs.Setups.{party_of}
-use Rattle.ocpi_types.specs.declared.setup.Node.{Node}
 use Rattle.transcript_lines.specs.declared.done.Done.TheVariants as done
 use Rattle.transcript_parts.specs.declared.line_read.Ending.TheVariants.{Answered}
 use Rattle.transcripts.specs.Following.{IsNew, opening_told}
-use Rattle.transcripts.proofs.AccusingLemmas.{ends_first_otherwise, ends_no_member, ends_not_new, keeps_first}
+use Rattle.transcripts.proofs.AccusingLemmas.{keeps_first}
 use Rattle.transcripts.proofs.FollowingLemmas.{opened_first, reading}
 use Rattle.world_laws.specs.Laws.{IsSetup}
 use Rattle.transcripts.proofs.reading.Reading.open_first.Goals as goal

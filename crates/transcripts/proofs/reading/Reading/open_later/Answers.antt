@@ -1,6 +1,7 @@
 use Rattle.std.proofs.Common.{◌≡◌, ◌<◌, ◌∙◌, length, refl, sym, ap, subst, rules, arith}
 use Rattle.std.specs.Prelude.{Contains}
 use Rattle.transcripts.specs.Covering.{LosesNoneByRun}
+use Rattle.transcripts.specs.Diverging.{KeepDiverged}
 use Rattle.transcripts.specs.Following.{AllGoOn}
 use Rattle.transcripts.proofs.AccusingLemmas.{ends_later_shown, ends_no_way, ends_other_party, keeps_later, nothing_in}
 use Rattle.transcripts.proofs.FollowingLemmas.{opened_later}
@@ -28,6 +29,7 @@ returns-clause-each c =
     opened_later c.args.self.now _ c.args.part.now c.args.opened c.requires.setup
     (c.gave_nothing.ensures.0 (search rules)) c.requires.opened
     (ap (λ r. r.setup) c.self.view_is) refl refl (subst (λ r. AllGoOn r.ways r.unanswered c.args.opened c.go_on.new.ways.items) c.self.view_is c.in-Ok.ensures.go_on)
+    (subst (λ ws. KeepDiverged ws c.go_on.new.ways.items) (ap (λ r. r.ways) c.self.view_is) c.in-Ok.ensures.diverge)
     (λ none. let long = ap length none in absurd (omega (arith, some, long)))
 
 pub returns-clause-all : goal.returns-clause-all

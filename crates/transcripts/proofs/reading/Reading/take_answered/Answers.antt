@@ -1,6 +1,8 @@
 use Rattle.std.proofs.Common.{subst}
+use Rattle.std.specs.Prelude.{IfErr}
 use Rattle.transcripts.specs.Accusing.{ComesToNone, EndsByLine}
 use Rattle.transcripts.specs.Following.{TakesLine, in_run}
+use Rattle.transcripts.specs.Ways.{TellsTooMany}
 use Rattle.transcripts.proofs.AccusingLemmas.{OnlyComes, answered_comes, ends_coming, err_more, keeps_coming}
 use Rattle.transcripts.proofs.FollowingLemmas.{in_run_is}
 use Rattle.transcripts.proofs.WayLemmas.{on_more}
@@ -24,3 +26,6 @@ returns-else-is_starved-clause-none c =
     (λ is. absurd (cc (c.is_starved.ensures.1 is, c.if-is_starved.false))) c.requires.opens_none in
     err_more (ComesToNone (in_run c.args.self.now) c.args.part.now) (EndsByLine c.args.self.now c.args.part.now) c.happen.result (λ f. ends_coming c.args.self.now c.args.part.now f only)
     c.happen.ensures.none
+
+pub returns-else-is_starved-clause-many : goal.returns-else-is_starved-clause-many
+returns-else-is_starved-clause-many c = subst (λ r. IfErr c.happen.result (TellsTooMany r c.args.part.now)) (in_run_is c.args.self.now c.requires.within) c.happen.ensures.many

@@ -1,6 +1,8 @@
 use Rattle.std.proofs.Common.{inr, refl, subst, rules}
+use Rattle.std.specs.Prelude.{IfErr}
 use Rattle.transcripts.specs.Accusing.{ComesToNone, EndsByLine}
 use Rattle.transcripts.specs.Following.{Last, TakesLine, in_run}
+use Rattle.transcripts.specs.Ways.{TellsTooMany}
 use Rattle.transcripts.proofs.AccusingLemmas.{OnlyComes, ends_coming, err_more, keeps_coming, keeps_last, shown_comes}
 use Rattle.transcripts.proofs.FollowingLemmas.{in_run_is, passes_line}
 use Rattle.transcripts.proofs.WayLemmas.{on_more}
@@ -28,3 +30,6 @@ returns-clause-none c =
     shown_comes c.args.self.now c.args.part.now c.requires.within (inr c.requires.end) (λ gave. absurd (cc (c.gave_nothing.ensures.1 gave, c.if-gave_nothing.false))) in
     err_more (ComesToNone (in_run c.args.self.now) c.args.part.now) (EndsByLine c.args.self.now c.args.part.now) c.happen.result (λ f. ends_coming c.args.self.now c.args.part.now f only)
     c.happen.ensures.none
+
+pub returns-clause-many : goal.returns-clause-many
+returns-clause-many c = subst (λ r. IfErr c.happen.result (TellsTooMany r c.args.part.now)) (in_run_is c.args.self.now c.requires.within) c.happen.ensures.many

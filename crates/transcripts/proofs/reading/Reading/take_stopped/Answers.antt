@@ -3,6 +3,7 @@ use Rattle.std.specs.Prelude.{IfErr, OnOk}
 use Rattle.transcript_parts.specs.Beginnings.{Accuses}
 use Rattle.transcripts.specs.Accusing.{ComesToNone, EndsByLine, KeepsComing, KeepsLine}
 use Rattle.transcripts.specs.Following.{TakesLine, in_run}
+use Rattle.transcripts.specs.Ways.{TellsTooMany}
 use Rattle.transcripts.proofs.AccusingLemmas.{OnlyComes, ends_coming, err_more, keeps_coming, shown_comes}
 use Rattle.transcripts.proofs.FollowingLemmas.{in_run_is}
 use Rattle.transcripts.proofs.WayLemmas.{on_more}
@@ -37,3 +38,11 @@ returns-else-gave_nothing-clause-none c =
     shown_comes c.args.self.now c.args.part.now c.requires.within (inl c.requires.stopped) (λ gave. absurd (cc (c.gave_nothing.ensures.1 gave, c.if-gave_nothing.false))) in
     err_more (ComesToNone (in_run c.args.self.now) c.args.part.now) (EndsByLine c.args.self.now c.args.part.now) c.happen.result (λ f. ends_coming c.args.self.now c.args.part.now f only)
     (subst (λ r. IfErr c.happen.result (ComesToNone r c.args.part.now)) (ap in_run c.self.view_is) c.happen.ensures.none)
+
+pub returns-then-gave_nothing-clause-many : goal.returns-then-gave_nothing-clause-many
+returns-then-gave_nothing-clause-many c = subst (λ r. IfErr c.leave_open.result (TellsTooMany r c.args.part.now))
+    (ap in_run c.self.view_is ∙ in_run_is c.args.self.now c.requires.within) c.leave_open.ensures.many
+
+pub returns-else-gave_nothing-clause-many : goal.returns-else-gave_nothing-clause-many
+returns-else-gave_nothing-clause-many c = subst (λ r. IfErr c.happen.result (TellsTooMany r c.args.part.now))
+    (ap in_run c.self.view_is ∙ in_run_is c.args.self.now c.requires.within) c.happen.ensures.many

@@ -6,7 +6,7 @@ use Rattle.histories.proofs.Lists.{take_one}
 use Rattle.ocpi_types.specs.Setups.{party_of}
 use Rattle.transcripts.specs.Told.{Told}
 use Rattle.transcripts.proofs.WayLemmas.{one_more}
-use Rattle.transcripts.proofs.reading.one_is_of.Goals as goal
+use Rattle.transcripts.proofs.members.one_is_of.Goals as goal
 
 pub loop-way-preserved : goal.loop-way-preserved
 loop-way-preserved c =
