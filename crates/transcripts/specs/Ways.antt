@@ -1,5 +1,5 @@
--- When there are too many ways: where more than 64 histories fit a file up to a line that a stop left open, with that line or
--- without it.
+-- When there are too many ways: where more than 64 histories fit a file up to a line that a stop left open, with that
+-- line or without it.
 use Rattle.std.specs.Prelude.{◌≡◌, ◌<◌, ◌++◌, ◌∷◌, ℕ, true, List, [], Some, Contains, length}
 use Rattle.histories.specs.declared.entry.Entry.{Entry}
 use Rattle.history_laws.specs.Replays.{EntryStep}
@@ -64,7 +64,8 @@ pub record AreTooMany (P : Told → Type 0) : Type 0 where
 abbrev pub GoesOnFrom : List Told → LineEvents → Told → Type 0
 GoesOnFrom ways h t = (s : Told) × Contains ways s × GoesOn s (Some h) t
 
--- the line may be carried out there, and then changes a row; that is so of one with several events where the node had no choice
+-- the line may be carried out there, and then changes a row; that is so of one with several events where the node had no
+-- choice
 abbrev pub MayBeCarriedOut : List Node → Told → LineEvents → Type 0
 MayBeCarriedOut setup way h = way.replay.setup ≡ setup → (h.several ≡ true → HadNoChoice way.replay) → (t : Told) × CarriedOut way h t
 
@@ -104,8 +105,8 @@ pub record FitsUpTo (setup : List Node) (earlier : List Told) (all lines : List 
 abbrev pub LeftNoChoice : List Node → List Told → List Line → List Line → Type 0
 LeftNoChoice setup earlier all lines = (s : Standing) (t : Told) → ReadTo setup earlier all lines s → s.told ≡ Some t → HadNoChoice t.replay
 
--- Up to some lines of the file, and with the line of that number, which a stop left open there, more than 64 histories fit. Of
--- a line with several events that is so where they left the node no choice.
+-- Up to some lines of the file, and with the line of that number, which a stop left open there, more than 64 histories
+-- fit. Of a line with several events that is so where they left the node no choice.
 pub record FitTooMany (setup : List Node) (earlier : List Told) (text : List ℕ) (n : ℕ) : Type 0 where
   pub lines : List Line
   pub line : LineEvents

@@ -27,7 +27,7 @@
 //! - In each transcript a run is opened, whose line is the setup. Before the first one each line is refused as the
 //!   first one of a run, or a stop left it. By law `transcripts_have_beginnings`.
 //! - `TooManyWays` is told only where more than 64 histories fit the file up to the line that it names, which a stop
-//!   left. Each goes on with that line or without it, and each two have an entry from different places. By
+//!   left. They go on with that line or without it, and any two differ in the place from which some entry comes. By
 //!   `read_transcript`: `many` (`TooManyFit` of `specs/Ways`).
 //! - Of a line with several events that is said where all histories that fit up to there left the node no choice. By
 //!   the same (`LeftNoChoice`).
