@@ -130,6 +130,7 @@ pub fn list_in<'t, 'a>(object: &'t Tree<'a>, field: Field) -> Result<&'t [Tree<'
 /// A text that is compared without case, of at most `MAX` characters.
 #[tactic(auto, unfolding(crate::specs::Fields::ci_in))]
 pub fn ci_in<const MAX: usize>(object: &Tree<'_>, field: Field) -> Result<CiText<MAX>, JsonFault>
+    requires { MAX ≤ 255 }
     ensures { result ≡ ci_in MAX field (view object.now) }
 {
     match CiText::new(text_in(object, field)?) {
@@ -144,6 +145,7 @@ pub fn optional_ci_in<const MAX: usize>(
     object: &Tree<'_>,
     field: Field,
 ) -> Result<Option<CiText<MAX>>, JsonFault>
+    requires { MAX ≤ 255 }
     ensures { result ≡ optional (ci_in MAX) field (view object.now) }
 {
     if is_absent(object, field) {
@@ -174,7 +176,8 @@ pub fn short_in<const MAX: usize, const BYTES: usize>(
     object: &Tree<'_>,
     field: Field,
 ) -> Result<ShortText<MAX, BYTES>, JsonFault>
-    requires { 4 * MAX ≤ BYTES }
+    requires room { 4 * MAX ≤ BYTES }
+    requires small { BYTES ≤ 65_535 }
     ensures { result ≡ free_in MAX field (view object.now) }
 {
     match ShortText::new(text_in(object, field)?) {

@@ -57,6 +57,7 @@ pub fn counter_of(key: &str) -> Option<Counter>
 /// A text of at most `MAX` characters in key form.
 #[tactic(auto, unfolding(crate::specs::RowKeys::ci_key_at))]
 pub fn ci_key_of<const MAX: usize>(key: &str) -> Option<CiKey<MAX>>
+    requires { MAX ≤ 255 }
     ensures { result ≡ ci_key_at MAX key.now }
 {
     match CiText::new(key) {

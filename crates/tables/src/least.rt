@@ -8,8 +8,5 @@ use ocpi_text::{CiKey, CiText};
 pub fn least_text<const MAX: usize>() -> CiKey<MAX>
     ensures { result ≡ [] }
 {
-    match CiText::<MAX>::new("") {
-        Ok(text) => text.key(),
-        Err(_) => unreachable!(),
-    }
+    CiText::empty().key()
 }
