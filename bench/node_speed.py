@@ -4,7 +4,7 @@
     bench/node_speed.py PROGRAM INPUT [--party PARTY] [--runs 5] [--stored 10000] [--starts 15] [--records 100000]
         [--deliveries 5000] [--disk FOLDER] [--only lines|stores|starts|records|several]
 
-PROGRAM is `ocpi_nodes`, and INPUT one of `play` in which a charge ends, as `examples/charge.jsonl`. It is cut into an
+PROGRAM is `ocpi_nodes`, and INPUT one of `play` in which a charge ends, as `examples/play/charge/in.jsonl`. It is cut into an
 input of `node` for each node of its setup, or for PARTY alone: the events of that node, in which a delivery has the
 packet that its sender wrote in `play`. It tells
 

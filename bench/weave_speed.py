@@ -3,7 +3,7 @@
 
     bench/weave_speed.py PROGRAM [--lines 100000] [--runs 5]
 
-PROGRAM is `ocpi_nodes`. The charge of examples/charge.jsonl happens again and again, until the transcripts of its operator
+PROGRAM is `ocpi_nodes`. The charge of examples/play/charge/in.jsonl happens again and again, until the transcripts of its operator
 and its provider (`node PARTY --echo`, without stops) have so many lines each, by their mean. It tells the processor time of
 `weave` over both, beside that of `play` over the run that it writes, and the ratio, which is wanted to be at most 2.0. Each
 figure is a median. It also sees that `play` gives just the packets of the transcripts. The status is 1 where the ratio is
@@ -44,7 +44,7 @@ def again(event, count):
 
 def events_of(charges):
     """The setup line, and the events of so many charges."""
-    with open(f"{TOP}/examples/charge.jsonl", "rb") as file:
+    with open(f"{TOP}/examples/play/charge/in.jsonl", "rb") as file:
         setup, *lines = file.read().splitlines(keepends=True)
     events = [json.loads(line) for line in lines]
     first = next(at for at, event in enumerate(events) if event["event"] == "submit")

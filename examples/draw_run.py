@@ -1,8 +1,8 @@
 #!/usr/bin/env python3
 """Draws a run of `ocpi_nodes play` as a sequence picture in SVG, or tells it in words.
 
-    examples/draw_run.py examples/charge.jsonl examples/charge.out > charge.svg
-    ./ocpi_nodes play < examples/charge.jsonl | examples/draw_run.py --text examples/charge.jsonl
+    examples/draw_run.py examples/play/charge/in.jsonl examples/play/charge/out > charge.svg
+    ./ocpi_nodes play < examples/play/charge/in.jsonl | examples/draw_run.py --text examples/play/charge/in.jsonl
 
 The first file is what the program read: a setup, and an event a line. The second, or else the standard input, is what
 it wrote. In the picture a vertical line is a node, and time goes down. Beside its node stands what happened there, with

@@ -10,7 +10,8 @@ quick=$crate/out/quick/ocpi_nodes
 # Beside each of the two stand its listing and its sums, written once it stands, and removed before it is made anew.
 # The listing (each file's name, inode, size and times) is compared at each start, in a few milliseconds. Where it
 # differs, as in a copy of the repository or after a checkout that comes back, the sums (the kit's identity and each
-# file's SHA-256) decide.
+# file's SHA-256) decide. Where the command `rt` is not on the PATH, the kit is taken to be the one that built the
+# program: then what the listing and the sums say of it is taken as it was written.
 
 # Sets `crates` to the crates that the program stands on by crates.txt, lowest first, and the program's own last.
 find_crates() {
@@ -50,8 +51,13 @@ find_sources() {
 # and of the last change of any kind. (The second time tells a writing that sets the first one back.) The first line is
 # that of the command `rt`, which stands for the kit. It ends the process, so it is called in one of its own.
 list_files() {
-    hash rt 2> /dev/null
-    cd "$top" && exec find -H "${BASH_CMDS[rt]:-rt}" "${sources[@]}" "${1#"$top/"}" ! -type d \
+    local kit=() line
+    if hash rt 2> /dev/null; then
+        kit=("${BASH_CMDS[rt]}")
+    elif [[ -f $1.listing ]]; then
+        IFS= read -r line < "$1.listing" && printf '%s\n' "$line"
+    fi
+    cd "$top" && exec find -H "${kit[@]}" "${sources[@]}" "${1#"$top/"}" ! -type d \
         -printf '%p %i %s %T@ %C@\n' 2> /dev/null
 }
 
@@ -60,10 +66,25 @@ list_sources() {
     list_files "$program" | grep -v '^crates/ocpi_nodes/out/'
 }
 
+# Writes the identity of the kit that builds the program $1, or that built it.
+name_kit() {
+    if hash rt 2> /dev/null; then
+        rt version 2> /dev/null
+    else
+        grep -vE '^[0-9a-f]{64}  ' "$1.sums" 2> /dev/null
+    fi
+}
+
 # Writes the kit's identity and the SHA-256 of each source and of the program $1, in the order of their names.
 sum_files() {
-    rt version 2> /dev/null && cd "$top" && find "${sources[@]}" "${1#"$top/"}" -type f -print0 2> /dev/null |
+    name_kit "$1" && cd "$top" && find "${sources[@]}" "${1#"$top/"}" -type f -print0 2> /dev/null |
         LC_ALL=C sort -z | xargs -0 sha256sum
+}
+
+# Sees that the command `rt` is there, before the program is built.
+find_kit() {
+    hash rt 2> /dev/null ||
+        fail "no program stands that was built from today's sources, and the command rt, which builds it, is not on the PATH"
 }
 
 # Whether the file $1 is there and holds the text $2. (`[` compares long texts faster than `[[`.)
@@ -77,12 +98,14 @@ is_listed() {
     [[ -x $1 ]] && holds "$1.listing" "$(list_files "$1")"
 }
 
-# Whether the program $1 was made from the sources as they are, by the sums. Then the listing is written anew.
+# Whether the program $1 was made from the sources as they are, by the sums. Then the listing is written anew, where it
+# can be written.
 is_summed() {
     local now
     [[ -x $1 && -f $1.sums ]] || return
     now=$(list_files "$1")
-    holds "$1.sums" "$(sum_files "$1")" && keep "$1.listing" "$now"
+    holds "$1.sums" "$(sum_files "$1")" || return
+    keep "$1.listing" "$now" 2> /dev/null || :
 }
 
 # Writes the text $2 to the file $1, whole or not at all.
@@ -108,7 +131,7 @@ remember_program() {
 # Builds the program without proofs, from sources that stay as they are meanwhile.
 build_quick() {
     local before started=$SECONDS
-    hash rt 2> /dev/null || fail "the command rt is not on the PATH: the program cannot be built"
+    find_kit
     mkdir -p "${quick%/*}" || fail "cannot write to $crate"
     for _ in 1 2 3; do
         find_sources

@@ -9,7 +9,7 @@ from pathlib import Path
 from .running import PROGRAM, REPOSITORY
 
 DEMO = REPOSITORY / "bridge" / "demo"
-# One charge of 12 kWh, at the 0.25 EUR a kWh of examples/charge.jsonl.
+# One charge of 12 kWh, at the 0.25 EUR a kWh of examples/play/charge/in.jsonl.
 PRINTED = """\
 The operator BE/BEC runs: a bridge and its node.
 The provider NL/TNM runs likewise.

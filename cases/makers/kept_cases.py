@@ -207,7 +207,7 @@ def without_memory(party):
     line("stored", *events[-1][2])
 
 
-# The cases in which each allocation fails once: bench/fail_allocations.sh.
+# The cases in which each allocation fails once: faults/fail_allocations.sh.
 WITHOUT_MEMORY = [
     ("a charge at an operator over its keeper, which is then opened again", lambda: without_memory("BE/BEC")),
     ("a charge at a provider over its keeper, which is then opened again", lambda: without_memory("NL/TNM")),

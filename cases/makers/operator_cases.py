@@ -34,7 +34,7 @@ from operator_session_cases import add_connectors, add_session_cases, open_site_
 from operator_time_cases import add_time_cases
 from operator_token_cases import add_token_cases
 
-# The cases in which each allocation fails once: bench/fail_allocations.sh.
+# The cases in which each allocation fails once: faults/fail_allocations.sh.
 WITHOUT_MEMORY = [
     "a START that comes again has the same answer",
     "a claimed EVSE is occupied for another provider, and for the same one",

@@ -27,7 +27,7 @@ from provider_row_cases import add_row_cases
 
 FINAL = "9999-12-31T23:59:59.999"
 
-# The cases in which each allocation fails once: bench/fail_allocations.sh.
+# The cases in which each allocation fails once: faults/fail_allocations.sh.
 WITHOUT_MEMORY = [
     "a reference goes to one addressee, also across a restart, and all that waits is sent again after it",
     "a token is allowed, with the same reference when the question comes again; one is blocked; one is unknown",

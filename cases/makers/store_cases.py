@@ -480,7 +480,7 @@ def not_moved():
         holds_old(rows, texts)
 
 
-# The cases in which each allocation fails once: bench/fail_allocations.sh.
+# The cases in which each allocation fails once: faults/fail_allocations.sh.
 
 
 def small_old_store(*texts):

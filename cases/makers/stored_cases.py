@@ -259,7 +259,7 @@ def providers_of(opening):
 # ---- all of them
 
 
-# The cases in which each allocation fails once: bench/fail_allocations.sh.
+# The cases in which each allocation fails once: faults/fail_allocations.sh.
 WITHOUT_MEMORY = [
     ("an operator is made of the rows of a charge, and again", lambda: stage("BE/BEC", "COMPLETED, with its record")),
     ("a provider is made of the rows of a charge, and again", lambda: stage("NL/TNM", "the record is held")),

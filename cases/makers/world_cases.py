@@ -1,8 +1,8 @@
 """The part `worlds` of the cases of the program `case_lines`: events in worlds of nodes, and what is then asked of them.
 
 What each line must give is told behind it by hand: of an event the rows that it changes, by their kinds and keys, and how many
-packets it sends. The events of a charge are those of the example `charge`, and those by which its bill is taken back are the
-further ones of `credit_with_a_store`; the packets that they send are the next ones of these examples.
+packets it sends. The events of a charge are those of the example `play/charge`, and those by which its bill is taken back are the
+further ones of `stores/credit_with_a_store`; the packets that they send are the next ones of these examples.
 """
 import pathlib
 
@@ -14,13 +14,13 @@ EXAMPLES = pathlib.Path(__file__).resolve().parents[2] / "examples"
 
 def example(name):
     """The input lines of an example, and the packets that its output has."""
-    texts = [EXAMPLES.joinpath(f"{name}.{end}").read_text(encoding="utf-8") for end in ("jsonl", "out")]
+    texts = [EXAMPLES.joinpath(name, file).read_text(encoding="utf-8") for file in ("in.jsonl", "out")]
     given, gives = (text.splitlines() for text in texts)
     return given, [line for line in gives if line.startswith("{")]
 
 
-(SETUP, *CHARGE), PACKETS = example("charge")
-WHOLE, WHOLE_PACKETS = example("credit_with_a_store")
+(SETUP, *CHARGE), PACKETS = example("play/charge")
+WHOLE, WHOLE_PACKETS = example("stores/credit_with_a_store")
 CREDIT, CREDIT_PACKETS = WHOLE[len(CHARGE) + 1 :], WHOLE_PACKETS[len(PACKETS) :]
 assert WHOLE == [SETUP, *CHARGE, *CREDIT] and WHOLE_PACKETS == [*PACKETS, *CREDIT_PACKETS]
 SESSION = own_id(b"S", 1, "BE/BEC")

@@ -15,6 +15,13 @@
 //! ```
 //!
 //! At an EVSE at most one authorization is awaited.
+//!
+//! # Promises
+//!
+//! - At an EVSE at most one authorization is awaited. It is found, and those whose deadline is at or before a moment
+//!   are listed by number. By `consistency`, `at`, `due`.
+//! - Changes are made one after the other without memory once there is room for all, and what ends gives its room back.
+//!   By `reserve_all`, `change_all`; laws `waits_change`, `one_each_stays`.
 #![tactic(auto)]
 
 mod awaited;

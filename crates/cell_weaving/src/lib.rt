@@ -1,5 +1,16 @@
 //! The histories of nodes that ran by themselves, each over its keeper, made into one run of their world, or refused.
 //! So what is promised of every world holds of running nodes.
+//!
+//! # Promises
+//!
+//! The same of running nodes, of which nothing need be known but that their cells are of one setup, fresh, and no two
+//! of one party.
+//!
+//! - What happened at the cells is one legal run of the setup's world from its opening. It ends with each cell's node
+//!   and all that this sent, and each other node as it was opened. So the cells are safe, what is acknowledged is held,
+//!   and answers agree. By `weave_cells`: `run` (`IsRunOfCells` of `specs/Cells`).
+//! - They are refused as their histories are, and but for want of memory only where these have no interleaving. By
+//!   `weave_cells`: `err` (`IsNotWoven`).
 #![tactic(auto)]
 
 ghost use Rattle.std.specs.Prelude.{◌≡◌, List, All, IfErr, IfOk, OnOk};

@@ -13,6 +13,17 @@
 //!
 //! What is `owed` is the sum of the costs of the records that are held, each once, in ten-thousandths, however often
 //! each came. The cost of a credit is its bill's, negated, so that both come to 0.
+//!
+//! # Promises
+//!
+//! - A version of a session is taken just where it is news. A bill is taken where no record of its id is held and no
+//!   bill of its session, and a credit likewise. By `session_taking`, `take_session`, `cdr_taking`, `take_cdr`.
+//! - A bill and a credit of one session, of different ids, are no conflict: where the one is held, and nothing else of
+//!   that session, the other is taken. By `take_cdr`: `beside`; law `bills_stand_beside_credits`.
+//! - Where no session has two bills or two credits, taking a record leaves it so. By `take_cdr`: `once`.
+//! - Whether a record differs from a held one is told by equality in every field, as spelled. By `is_equal`.
+//! - What is owed is the sum over the held records, each once, those of credits negative; over a list, the sums of it.
+//!   By `settlement`, `settle_all`.
 #![tactic(auto)]
 
 mod cdr_book;

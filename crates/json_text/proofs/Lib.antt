@@ -36,3 +36,4 @@ pub mod UntaggedStrings
 pub mod Unquoting
 pub mod WellFormed
 pub mod WholeNumbers
+pub mod Writing

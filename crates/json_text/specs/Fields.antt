@@ -90,6 +90,17 @@ abbrev pub listed : {X : Type 0} → Field → Option X → Read X
 listed f (Some x) = Ok x
 listed f None = Err (UnknownWord f)
 
+-- ---- values that are texts of some kind
+
+abbrev pub ci_of : ℕ → Field → Data → Read (List ℕ)
+ci_of max f v = as_text f v >>= λ s. formed f (ci_text max s)
+
+abbrev pub moment_of : Field → Data → Read ℕ
+moment_of f v = as_text f v >>= λ s. formed f (moment_at s)
+
+abbrev pub word_of : {X : Type 0} → (List ℕ → Option X) → Field → Data → Read X
+word_of words f v = as_text f v >>= λ s. listed f (words s)
+
 -- ---- fields
 
 -- the text of a member

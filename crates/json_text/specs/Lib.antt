@@ -15,3 +15,4 @@ pub mod Tagged
 pub mod Texts
 pub mod Trees
 pub mod Unquote
+pub mod Writing

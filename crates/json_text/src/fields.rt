@@ -25,6 +25,9 @@ ghost use Rattle.json_text.specs.Fields.{
   party_in,
   country_in,
   party_id_in,
+  ci_of,
+  moment_of,
+  word_of,
 };
 
 use crate::fault::JsonFault;
@@ -127,20 +130,28 @@ pub fn list_in<'t, 'a>(object: &'t Tree<'a>, field: Field) -> Result<&'t [Tree<'
     }
 }
 
-/// A text that is compared without case, of at most `MAX` characters.
-#[tactic(auto, unfolding(crate::specs::Fields::ci_in))]
-pub fn ci_in<const MAX: usize>(object: &Tree<'_>, field: Field) -> Result<CiText<MAX>, JsonFault>
+/// A value of that name as a text that is compared without case.
+fn ci_of<const MAX: usize>(value: &Tree<'_>, field: Field) -> Result<CiText<MAX>, JsonFault>
     requires { MAX ≤ 255 }
-    ensures { result ≡ ci_in MAX field (view object.now) }
+    ensures { result ≡ ci_of MAX field (view value.now) }
 {
-    match CiText::new(text_in(object, field)?) {
+    match CiText::new(as_text(value, field)?) {
         Ok(text) => Ok(text),
         Err(_) => Err(JsonFault::WrongForm(field)),
     }
 }
 
+/// A text that is compared without case, of at most `MAX` characters.
+#[tactic(auto, unfolding(crate::specs::Fields::ci_in, crate::specs::Fields::text_in))]
+pub fn ci_in<const MAX: usize>(object: &Tree<'_>, field: Field) -> Result<CiText<MAX>, JsonFault>
+    requires { MAX ≤ 255 }
+    ensures { result ≡ ci_in MAX field (view object.now) }
+{
+    ci_of(required(object, field)?, field)
+}
+
 /// The same, where it is neither absent nor null.
-#[tactic(auto, unfolding(crate::specs::Fields::optional))]
+#[tactic(auto, unfolding(crate::specs::Fields::optional, crate::specs::Fields::is_absent, crate::specs::Fields::ci_in, crate::specs::Fields::text_in, crate::specs::Fields::required,))]
 pub fn optional_ci_in<const MAX: usize>(
     object: &Tree<'_>,
     field: Field,
@@ -148,10 +159,11 @@ pub fn optional_ci_in<const MAX: usize>(
     requires { MAX ≤ 255 }
     ensures { result ≡ optional (ci_in MAX) field (view object.now) }
 {
-    if is_absent(object, field) {
-        return Ok(None);
+    match object.get(field.name()) {
+        None => Ok(None),
+        Some(Tree::Null) => Ok(None),
+        Some(value) => Ok(Some(ci_of(value, field)?)),
     }
-    Ok(Some(ci_in(object, field)?))
 }
 
 /// A text of at most `MAX` characters, none a control character.
@@ -186,49 +198,65 @@ pub fn short_in<const MAX: usize, const BYTES: usize>(
     }
 }
 
-/// The moment of a required member (OCPI 2.2.1, Types: DateTime). `Missing` where there is none, and `WrongForm` where
-/// it is no text that is read as a moment.
-#[tactic(auto, unfolding(crate::specs::Fields::moment_in))]
-pub fn moment_in(object: &Tree<'_>, field: Field) -> Result<Moment, JsonFault>
-    ensures { result ≡ moment_in field (view object.now) }
+/// A value of that name as a moment.
+fn moment_of(value: &Tree<'_>, field: Field) -> Result<Moment, JsonFault>
+    ensures { result ≡ moment_of field (view value.now) }
 {
-    match Moment::read(text_in(object, field)?) {
+    match Moment::read(as_text(value, field)?) {
         Ok(moment) => Ok(moment),
         Err(_) => Err(JsonFault::WrongForm(field)),
     }
 }
 
+/// The moment of a required member (OCPI 2.2.1, Types: DateTime). `Missing` where there is none, and `WrongForm` where
+/// it is no text that is read as a moment.
+#[tactic(auto, unfolding(crate::specs::Fields::moment_in, crate::specs::Fields::text_in))]
+pub fn moment_in(object: &Tree<'_>, field: Field) -> Result<Moment, JsonFault>
+    ensures { result ≡ moment_in field (view object.now) }
+{
+    moment_of(required(object, field)?, field)
+}
+
 /// The same, where it is neither absent nor null.
-#[tactic(auto, unfolding(crate::specs::Fields::optional))]
+#[tactic(auto, unfolding(crate::specs::Fields::optional, crate::specs::Fields::is_absent, crate::specs::Fields::moment_in, crate::specs::Fields::text_in, crate::specs::Fields::required,))]
 pub fn optional_moment_in(object: &Tree<'_>, field: Field) -> Result<Option<Moment>, JsonFault>
     ensures { result ≡ optional moment_in field (view object.now) }
 {
-    if is_absent(object, field) {
-        return Ok(None);
+    match object.get(field.name()) {
+        None => Ok(None),
+        Some(Tree::Null) => Ok(None),
+        Some(value) => Ok(Some(moment_of(value, field)?)),
     }
-    Ok(Some(moment_in(object, field)?))
 }
 
-/// A word of a closed list. Another one is `UnknownWord`.
-#[tactic(auto, unfolding(crate::specs::Fields::word_in))]
-pub fn word_in<W: Word>(object: &Tree<'_>, field: Field) -> Result<W, JsonFault>
-    ensures { result ≡ word_in W.entry field (view object.now) }
+/// A value of that name as a word of a closed list.
+fn word_of<W: Word>(value: &Tree<'_>, field: Field) -> Result<W, JsonFault>
+    ensures { result ≡ word_of W.entry field (view value.now) }
 {
-    match W::of_word(text_in(object, field)?) {
+    match W::of_word(as_text(value, field)?) {
         Some(word) => Ok(word),
         None => Err(JsonFault::UnknownWord(field)),
     }
 }
 
+/// A word of a closed list. Another one is `UnknownWord`.
+#[tactic(auto, unfolding(crate::specs::Fields::word_in, crate::specs::Fields::text_in))]
+pub fn word_in<W: Word>(object: &Tree<'_>, field: Field) -> Result<W, JsonFault>
+    ensures { result ≡ word_in W.entry field (view object.now) }
+{
+    word_of(required(object, field)?, field)
+}
+
 /// The same, where it is neither absent nor null.
-#[tactic(auto, unfolding(crate::specs::Fields::optional))]
+#[tactic(auto, unfolding(crate::specs::Fields::optional, crate::specs::Fields::is_absent, crate::specs::Fields::word_in, crate::specs::Fields::text_in, crate::specs::Fields::required,))]
 pub fn optional_word_in<W: Word>(object: &Tree<'_>, field: Field) -> Result<Option<W>, JsonFault>
     ensures { result ≡ optional (word_in W.entry) field (view object.now) }
 {
-    if is_absent(object, field) {
-        return Ok(None);
+    match object.get(field.name()) {
+        None => Ok(None),
+        Some(Tree::Null) => Ok(None),
+        Some(value) => Ok(Some(word_of(value, field)?)),
     }
-    Ok(Some(word_in(object, field)?))
 }
 
 /// A whole number.

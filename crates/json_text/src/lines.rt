@@ -15,6 +15,7 @@ use crate::quote::quote_numbers;
 use crate::trees::Tree;
 use json::Scratch;
 use serde_json::Value;
+use simdutf8::basic::from_utf8;
 use std::alloc::Global;
 
 /// The bytes of the longest line.
@@ -27,7 +28,7 @@ fn text_of(line: &[u8]) -> Result<&str, JsonFault>
     if line.len() > MAX_LINE {
         return Err(JsonFault::Syntax);
     }
-    match str::from_utf8(line) {
+    match from_utf8(line) {
         Ok(text) => Ok(text),
         Err(_) => Err(JsonFault::Syntax),
     }

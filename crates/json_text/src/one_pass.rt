@@ -16,8 +16,8 @@ use std::alloc::{AllocError, AllocFailed, Global};
 /// How many arrays and objects may stand within one another.
 const MAX_DEPTH: usize = 127;
 
-/// How many members an object has room for once it has one.
-const FIRST_MEMBERS: usize = 8;
+/// How many members an object has room for once it has one: as many as OCPI's longest common records have.
+const FIRST_MEMBERS: usize = 10;
 
 /// Why one pass gave no tree.
 #[derive(Clone, Copy)]

@@ -7,6 +7,7 @@ ghost use Rattle.std.specs.Prelude.{
   ◌++◌,
   ◌∷◌,
   [],
+  ◌&&◌,
   map,
   option_map,
   unsigned_abs,
@@ -21,7 +22,8 @@ ghost use Rattle.std.specs.Prelude.{
   List,
 };
 ghost use Rattle.json.specs.Lex.{tokens};
-ghost use Rattle.json.specs.Print.{print};
+ghost use Rattle.json.specs.Print.{IsNumber, IsPrintable, begins, ends, escape, print, token_text};
+ghost use Rattle.json.specs.Reads.{token_of};
 ghost use Rattle.json.specs.Token.{key, string, number, boolean, begin_array, end_array};
 ghost use Rattle.ocpi_text.specs.Decimal.{e4_limit};
 ghost use Rattle.ocpi_text.specs.Moment.{last_moment};
@@ -32,7 +34,11 @@ ghost use Rattle.json_text.specs.Fits.{FitsCi, FitsFree, FitsOption, FitsOptiona
 ghost use Rattle.json_text.specs.Members as member;
 ghost use Rattle.json_text.specs.Members.{Member, and_member, and_values, begun, ended, said};
 
-use json::Writer;
+use crate::plain::is_plain;
+use crate::putting::{put, put_quoted};
+use crate::quoted_names::quoted_name;
+use itoa::Buffer;
+use json::{Token, Writer};
 use ocpi_text::{CiText, E4, FreeText, Moment, Party, Quantity, ShortText, Whole};
 use ocpi_types::{EvseUids, Field, Word};
 use std::alloc::{AllocError, Global};
@@ -45,20 +51,51 @@ const ROOM: usize = 1024;
 #[derive(Drop)]
 pub struct RecordWriter {
     alloc: Global,
-    out: Writer,
+    out: Vec<u8>,
+    /// Whether a value ends here, so that a comma stands before what comes next.
+    after_value: bool,
 }
 
 impl Model for RecordWriter {
-    ghost use Rattle.std.specs.Prelude.{List, [], ◌≡◌};
+    ghost use Rattle.std.specs.Prelude.{List};
     ghost use Rattle.json.specs.Token.{Token, tokens_code};
+    ghost use Rattle.json_text.specs.Writing.{IsWriting, written};
 
     ghost Value = { List Token };
 
     ghost coded = { tokens_code };
 
-    ghost view = { λ w. w.out.tokens };
+    ghost view = { written };
 
-    ghost invariant = { λ w. w.out.before ≡ [] };
+    ghost invariant = { IsWriting };
+}
+
+/// Whether a comma stands before this token.
+#[inline(always)]
+fn wants_comma(after_value: bool, token: Token<'_>) -> bool
+    ensures { result ≡ (after_value && begins (token_of token.entry)) }
+{
+    match token {
+        Token::EndObject | Token::EndArray => false,
+        _ => after_value,
+    }
+}
+
+/// Whether a value ends with this token.
+#[inline(always)]
+fn ends_value(token: Token<'_>) -> bool
+    ensures { result ≡ ends (token_of token.entry) }
+{
+    match token {
+        Token::BeginObject | Token::BeginArray | Token::Key(_) => false,
+        _ => true,
+    }
+}
+
+fn truth_text(truth: bool) -> &'static str
+    ensures { result.now ≡ token_text (boolean truth) }
+{
+    if truth { "true" } else { "false" }
 }
 
 impl RecordWriter {
@@ -69,8 +106,62 @@ impl RecordWriter {
         let out = Vec::with_capacity(alloc, ROOM)?;
         Ok(RecordWriter {
             alloc,
-            out: Writer::new(out),
+            out,
+            after_value: false,
         })
+    }
+
+    /// Adds a token, by its text.
+    #[inline(always)]
+    fn add(&mut self, token: Token<'_>, text: &str) -> Result<(), AllocError>
+        requires printable { IsPrintable (token_of token) }
+        requires text { text.now ≡ token_text (token_of token) }
+        ensures { OnOk result (self.new ≡ self.old ++ token_of token.entry ∷ []) }
+    {
+        let comma = wants_comma(self.after_value, token);
+        match put(&mut self.out, comma, text.as_bytes()) {
+            Ok(()) => {
+                self.after_value = ends_value(token);
+                Ok(())
+            }
+            Err(e) => Err(e),
+        }
+    }
+
+    /// Adds a text that needs no escape.
+    #[inline(always)]
+    fn add_plain(&mut self, text: &str) -> Result<(), AllocError>
+        requires { escape text.now ≡ text.now }
+        ensures { OnOk result (self.new ≡ self.old ++ string text.now ∷ []) }
+    {
+        match put_quoted(&mut self.out, self.after_value, text.as_bytes()) {
+            Ok(()) => {
+                self.after_value = true;
+                Ok(())
+            }
+            Err(e) => Err(e),
+        }
+    }
+
+    /// Adds a text that may need escapes.
+    #[cold]
+    #[inline(never)]
+    fn add_escaped(&mut self, text: &str) -> Result<(), AllocError>
+        ensures { OnOk result (self.new ≡ self.old ++ string text.now ∷ []) }
+    {
+        let mut writer = Writer::new(Vec::new(self.alloc));
+        writer.string(text)?;
+        let quoted = writer.into_inner();
+        let quoted = unsafe { String::from_utf8_unchecked(quoted) };
+        self.add(Token::String(text), &quoted)
+    }
+
+    /// Adds a number, by its text.
+    fn add_number(&mut self, text: &str) -> Result<(), AllocError>
+        requires { IsNumber text.now }
+        ensures { OnOk result (self.new ≡ self.old ++ number text.now ∷ []) }
+    {
+        self.add(Token::Number(text), text)
     }
 
     /// What was written, without spaces.
@@ -79,7 +170,7 @@ impl RecordWriter {
         ensures utf8 { IsUtf8 (print self) }
         ensures again { tokens (print self) ≡ self }
     {
-        unsafe { String::from_utf8_unchecked(self.out.into_inner()) }
+        unsafe { String::from_utf8_unchecked(self.out) }
     }
 
     /// Opens an object.
@@ -87,7 +178,7 @@ impl RecordWriter {
     pub fn begin(&mut self) -> Result<(), AllocError>
         ensures { OnOk result (self.new ≡ begun self.old) }
     {
-        self.out.begin_object()
+        self.add(Token::BeginObject, "{")
     }
 
     /// Closes an object.
@@ -95,14 +186,14 @@ impl RecordWriter {
     pub fn end(&mut self) -> Result<(), AllocError>
         ensures { OnOk result (self.new ≡ ended self.old) }
     {
-        self.out.end_object()
+        self.add(Token::EndObject, "}")
     }
 
     /// The name of a member, whose value comes next.
     pub fn name(&mut self, field: Field) -> Result<(), AllocError>
         ensures { OnOk result (self.new ≡ self.old ++ key (name_of field) ∷ []) }
     {
-        self.out.key(field.name())
+        self.add(Token::Key(field.name()), quoted_name(field))
     }
 
     /// A member that is a text, of any characters.
@@ -111,7 +202,7 @@ impl RecordWriter {
         ensures { OnOk result (self.new ≡ and_member self.old (member.text field text.now)) }
     {
         self.name(field)?;
-        self.out.string(text)
+        self.value(text)
     }
 
     /// A text that is compared without case.
@@ -222,7 +313,8 @@ impl RecordWriter {
         ensures { OnOk result (self.new ≡ and_member self.old (member.whole field number)) }
     {
         self.name(field)?;
-        self.out.u64(number)
+        let mut digits = Buffer::new();
+        self.add_number(digits.format(number))
     }
 
     /// A member that is a whole number, written as a number without a point.
@@ -266,7 +358,7 @@ impl RecordWriter {
         ensures { OnOk result (self.new ≡ and_member self.old (member.truth field truth)) }
     {
         self.name(field)?;
-        self.out.boolean(truth)
+        self.add(Token::Bool(truth), truth_text(truth))
     }
 
     /// A number of four decimals.
@@ -279,7 +371,7 @@ impl RecordWriter {
         let _units = number.units();
         let text = number.write(self.alloc)?;
         self.name(field)?;
-        self.out.number(&text)
+        self.add_number(&text)
     }
 
     /// A number of four decimals that is not negative.
@@ -294,20 +386,23 @@ impl RecordWriter {
     pub fn begin_list(&mut self) -> Result<(), AllocError>
         ensures { OnOk result (self.new ≡ self.old ++ begin_array ∷ []) }
     {
-        self.out.begin_array()
+        self.add(Token::BeginArray, "[")
     }
 
     /// Closes a list.
     pub fn end_list(&mut self) -> Result<(), AllocError>
         ensures { OnOk result (self.new ≡ self.old ++ end_array ∷ []) }
     {
-        self.out.end_array()
+        self.add(Token::EndArray, "]")
     }
 
     fn value(&mut self, text: &str) -> Result<(), AllocError>
         ensures { OnOk result (self.new ≡ self.old ++ string text.now ∷ []) }
     {
-        self.out.string(text)
+        if is_plain(text.as_bytes()) {
+            return self.add_plain(text);
+        }
+        self.add_escaped(text)
     }
 
     fn strings<const MAX: usize>(&mut self, texts: &[CiText<MAX>]) -> Result<(), AllocError>

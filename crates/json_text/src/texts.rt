@@ -8,13 +8,13 @@ use crate::fault::JsonFault;
 use crate::lines::utf8_tree;
 use crate::trees::Tree;
 use json::Scratch;
+use simdutf8::basic::from_utf8;
 use std::alloc::Global;
-use std::str;
 
 fn utf8_of(text: &[u8]) -> Result<&str, JsonFault>
     ensures { IsBy (λ s. s.now) result (utf8_of text.now) }
 {
-    match str::from_utf8(text) {
+    match from_utf8(text) {
         Ok(text) => Ok(text),
         Err(_) => Err(JsonFault::Syntax),
     }

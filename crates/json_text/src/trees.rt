@@ -1,6 +1,7 @@
 //! JSON trees whose texts are borrowed from the text that was read.
 
 ghost use Rattle.std.specs.Prelude.{◌≡◌, option_map};
+ghost use Rattle.std.specs.Str.{bytes_eq};
 ghost use Rattle.serde_json.specs.Find.{get, get_member};
 ghost use Rattle.json_text.specs.Trees.{view, members_view};
 
@@ -35,6 +36,14 @@ impl<'a> Tree<'a> {
     }
 }
 
+/// Whether the two are one name. Lengths are compared before bytes, since most members have another one.
+#[inline(always)]
+fn is_name(name: &str, other: &str) -> bool
+    ensures { result ≡ bytes_eq name.now other.now }
+{
+    name.len() == other.len() && name == other
+}
+
 fn last_of<'t, 'a>(members: &'t Vec<(&'a str, Tree<'a>)>, name: &str) -> Option<&'t Tree<'a>>
     ensures { option_map (λ v. view v.now) result ≡ get_member name.now (members_view members.now.items) }
 {
@@ -42,7 +51,7 @@ fn last_of<'t, 'a>(members: &'t Vec<(&'a str, Tree<'a>)>, name: &str) -> Option<
     while left > 0 {
         left -= 1;
         let member = &members[left];
-        if name == member.0 {
+        if is_name(name, member.0) {
             return Some(&member.1);
         }
     }

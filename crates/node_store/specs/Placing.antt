@@ -1,4 +1,4 @@
--- Changes of a table of texts.
+-- Changes of a table of rows, which are seen as their texts.
 use Rattle.std.specs.Prelude.{ℕ, List, [], ◌∷◌, Option, Some, None, IsSome, IsTrue}
 use Rattle.std.specs.FinMap.{FinMap, insert, remove, contains_key}
 use Rattle.tables.specs.Keys.{text_pair_cmp}
@@ -21,8 +21,8 @@ abbrev pub room : Slots → FinMap text_pair_cmp (Unit {0})
 room slots = rooms_of text_pair_cmp slots
 
 abbrev pub placed_of : Change → Placed
-placed_of (change.Put r) = record { place = place_of (key_of r); text = Some (row_text r) }
-placed_of (change.Drop k) = record { place = place_of k; text = None }
+placed_of (change.Put r) = record { place = place_of (key_of r); row = Some (row_text r) }
+placed_of (change.Drop k) = record { place = place_of k; row = None }
 
 abbrev pub set_text : Content → RowPlace → Option (List ℕ) → Content
 set_text c p (Some t) = insert c p t
@@ -30,8 +30,8 @@ set_text c p None = remove c p
 
 abbrev pub placed_all : Content → List Placed → Content
 placed_all c [] = c
-placed_all c (x ∷ xs) = placed_all (set_text c x.place x.text) xs
+placed_all c (x ∷ xs) = placed_all (set_text c x.place x.row) xs
 
--- the table has room for the text that is to stand there, where one is
+-- the table has room for the row that is to stand there, where one is
 abbrev pub HasRoom : Slots → Placed → Type 0
-HasRoom slots x = IsSome x.text → IsTrue (contains_key (room slots) x.place)
+HasRoom slots x = IsSome x.row → IsTrue (contains_key (room slots) x.place)

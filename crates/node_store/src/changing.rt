@@ -1,4 +1,4 @@
-//! Changes of a table of texts, made all together or not at all.
+//! Changes of a table of rows, made all together or not at all.
 
 ghost use Rattle.std.specs.Prelude.{◌≡◌, All, IfOk, IsTrue, OnOk, map};
 ghost use Rattle.std.specs.FinMap.{contains_key};
@@ -6,12 +6,12 @@ ghost use Rattle.node_store.specs.Contents.{IsReadAgain, RowPlace};
 ghost use Rattle.node_store.specs.Placing.{HasRoom, kept, placed_all, placed_of, room, set_text};
 ghost use Rattle.node_store.specs.declared.stored.Placed.{Placed as PlacedOf};
 
-use crate::stored::{Place, Placed, StoredText, placed_of};
+use crate::stored::{Place, Placed, StoredRow, placed_of};
 use ocpi_types::Change;
 use std::alloc::{AllocError, Global};
 use tables::Table;
 
-/// The places and texts of changes, in turn.
+/// The places and rows of changes, in turn.
 pub(crate) fn placed_all(alloc: Global, changes: &[Change]) -> Result<Vec<Placed>, AllocError>
     ensures placed { IfOk result (λ v. v.items ≡ map placed_of changes.now) }
     ensures again { IfOk result (λ v. All IsReadAgain changes.now) }
@@ -29,31 +29,31 @@ fn stands_mostly(place: &Place) -> bool {
     matches!(place.0.as_str(), "command" | "count" | "session")
 }
 
-/// Takes the room that a text needs, where it is not there.
-fn reserve_text(texts: &mut Table<Place, StoredText>, place: Place) -> Result<(), AllocError>
-    ensures same { kept texts.new ≡ kept texts.old }
-    ensures ready { OnOk result (IsTrue (contains_key (room texts.new) place)) }
-    ensures stay { (p : RowPlace) → IsTrue (contains_key (room texts.old) p) → IsTrue (contains_key (room texts.new) p) }
+/// Takes the room that a row needs, where it is not there.
+fn reserve_row(stored: &mut Table<Place, StoredRow>, place: Place) -> Result<(), AllocError>
+    ensures same { kept stored.new ≡ kept stored.old }
+    ensures ready { OnOk result (IsTrue (contains_key (room stored.new) place)) }
+    ensures stay { (p : RowPlace) → IsTrue (contains_key (room stored.old) p) → IsTrue (contains_key (room stored.new) p) }
 {
     // Room that stands is found by one descent, and taken again by two.
-    if stands_mostly(&place) && texts.has_room(place) {
+    if stands_mostly(&place) && stored.has_room(place) {
         return Ok(());
     }
-    texts.reserve(place)
+    stored.reserve(place)
 }
 
-/// Takes the room that a text needs, or lists the place where none is to stand.
+/// Takes the room that a row needs, or lists the place where none is to stand.
 fn reserve_one(
-    texts: &mut Table<Place, StoredText>,
+    stored: &mut Table<Place, StoredRow>,
     next: &Placed,
     cleared: &mut Vec<Place>,
 ) -> Result<(), AllocError>
-    ensures same { kept texts.new ≡ kept texts.old }
-    ensures ready { OnOk result (HasRoom texts.new next.now) }
-    ensures stay { (x : PlacedOf) → HasRoom texts.old x → HasRoom texts.new x }
+    ensures same { kept stored.new ≡ kept stored.old }
+    ensures ready { OnOk result (HasRoom stored.new next.now) }
+    ensures stay { (x : PlacedOf) → HasRoom stored.old x → HasRoom stored.new x }
 {
-    match &next.text {
-        Some(_) => reserve_text(texts, next.place),
+    match &next.row {
+        Some(_) => reserve_row(stored, next.place),
         None => {
             cleared.push(next.place)?;
             Ok(())
@@ -61,51 +61,51 @@ fn reserve_one(
     }
 }
 
-/// Takes the room that all of them need, and answers the places where no text is to stand. Where memory runs out, some
+/// Takes the room that all of them need, and answers the places where no row is to stand. Where memory runs out, some
 /// room may stay.
 pub(crate) fn reserve_all(
     alloc: Global,
-    texts: &mut Table<Place, StoredText>,
+    stored: &mut Table<Place, StoredRow>,
     placed: &[Placed],
 ) -> Result<Vec<Place>, AllocError>
-    ensures same { kept texts.new ≡ kept texts.old }
-    ensures ready { IfOk result (λ _. All (HasRoom texts.new) placed.now) }
+    ensures same { kept stored.new ≡ kept stored.old }
+    ensures ready { IfOk result (λ _. All (HasRoom stored.new) placed.now) }
 {
     let mut cleared = Vec::new(alloc);
     for next in placed {
-        reserve_one(texts, next, &mut cleared)?;
+        reserve_one(stored, next, &mut cleared)?;
     }
     Ok(cleared)
 }
 
-/// Puts one text in its place, or takes it away.
-fn put_one(texts: &mut Table<Place, StoredText>, placed: Placed)
-    requires { HasRoom texts.old placed }
-    ensures shown { kept texts.new ≡ set_text (kept texts.old) placed.place placed.text }
-    ensures room { room texts.new ≡ room texts.old }
+/// Puts one row in its place, or takes it away.
+fn put_one(stored: &mut Table<Place, StoredRow>, placed: Placed)
+    requires { HasRoom stored.old placed }
+    ensures shown { kept stored.new ≡ set_text (kept stored.old) placed.place placed.row }
+    ensures room { room stored.new ≡ room stored.old }
 {
-    let Placed { place, text } = placed;
-    match text {
-        Some(text) => texts.put(place, text),
-        None => texts.clear(place),
+    let Placed { place, row } = placed;
+    match row {
+        Some(row) => stored.put(place, row),
+        None => stored.clear(place),
     }
 }
 
-/// Puts all texts in their places, or takes them away. It takes no memory.
-pub(crate) fn put_all(texts: &mut Table<Place, StoredText>, placed: Vec<Placed>)
-    requires { All (HasRoom texts.old) placed.items }
-    ensures { kept texts.new ≡ placed_all (kept texts.old) placed.items }
+/// Puts all rows in their places, or takes them away. It takes no memory.
+pub(crate) fn put_all(stored: &mut Table<Place, StoredRow>, placed: Vec<Placed>)
+    requires { All (HasRoom stored.old) placed.items }
+    ensures { kept stored.new ≡ placed_all (kept stored.old) placed.items }
 {
     for next in placed {
-        put_one(texts, next);
+        put_one(stored, next);
     }
 }
 
-/// Gives the room back of the places that hold no text.
-pub(crate) fn release_all(texts: &mut Table<Place, StoredText>, places: &[Place])
-    ensures { kept texts.new ≡ kept texts.old }
+/// Gives the room back of the places that hold no row.
+pub(crate) fn release_all(stored: &mut Table<Place, StoredRow>, places: &[Place])
+    ensures { kept stored.new ≡ kept stored.old }
 {
     for place in places {
-        texts.release(*place);
+        stored.release(*place);
     }
 }

@@ -10,18 +10,19 @@ ghost use Rattle.node_store.specs.declared.fault.StoreFault.TheVariants.{BadRow}
 use crate::changing::{placed_all, put_all, release_all, reserve_all};
 use crate::fault::StoreFault;
 use crate::keep::Keep;
-use crate::stored::{Place, Placed, StoredText, placed_of, row_of};
+use crate::stored::{Place, Placed, StoredRow, placed_of, row_of};
 use ocpi_json::Scratch;
 use ocpi_types::{Change, Row};
 use std::alloc::{AllocError, Global};
 use std::marker::Model;
 use tables::Table;
 
-/// A keeper in memory, which nothing outlasts. It refuses for want of memory alone.
+/// A keeper in memory, which nothing outlasts. It refuses for want of memory alone. It keeps rows, which clauses see as
+/// their texts: a text is written only where rows are loaded.
 #[derive(Drop)]
 pub struct ListKeep {
     alloc: Global,
-    texts: Table<Place, StoredText>,
+    stored: Table<Place, StoredRow>,
 }
 
 impl Model for ListKeep {
@@ -34,9 +35,9 @@ impl Model for ListKeep {
 
     ghost coded = { Prim.hlevel (codes, map.code) };
 
-    ghost view = { λ k. kept k.texts };
+    ghost view = { λ k. kept k.stored };
 
-    ghost invariant = { λ k. AreRows (kept k.texts) };
+    ghost invariant = { λ k. AreRows (kept k.stored) };
 }
 
 impl ListKeep {
@@ -46,7 +47,7 @@ impl ListKeep {
     {
         ListKeep {
             alloc,
-            texts: Table::new(alloc),
+            stored: Table::new(alloc),
         }
     }
 
@@ -55,24 +56,25 @@ impl ListKeep {
     pub fn has_rows(&self)
         ensures { IsSome (rows_of self.now) }
     {
-        let _texts = &self.texts;
+        let _stored = &self.stored;
     }
 }
 
-fn rows_of(alloc: Global, texts: &Table<Place, StoredText>) -> Result<Vec<Row>, StoreFault>
-    ensures rows { IfOk result (λ v. rows_of (kept texts.now) ≡ Some v.items) }
-    ensures bad { IfErr result (λ e. e ≡ BadRow → rows_of (kept texts.now) ≡ None) }
+fn rows_of(alloc: Global, stored: &Table<Place, StoredRow>) -> Result<Vec<Row>, StoreFault>
+    ensures rows { IfOk result (λ v. rows_of (kept stored.now) ≡ Some v.items) }
+    ensures bad { IfErr result (λ e. e ≡ BadRow → rows_of (kept stored.now) ≡ None) }
     ensures fault { IfErr result IsListFault }
 {
     let mut scratch = Scratch::new(alloc);
     let mut rows = Vec::new(alloc);
-    for (place, text) in texts.iter() {
+    for (place, kept) in stored.iter() {
+        let text = kept.text(alloc)?;
         let row = row_of(
             alloc,
             &mut scratch,
             place.0.as_str(),
             place.1.as_str(),
-            text.bytes(),
+            text.as_bytes(),
         )?;
         rows.push(row)?;
     }
@@ -82,18 +84,18 @@ fn rows_of(alloc: Global, texts: &Table<Place, StoredText>) -> Result<Vec<Row>, 
 /// Makes the one change of a commit, which needs no room ahead.
 fn change_one(
     alloc: Global,
-    texts: &mut Table<Place, StoredText>,
+    stored: &mut Table<Place, StoredRow>,
     change: &Change,
 ) -> Result<(), AllocError>
-    ensures all { OnOk result (kept texts.new ≡ set_text (kept texts.old) (placed_of change.now).place (placed_of change.now).text) }
-    ensures none { OnErr result (kept texts.new ≡ kept texts.old) }
+    ensures all { OnOk result (kept stored.new ≡ set_text (kept stored.old) (placed_of change.now).place (placed_of change.now).row) }
+    ensures none { OnErr result (kept stored.new ≡ kept stored.old) }
     ensures again { OnOk result (IsReadAgain change.now) }
 {
-    let Placed { place, text } = placed_of(alloc, change)?;
-    match text {
-        Some(text) => texts.insert(place, text),
+    let Placed { place, row } = placed_of(alloc, change)?;
+    match row {
+        Some(row) => stored.insert(place, row),
         None => {
-            drop(texts.remove(place));
+            drop(stored.remove(place));
             Ok(())
         }
     }
@@ -102,33 +104,33 @@ fn change_one(
 /// Makes changes, which may be of one place again and again: room first, for all of them.
 fn change_several(
     alloc: Global,
-    texts: &mut Table<Place, StoredText>,
+    stored: &mut Table<Place, StoredRow>,
     changes: &[Change],
 ) -> Result<(), AllocError>
-    ensures all { OnOk result (kept texts.new ≡ changed_all (kept texts.old) changes.now) }
-    ensures none { OnErr result (kept texts.new ≡ kept texts.old) }
+    ensures all { OnOk result (kept stored.new ≡ changed_all (kept stored.old) changes.now) }
+    ensures none { OnErr result (kept stored.new ≡ kept stored.old) }
     ensures again { OnOk result (All IsReadAgain changes.now) }
 {
     let placed = placed_all(alloc, changes)?;
-    let cleared = reserve_all(alloc, texts, placed.as_slice())?;
-    put_all(texts, placed);
-    release_all(texts, cleared.as_slice());
+    let cleared = reserve_all(alloc, stored, placed.as_slice())?;
+    put_all(stored, placed);
+    release_all(stored, cleared.as_slice());
     Ok(())
 }
 
 /// Makes changes, all of them or none.
 fn change_all(
     alloc: Global,
-    texts: &mut Table<Place, StoredText>,
+    stored: &mut Table<Place, StoredRow>,
     changes: &[Change],
 ) -> Result<(), AllocError>
-    ensures all { OnOk result (kept texts.new ≡ changed_all (kept texts.old) changes.now) }
-    ensures none { OnErr result (kept texts.new ≡ kept texts.old) }
+    ensures all { OnOk result (kept stored.new ≡ changed_all (kept stored.old) changes.now) }
+    ensures none { OnErr result (kept stored.new ≡ kept stored.old) }
     ensures again { OnOk result (All IsReadAgain changes.now) }
 {
     match changes {
-        [change] => change_one(alloc, texts, change),
-        _ => change_several(alloc, texts, changes),
+        [change] => change_one(alloc, stored, change),
+        _ => change_several(alloc, stored, changes),
     }
 }
 
@@ -145,11 +147,11 @@ impl Keep for ListKeep {
     ghost may_leave = { λ k c. c ≡ k };
 
     fn load(&mut self) -> Result<Vec<Row>, StoreFault> {
-        rows_of(self.alloc, &self.texts)
+        rows_of(self.alloc, &self.stored)
     }
 
     fn commit(&mut self, changes: &[Change]) -> Result<(), StoreFault> {
-        match change_all(self.alloc, &mut self.texts, changes) {
+        match change_all(self.alloc, &mut self.stored, changes) {
             Ok(()) => Ok(()),
             Err(_) => Err(StoreFault::Memory),
         }

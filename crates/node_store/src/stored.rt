@@ -1,9 +1,9 @@
-//! The places and the texts under which rows are kept.
+//! The places under which rows are kept, and their texts.
 
 ghost use Rattle.std.specs.Prelude.{◌≡◌, Err, IfOk, Ok, string_bytes};
 ghost use Rattle.json_text.specs.Fault.{Fails, Read};
 ghost use Rattle.ocpi_json.specs.RowForms.{row_in, row_in_1, row_text};
-ghost use Rattle.ocpi_json.specs.RowKeys.{KeyFits, key_text, kind_of_key, row_kind_word};
+ghost use Rattle.ocpi_json.specs.RowKeys.{KeyFits};
 ghost use Rattle.ocpi_types.specs.Rows.{key_of};
 ghost use Rattle.ocpi_types.specs.declared.rows.Row.{Row};
 ghost use Rattle.node_store.specs.Contents.{AnswersRow, IsReadAgain, place_of};
@@ -13,50 +13,49 @@ use crate::fault::StoreFault;
 use ocpi_json::{JsonFault, RowKind, Scratch, read_row, read_row_1, write_key, write_row};
 use ocpi_text::CiText;
 use ocpi_types::{Change, Row, RowKey, Word};
+use row_texts::is_read_again;
 use std::alloc::{AllocError, Global};
 use std::marker::Model;
 
 /// The kind and the key under which a text is kept.
 pub(crate) type Place = (CiText<16>, CiText<64>);
 
-/// The text of a row.
+/// A row, which clauses see as its text.
 #[derive(Drop)]
-pub(crate) struct StoredText {
-    text: String,
+pub(crate) struct StoredRow {
+    row: Row,
 }
 
-impl Model for StoredText {
-    ghost use Rattle.std.specs.Prelude.{List, ℕ, string_bytes};
+impl Model for StoredRow {
+    ghost use Rattle.std.specs.Prelude.{List, ℕ};
+    ghost use Rattle.ocpi_json.specs.RowForms.{row_text};
 
     ghost Value = { List ℕ };
 
-    ghost view = { λ t. string_bytes t.text };
+    ghost view = { λ s. row_text s.row };
 }
 
-impl StoredText {
-    /// The bytes of the text.
-    pub(crate) fn bytes(&self) -> &[u8]
-        ensures { result.now ≡ self.now }
+impl StoredRow {
+    /// The text of the row.
+    pub(crate) fn text(&self, alloc: Global) -> Result<String, AllocError>
+        ensures { IfOk result (λ s. string_bytes s ≡ self.now) }
     {
-        self.text.as_bytes()
+        write_row(alloc, &self.row)
     }
 
-    /// The text of a row.
-    fn of_row(alloc: Global, row: &Row) -> Result<StoredText, AllocError>
-        ensures text { IfOk result (λ t. t ≡ row_text row.now) }
-        ensures again { IfOk result (λ t. row_in (row_kind_word (kind_of_key (key_of row.now))) (key_text (key_of row.now)) (row_text row.now) ≡ Ok row.now) }
+    /// An equal row, to be kept.
+    fn of_row(row: &Row) -> Result<StoredRow, AllocError>
+        ensures { IfOk result (λ s. s ≡ row_text row.now) }
     {
-        Ok(StoredText {
-            text: write_row(alloc, row)?,
-        })
+        Ok(StoredRow { row: row.copy()? })
     }
 }
 
-/// A place with the text that is to stand there, or with none where none is.
+/// A place with the row that is to stand there, or with none where none is.
 #[derive(Drop)]
 pub(crate) struct Placed {
     pub(crate) place: Place,
-    pub(crate) text: Option<StoredText>,
+    pub(crate) row: Option<StoredRow>,
 }
 
 /// Where the row of a key is kept.
@@ -75,7 +74,7 @@ fn place_of(alloc: Global, key: &RowKey) -> Result<Place, AllocError>
     Ok((kind, name))
 }
 
-/// The place that a change is of, and the text that it puts there.
+/// The place that a change is of, and the row that it puts there.
 pub(crate) fn placed_of(alloc: Global, change: &Change) -> Result<Placed, AllocError>
     ensures placed { IfOk result (λ p. p ≡ placed_of change.now) }
     ensures again { IfOk result (λ p. IsReadAgain change.now) }
@@ -83,15 +82,16 @@ pub(crate) fn placed_of(alloc: Global, change: &Change) -> Result<Placed, AllocE
     match change {
         Change::Put(row) => {
             let place = place_of(alloc, &row.key())?;
-            let text = StoredText::of_row(alloc, row)?;
+            is_read_again(row);
+            let row = StoredRow::of_row(row)?;
             Ok(Placed {
                 place,
-                text: Some(text),
+                row: Some(row),
             })
         }
         Change::Drop(key) => {
             let place = place_of(alloc, key)?;
-            Ok(Placed { place, text: None })
+            Ok(Placed { place, row: None })
         }
     }
 }

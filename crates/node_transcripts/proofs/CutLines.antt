@@ -1,18 +1,24 @@
 -- A beginning of lines that are written: some whole lines, and what stands of one more.
-use Rattle.std.proofs.Common.{◌≡◌, ◌≢◌, ◌⊎◌, ℕ, zero, suc, List, [], ◌∷◌, ◌++◌, All, length, take, refl, sym, ap, subst, ◌∙◌, arith, inl, inr}
+use Rattle.std.proofs.Common.{◌≡◌, ◌≢◌, ◌⊎◌, ℕ, zero, suc, Bool, List, [], ◌∷◌, ◌++◌, All, None, Some, length, take, refl, sym, ap, subst, ◌∙◌, arith, inl, inr}
 use Rattle.std.proofs.lemmas.List.Elements.{All-cons, All-head, All-nil, All-tail}
+use Rattle.json_text.specs.declared.fault.JsonFault.{JsonFault}
+use Rattle.node_steps.specs.declared.fault.NodeFault.{NodeFault}
 use Rattle.ocpi_types.specs.declared.packet.Packet.{Packet}
-use Rattle.transcript_parts.specs.LineReads.{LineRead}
-use Rattle.transcript_parts.specs.Parts.{AtEnd, AtLast, IsPart}
-use Rattle.transcript_parts.specs.declared.line_read.Ending.TheVariants.{FileEnd}
+use Rattle.transcript_parts.specs.LineReads.{GaveNothing, LineRead}
+use Rattle.transcript_parts.specs.Lines.{Line}
+use Rattle.transcript_parts.specs.Parts.{AtLast, IsEnding, IsPart}
+use Rattle.transcript_parts.specs.declared.line_read.Ending.{Ending}
+use Rattle.transcript_parts.specs.declared.line_read.Ending.TheVariants.{Answered, FileEnd, NextRun}
+use Rattle.transcripts.specs.Following.{FitsEntry, ShowsEvent, Standing, TellsMalformed, TellsRefused, TellsSkipped, is_open_behind}
+use Rattle.transcripts.specs.Told.{Told}
 use Rattle.node_transcripts.specs.Readable.{IsPlain, IsReadable}
 use Rattle.node_transcripts.proofs.WrittenLines.{answer_texts, numbered, packets_sent, texts_of, written}
 
-abbrev first_or : ℕ → List ℕ → ℕ
+abbrev pub first_or : ℕ → List ℕ → ℕ
 first_or d [] = d
 first_or d (x ∷ xs) = x
 
-abbrev behind_first : List ℕ → List ℕ
+abbrev pub behind_first : List ℕ → List ℕ
 behind_first [] = []
 behind_first (x ∷ xs) = xs
 
@@ -71,14 +77,51 @@ answer_cut (suc count) (p ∷ packets) last =
       | inr all ↦ inr (ap (λ ts. texts_of (p ∷ []) ++ ts) all)
     ]
 
--- the part of a line of which only packets stand at the end of a file
-abbrev pub cut_part : ℕ → List ℕ → List Packet → LineRead
-cut_part number line packets = record { line = record { number = number; bytes = line }; answers = []; packets = packets; ending = FileEnd }
+-- a stop ends what was written of a line: the next run begins there, or the file ends
+abbrev pub IsStop : Ending → Type 0
+IsStop (Answered d at) = ⊥
+IsStop NextRun = Unit {0}
+IsStop FileEnd = Unit {0}
 
-pub cut_is_part : (number n : ℕ) (line : List ℕ) (packets : List Packet) → All IsReadable packets
-    → IsPart (record { number = number; bytes = line } ∷ numbered n (texts_of packets) []) (cut_part number line packets) []
-cut_is_part number n line packets each = record {
-  behind = numbered n (texts_of packets) [];
+-- the part of a line of which only packets stand, before a stop
+abbrev pub cut_part : Ending → ℕ → List ℕ → List Packet → LineRead
+cut_part end number line packets = record { line = record { number = number; bytes = line }; answers = []; packets = packets; ending = end }
+
+pub cut_is_part : (end : Ending) (number n : ℕ) (line : List ℕ) (packets : List Packet) (behind rest : List Line) → All IsReadable packets → IsEnding behind end rest
+    → IsPart (record { number = number; bytes = line } ∷ numbered n (texts_of packets) behind) (cut_part end number line packets) rest
+cut_is_part end number n line packets behind rest each ends = record {
+  behind = numbered n (texts_of packets) behind;
   begin = refl;
-  ends = AtLast (packets_sent n packets [] each) AtEnd;
+  ends = AtLast (packets_sent n packets behind each) ends;
 }
+
+-- ---- what is told of an event where a stop came before its answer
+
+pub stop_entry : (end : Ending) → IsStop end → (packets rest sent : List Packet) (changed : Bool) → sent ≡ packets ++ rest → FitsEntry end packets changed sent
+stop_entry (Answered d at) stop packets rest sent changed is = absurd stop
+stop_entry NextRun stop packets rest sent changed is = (rest, is)
+stop_entry FileEnd stop packets rest sent changed is = (rest, is)
+
+pub stop_shows : (end : Ending) → IsStop end → (p : LineRead) → (GaveNothing p → ⊥) → ShowsEvent p end
+stop_shows (Answered d at) stop p some = absurd stop
+stop_shows NextRun stop p some = some
+stop_shows FileEnd stop p some = some
+
+pub stop_skipped : (end : Ending) → IsStop end → TellsSkipped end
+stop_skipped (Answered d at) stop = absurd stop
+stop_skipped NextRun stop = tt
+stop_skipped FileEnd stop = tt
+
+pub stop_malformed : (end : Ending) (fault : JsonFault) → IsStop end → TellsMalformed fault end
+stop_malformed (Answered d at) fault stop = absurd stop
+stop_malformed NextRun fault stop = tt
+stop_malformed FileEnd fault stop = tt
+
+pub stop_refused : (end : Ending) (fault : NodeFault) → IsStop end → TellsRefused fault end
+stop_refused (Answered d at) fault stop = absurd stop
+stop_refused NextRun fault stop = tt
+stop_refused FileEnd fault stop = tt
+
+-- what is known behind a part at which a stop came
+abbrev pub stopped_at : Ending → Told → Standing
+stopped_at end t = record { told = Some t; within = is_open_behind end; unanswered = None }

@@ -100,11 +100,11 @@ ended_empty (turns.IsRefused x is fault refuses refused written party same) ends
 ended_empty (turns.IsStarved x is refused written left same) ends = absurd (refused_goes_on (sym refused ∙ ends))
 ended_empty (turns.IsLost x is fault fails ended written party same) ends = written
 
-abbrev the : {X : Type 0} → X → Option X → X
+abbrev pub the : {X : Type 0} → X → Option X → X
 the d None = d
 the d (Some x) = x
 
-abbrev IsNone : {X : Type 0} → Option X → Type 0
+abbrev pub IsNone : {X : Type 0} → Option X → Type 0
 IsNone None = Unit {0}
 IsNone (Some x) = ⊥
 

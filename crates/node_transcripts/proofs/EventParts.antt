@@ -22,12 +22,13 @@ use Rattle.node_replay.specs.Replayed.{Enters, Leads}
 use Rattle.transcript_lines.specs.declared.done.Done.{Done}
 use Rattle.transcript_lines.specs.declared.done.Done.TheVariants as done
 use Rattle.transcript_parts.specs.declared.echoed.EchoedLine.{EchoedLine}
-use Rattle.transcript_parts.specs.declared.line_read.Ending.TheVariants.{Answered}
+use Rattle.transcript_parts.specs.declared.line_read.Ending.{Ending}
+use Rattle.transcript_parts.specs.declared.line_read.Ending.TheVariants.{Answered, FileEnd}
 use Rattle.transcripts.specs.Following.{Came, FitsEntry, FitsEvent, FitsNothing, Follows, Gives, IsOwn, Last, MayStarve, NoEvent, NoneYet, OneMore, Passed, Starved, begun}
 use Rattle.transcripts.specs.LineEvents.{LineEvent, LineEvents}
 use Rattle.transcripts.specs.Told.{Told}
 use Rattle.transcripts.specs.declared.source.Source.TheVariants.{Echoed}
-use Rattle.node_transcripts.proofs.CutLines.{cut_part}
+use Rattle.node_transcripts.proofs.CutLines.{IsStop, cut_part, stop_entry, stop_shows, stopped_at}
 use Rattle.node_transcripts.proofs.WrittenLines.{part_of}
 use Rattle.node_transcripts.specs.Readable.{IsNoSetup}
 
@@ -122,10 +123,10 @@ module _ (setup : List Node) (t : Told) (number at : ℕ) (line : List ℕ) (x :
   stayed d fits = came [] d false t (inr (record { fits = fits; nothing = refl; unchanged = refl; same = refl }))
 
 module _ (setup : List Node) (t : Told) (number : ℕ) (line : List ℕ) (x : NodeEvent) (read : node_line_in line ≡ Ok (One x)) where
-  -- the first packets alone stand at the end of a file
-  pub cut_short : (packets first rest : List Packet) (changed : Bool) (s : NodeState) → IsOwn t x → Leads t.replay.state x.kind packets changed s → packets ≡ first ++ rest → 0 < length first
-      → Follows setup [] (begun t) (cut_part number line first) (begun (entry_more t (echoed number line) x.kind packets s))
-  cut_short packets first rest changed s own leads e some = Came (record {
+  -- the first packets alone stand before a stop
+  pub cut_short : (end : Ending) → IsStop end → (packets first rest : List Packet) (changed : Bool) (s : NodeState) → IsOwn t x → Leads t.replay.state x.kind packets changed s → packets ≡ first ++ rest → 0 < length first
+      → Follows setup [] (begun t) (cut_part end number line first) (stopped_at end (entry_more t (echoed number line) x.kind packets s))
+  cut_short end stop packets first rest changed s own leads e some = Came (record {
     old = t;
     new = entry_more t (echoed number line) x.kind packets s;
     line = one_event number line x;
@@ -138,12 +139,12 @@ module _ (setup : List Node) (t : Told) (number : ℕ) (line : List ℕ) (x : No
       reads = refl;
       own = own;
       enters = entered t (echoed number line) x.kind packets changed s leads;
-      fits = (rest, e);
+      fits = stop_entry end stop first rest packets changed e;
       sources = refl;
     })) ((λ h. inr h), (λ h. elim h [ inl none ↦ absurd (not_true none) | inr now ↦ now ]));
-    shows = λ nothing.
+    shows = stop_shows end stop (cut_part end number line first) (λ nothing.
         let size = ap length nothing.1 in
-        absurd (omega (arith, size, some));
+        omega (arith, size, some));
     within = refl;
     stood = refl;
     stands = refl;
@@ -152,7 +153,7 @@ module _ (setup : List Node) (t : Told) (number : ℕ) (line : List ℕ) (x : No
 -- ---- a line that did not come to the node
 
 -- a fault is that of the line, or memory ran out
-why_of : {X : Type 0} (fault : JsonFault) (read : Read X) → Fails fault read → (read ≡ Err fault) ⊎ (fault ≡ json.Memory)
+pub why_of : {X : Type 0} (fault : JsonFault) (read : Read X) → Fails fault read → (read ≡ Err fault) ⊎ (fault ≡ json.Memory)
 why_of json.Memory read fails = inr refl
 why_of json.Syntax read fails = inl fails
 why_of json.BadNumberToken read fails = inl fails
@@ -171,7 +172,7 @@ fits_event fault line fails no_list no_setup =
     ]
 
 -- the last line of a file, of which nothing stands
-pub left_out : (setup : List Node) (t : Told) (number : ℕ) (line : List ℕ) → Follows setup [] (begun t) (cut_part number line []) (begun t)
+pub left_out : (setup : List Node) (t : Told) (number : ℕ) (line : List ℕ) → Follows setup [] (begun t) (cut_part FileEnd number line []) (begun t)
 left_out setup t number line = Passed (refl, refl) (Last refl refl refl)
 
 module _ (setup : List Node) (t : Told) (number at : ℕ) (line : List ℕ) where

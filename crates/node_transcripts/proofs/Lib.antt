@@ -9,5 +9,11 @@ pub mod ListParts
 pub mod ListCuts
 pub mod Runs
 pub mod CutRuns
+pub mod KeptRows
+pub mod FirstLines
+pub mod LeftLines
+pub mod ReadSoFar
 pub mod LaterRuns
 pub mod Outputs
+pub mod RunKinds
+pub mod EarlyRuns

@@ -26,15 +26,16 @@ use Rattle.transcript_lines.specs.declared.done.Done.TheVariants as done
 use Rattle.done_laws.specs.Laws.{DoneLinesAreRead, IsLineNumber, IsRead}
 use Rattle.transcript_parts.specs.LineReads.{LineRead}
 use Rattle.transcript_parts.specs.Lines.{Line}
-use Rattle.transcript_parts.specs.Parts.{AtEnd, AtLast, Ends, IsPart, NoneSent}
+use Rattle.transcript_parts.specs.Parts.{AtEnd, AtLast, Ends, IsEnding, IsPart, NoneSent}
 use Rattle.transcript_parts.specs.declared.echoed.EchoedLine.{EchoedLine}
+use Rattle.transcript_parts.specs.declared.line_read.Ending.{Ending}
 use Rattle.transcript_parts.specs.declared.line_read.Ending.TheVariants.{FileEnd}
 use Rattle.transcripts.specs.Following.{Follows, IsOwn, Standing, begun}
 use Rattle.transcripts.specs.Following as following
 use Rattle.transcripts.specs.Told.{Told}
 use Rattle.node_transcripts.specs.Laws.{IsToldOf}
 use Rattle.node_transcripts.specs.Readable.{IsPlain, IsReadable, IsToldEvent}
-use Rattle.node_transcripts.proofs.CutLines.{answer_cut, cut_is_part, cut_part}
+use Rattle.node_transcripts.proofs.CutLines.{IsStop, answer_cut, cut_is_part, cut_part, stopped_at}
 use Rattle.node_transcripts.proofs.EventParts.{cut_short, did_lead, echoed, entry_more, fits_event, happened, left_out, no_event, starved, stayed, unstored_leads}
 use Rattle.node_transcripts.proofs.WrittenLines.{answer_part, answer_plain, answer_texts, answer_written, number_behind, numbered, part_of, texts_of, written}
 
@@ -85,8 +86,12 @@ pub record IsOpen {K : Type 0} (Of : List Node → Node → Type 0) (setup : Lis
 abbrev pub LeadsTo : List Node → Told → LineRead → (Told → Type 0) → Type 0
 LeadsTo setup t p After = (u : Told) × Follows setup [] (begun t) p (begun u) × After u
 
--- what an event gave: its packets, the line that says what became of it, and where all of that leads, or the first packets
--- alone, where they stand at the end of a file
+-- and so where a stop came behind it
+abbrev pub LeadsAt : List Node → Told → LineRead → Ending → (Told → Type 0) → Type 0
+LeadsAt setup t p end After = (u : Told) × Follows setup [] (begun t) p (stopped_at end u) × After u
+
+-- what an event gave: its packets, the line that says what became of it, and where all of that leads, or the first
+-- packets alone, where they stand before a stop
 pub record AnswersOne {K : Type 0} (Of : List Node → Node → Type 0) (setup : List Node) (now next : Running K) (line out : List ℕ) : Type 0 where
   pub text : List ℕ
   pub packets : List Packet
@@ -95,8 +100,8 @@ pub record AnswersOne {K : Type 0} (Of : List Node → Node → Type 0) (setup :
   pub reads : IsRead text says None
   pub is : out ≡ packet_lines packets ++ text
   pub leads : (number at : ℕ) (t : Told) → IsToldOf Of setup now t → LeadsTo setup t (part_of number at line packets says) (IsToldOf Of setup next)
-  pub cuts : (number : ℕ) (t : Told) (first rest : List Packet) → IsToldOf Of setup now t → packets ≡ first ++ rest → 0 < length first
-      → LeadsTo setup t (cut_part number line first) (IsToldOf Of setup next)
+  pub cuts : (end : Ending) → IsStop end → (number : ℕ) (t : Told) (first rest : List Packet) → IsToldOf Of setup now t → packets ≡ first ++ rest → 0 < length first
+      → LeadsAt setup t (cut_part end number line first) end (IsToldOf Of setup next)
 
 module _ {K : Type 0} (keeper : Keeper K) (Of : List Node → Node → Type 0) (setup : List Node) (reads : DoneLinesAreRead) (keep : NodesKeepOpenings) where
   -- one that sent nothing
@@ -111,7 +116,7 @@ module _ {K : Type 0} (keeper : Keeper K) (Of : List Node → Node → Type 0) (
     reads = is_read;
     is = is;
     leads = leads;
-    cuts = λ number t first rest told e some.
+    cuts = λ end stop number t first rest told e some.
         let size = ap length e ∙ length-append first rest in
         absurd (omega (arith, size, some));
   }
@@ -159,9 +164,9 @@ module _ {K : Type 0} (keeper : Keeper K) (Of : List Node → Node → Type 0) (
         happened setup t at_line at line x is.read packets (done.Stepped (length packets)) changed next.node.state (own_of now line x t is told) (lead_of t x packets changed told does) (refl, refl, some),
         more_told now next t (echoed at_line line) x.kind packets changed party does told,
       );
-      cuts = λ at_line t first rest told e some_first. (
+      cuts = λ end stop at_line t first rest told e some_first. (
         entry_more t (echoed at_line line) x.kind packets next.node.state,
-        cut_short setup t at_line line x is.read packets first rest changed next.node.state (own_of now line x t is told) (lead_of t x packets changed told does) e some_first,
+        cut_short setup t at_line line x is.read end stop packets first rest changed next.node.state (own_of now line x t is told) (lead_of t x packets changed told does) e some_first,
         more_told now next t (echoed at_line line) x.kind packets changed party does told,
       );
     }
@@ -216,6 +221,23 @@ module _ {K : Type 0} (keeper : Keeper K) (Of : List Node → Node → Type 0) (
 
 -- ---- the last line of a file
 
+-- the first part of the lines leads from a standing to a node that is told, where a stop came behind it
+pub record StopsAt (setup : List Node) (s : Standing) (end : Ending) (lines rest : List Line) (After : Told → Type 0) : Type 0 where
+  pub part : LineRead
+  pub is : IsPart lines part rest
+  pub told : Told
+  pub follows : Follows setup [] s part (stopped_at end told)
+  pub after : After told
+
+-- behind an echoed line so many of the lines of this are a part, where a stop came before all of them stood there, and
+-- after the first
+pub record StopsOn (setup : List Node) (Before : Standing → Type 0) (line out : List ℕ) (After : Told → Type 0) : Type 0 where
+  pub texts : List (List ℕ)
+  pub is_written : out ≡ written texts
+  pub plain : All IsPlain texts
+  pub goes : (end : Ending) → IsStop end → (count number n : ℕ) (behind rest : List Line) → IsEnding behind end rest → (take count texts ≡ [] → ⊥) → (take count texts ≡ texts → ⊥)
+      → (s : Standing) → Before s → StopsAt setup s end (record { number = number; bytes = line } ∷ numbered n (take count texts) behind) rest After
+
 -- what is told is the node before the line, or behind it
 abbrev pub IsToldOfEither : {K : Type 0} → (List Node → Node → Type 0) → List Node → Running K → Option (Running K) → Told → Type 0
 IsToldOfEither Of setup now None t = IsToldOf Of setup now t
@@ -233,10 +255,10 @@ module _ {K : Type 0} (Of : List Node → Node → Type 0) (setup : List Node) (
   bare : (After : Told → Type 0) (number : ℕ) (lines : List Line) (s : Standing) → lines ≡ [] → ((t : Told) → IsToldOf Of setup now t → After t) → IsOpen Of setup now s
       → Goes setup s (record { number = number; bytes = line } ∷ lines) [] After
   bare After number lines s none is stood = record {
-    part = cut_part number line [];
+    part = cut_part FileEnd number line [];
     is = record { behind = lines; begin = refl; ends = subst (λ (ls : List Line). Ends ls [] [] FileEnd []) (sym none) (AtLast NoneSent AtEnd) };
     told = stood.told;
-    follows = subst (λ (z : Standing). Follows setup [] z (cut_part number line []) (begun stood.told)) (sym stood.stands) (left_out setup stood.told number line);
+    follows = subst (λ (z : Standing). Follows setup [] z (cut_part FileEnd number line []) (begun stood.told)) (sym stood.stands) (left_out setup stood.told number line);
     after = is stood.told stood.is;
   }
 
@@ -266,8 +288,8 @@ module _ {K : Type 0} (Of : List Node → Node → Type 0) (setup : List Node) (
         → Goes setup s (record { number = number; bytes = line } ∷ numbered n (texts_of first) []) [] Either
     first_packets number n [] rest s e each stood = bare Either number [] s refl (λ t told. inl told) stood
     first_packets number n (q ∷ qs) rest s e each stood =
-        led_to number (cut_part number line (q ∷ qs)) (record { number = number; bytes = line } ∷ numbered n (texts_of (q ∷ qs)) []) s stood (cut_is_part number n line (q ∷ qs) each)
-        (a.cuts number stood.told (q ∷ qs) rest stood.is e (omega arith))
+        led_to number (cut_part FileEnd number line (q ∷ qs)) (record { number = number; bytes = line } ∷ numbered n (texts_of (q ∷ qs)) []) s stood (cut_is_part FileEnd number n line (q ∷ qs) [] [] each AtEnd)
+        (a.cuts FileEnd tt number stood.told (q ∷ qs) rest stood.is e (omega arith))
 
     pub answer_cuts : CutsOn setup (IsOpen Of setup now) line out Either
     answer_cuts = record {
@@ -281,5 +303,32 @@ module _ {K : Type 0} (Of : List Node → Node → Type 0) (setup : List Node) (
             | inr all ↦ subst (λ (ts : List (List ℕ)). Goes setup s (record { number = number; bytes = line } ∷ numbered n ts []) [] Either) (sym all)
                 (led_to number (part_of number (number_behind n a.packets) line a.packets a.says) (record { number = number; bytes = line } ∷ numbered n (answer_texts a.packets a.reads.line) []) s stood
                 (answer_part number n line a.packets a.says a.text [] a.each a.reads) (a.leads number (number_behind n a.packets) stood.told stood.is))
+          ];
+    }
+
+    stopped_packets : (end : Ending) → IsStop end → (number n : ℕ) (behind ends : List Line) → IsEnding behind end ends → (first rest : List Packet) (s : Standing) → a.packets ≡ first ++ rest
+        → All IsReadable first → (texts_of first ≡ [] → ⊥) → IsOpen Of setup now s → StopsAt setup s end (record { number = number; bytes = line } ∷ numbered n (texts_of first) behind) ends (IsToldOf Of setup next)
+    stopped_packets end stop number n behind ends is [] rest s e each some stood = absurd (some refl)
+    stopped_packets end stop number n behind ends is (q ∷ qs) rest s e each some stood =
+        let led = a.cuts end stop number stood.told (q ∷ qs) rest stood.is e (omega arith) in
+        record {
+          part = cut_part end number line (q ∷ qs);
+          is = cut_is_part end number n line (q ∷ qs) behind ends each is;
+          told = led.0;
+          follows = subst (λ (z : Standing). Follows setup [] z (cut_part end number line (q ∷ qs)) (stopped_at end led.0)) (sym stood.stands) led.1;
+          after = led.2;
+        }
+
+    pub answer_stops : StopsOn setup (IsOpen Of setup now) line out (IsToldOf Of setup next)
+    answer_stops = record {
+      texts = answer_texts a.packets a.reads.line;
+      is_written = answer_written a.packets out a.text a.reads.line a.is a.reads.ends;
+      plain = answer_plain a.packets a.reads.line a.each a.reads.plain;
+      goes = λ end stop count number n behind rest is some not_all s stood.
+          elim (answer_cut count a.packets a.reads.line) [
+            | inl first ↦ subst (λ (ts : List (List ℕ)). StopsAt setup s end (record { number = number; bytes = line } ∷ numbered n ts behind) rest (IsToldOf Of setup next)) (sym first)
+                (stopped_packets end stop number n behind rest is (take count a.packets) (drop count a.packets) s (sym (take-append-drop count a.packets)) (All-take IsReadable count a.packets a.each)
+                (λ none. some (first ∙ none)) stood)
+            | inr all ↦ absurd (not_all all)
           ];
     }

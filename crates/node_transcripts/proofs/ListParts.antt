@@ -35,13 +35,14 @@ use Rattle.transcript_parts.specs.Lines.{Line}
 use Rattle.transcript_parts.specs.Parts.{AtDone, AtEvent, AtLast, Ends, NoneSent}
 use Rattle.transcript_parts.specs.declared.line_read.EventAnswer.{EventAnswer}
 use Rattle.transcript_parts.specs.declared.line_read.Ending.{Ending}
-use Rattle.transcript_parts.specs.declared.line_read.Ending.TheVariants.{Answered, FileEnd}
+use Rattle.transcript_parts.specs.declared.line_read.Ending.TheVariants.{Answered}
 use Rattle.transcripts.specs.Following.{Came, ComeInTurn, FitsEntry, FitsNothing, Follows, Gives, NoneYet, OneMore, Standing, begun}
 use Rattle.transcripts.specs.Following as following
 use Rattle.transcripts.specs.LineEvents.{LineEvent, ending_at, ending_of, event_at, packets_at, packets_of as packets_told}
 use Rattle.transcripts.specs.Told.{Told}
 use Rattle.node_transcripts.specs.Laws.{IsToldOf}
 use Rattle.node_transcripts.specs.Readable.{AreReadable, AreToldEach, IsPlain, IsReadable, IsToldPlaced}
+use Rattle.node_transcripts.proofs.CutLines.{IsStop, stop_entry, stop_malformed, stop_refused, stop_skipped}
 use Rattle.node_transcripts.proofs.Elements.{EventsOf, events_of}
 use Rattle.node_transcripts.proofs.EventParts.{echoed, entered, entry_more, not_true, unstored_leads}
 use Rattle.node_transcripts.proofs.LineParts.{IsOpen, ReadsOn}
@@ -99,37 +100,24 @@ pub either_is : (a b : Bool) → IsTrue (either a b) ↔ (IsTrue a ⊎ IsTrue b)
 either_is true b = ((λ h. inl refl), (λ h. refl))
 either_is false b = ((λ h. inr h), (λ h. elim h [ inl none ↦ absurd (not_true none) | inr now ↦ now ]))
 
-module _ {K : Type 0} (Of : List Node → Node → Type 0) (setup : List Node) (law : DoneLinesAreRead) (keep : NodesKeepOpenings) (now : Running K) (number : ℕ) (is_number : IsLineNumber number) where
-  -- the node is told as it is in the midst of a line
-  abbrev pub at_state : NodeState → Running K
-  at_state s = record { party = now.party; node = record { state = s; keep = now.node.keep } }
+module _ {K : Type 0} (Of : List Node → Node → Type 0) (setup : List Node) (now : Running K) where
+  -- the node with that state
+  abbrev pub with_state : NodeState → Running K
+  with_state s = record { party = now.party; node = record { state = s; keep = now.node.keep } }
 
-  abbrev pub IsToldAt : NodeState → Told → Type 0
-  IsToldAt s t = IsToldOf Of setup (at_state s) t
+  abbrev pub IsToldWith : NodeState → Told → Type 0
+  IsToldWith s t = IsToldOf Of setup (with_state s) t
 
-  -- ---- one event
-
-  -- what came of it, of any node that is told, and whether a row changed
+  -- what came of an event, of any node that is told, and whether a row changed
   pub record Came_of (s next : NodeState) (e : LineEvent) (end : Ending) (packets : List Packet) (t : Told) : Type 0 where
     pub told : Told
     pub changed : Bool
     pub gives : Gives t e end packets changed told
-    pub is : IsToldAt next told
-
-  -- its packets, and the line that says what became of it
-  pub record AnswersPlaced (s next : NodeState) (place : ℕ) (read : Read NodeEvent) (out : List ℕ) : Type 0 where
-    pub text : List ℕ
-    pub packets : List Packet
-    pub says : Done
-    pub each : All IsReadable packets
-    pub reads : IsRead text says (Some place)
-    pub is : out ≡ packet_lines packets ++ text
-    pub came : (at : ℕ) (e : LineEvent) → e.event ≡ read → (t : Told) → IsToldAt s t → Came_of s next e (Answered says at) packets t
-    pub cut : (e : LineEvent) → e.event ≡ read → (t : Told) → IsToldAt s t → (first rest : List Packet) → packets ≡ first ++ rest → Came_of s next e FileEnd first t
+    pub is : IsToldWith next told
 
   -- one that was carried out
-  happens : (s next : NodeState) (x : NodeEvent) (packets first : List Packet) (changed : Bool) (end : Ending) (e : LineEvent) → e.event ≡ Ok x → key x.node ≡ key now.party → (t : Told) → IsToldAt s t
-      → Leads s x.kind packets changed next → FitsEntry end first changed packets → ((t : Told) → IsToldAt s t → IsOfOpening (opening_of setup t.replay.member) next)
+  abbrev pub happens : (s next : NodeState) (x : NodeEvent) (packets first : List Packet) (changed : Bool) (end : Ending) (e : LineEvent) → e.event ≡ Ok x → key x.node ≡ key now.party → (t : Told) → IsToldWith s t
+      → Leads s x.kind packets changed next → FitsEntry end first changed packets → ((t : Told) → IsToldWith s t → IsOfOpening (opening_of setup t.replay.member) next)
       → Came_of s next e end first t
   happens s next x packets first changed end e reads own t told leads fits of_next =
       let leads_on : Leads t.replay.state x.kind packets changed next = subst (λ (n : NodeState). Leads n x.kind packets changed next) (sym told.state) leads in
@@ -148,13 +136,34 @@ module _ {K : Type 0} (Of : List Node → Node → Type 0) (setup : List Node) (
       }
 
   -- one by which the node did nothing
-  stays : (s next : NodeState) (end : Ending) (e : LineEvent) (t : Told) → IsToldAt s t → next ≡ s → FitsNothing t e end → Came_of s next e end [] t
+  abbrev pub stays : (s next : NodeState) (end : Ending) (e : LineEvent) (t : Told) → IsToldWith s t → next ≡ s → FitsNothing t e end → Came_of s next e end [] t
   stays s next end e t told same fits = record {
     told = t;
     changed = false;
     gives = inr (record { fits = fits; nothing = refl; unchanged = refl; same = refl });
-    is = subst (λ (n : NodeState). IsToldAt n t) (sym same) told;
+    is = subst (λ (n : NodeState). IsToldWith n t) (sym same) told;
   }
+
+module _ {K : Type 0} (Of : List Node → Node → Type 0) (setup : List Node) (law : DoneLinesAreRead) (keep : NodesKeepOpenings) (now : Running K) (number : ℕ) (is_number : IsLineNumber number) where
+  -- the node is told as it is in the midst of a line
+  abbrev pub at_state : NodeState → Running K
+  at_state s = with_state Of setup now s
+
+  abbrev pub IsToldAt : NodeState → Told → Type 0
+  IsToldAt s t = IsToldWith Of setup now s t
+
+  -- ---- one event
+
+  -- its packets, and the line that says what became of it
+  pub record AnswersPlaced (s next : NodeState) (place : ℕ) (read : Read NodeEvent) (out : List ℕ) : Type 0 where
+    pub text : List ℕ
+    pub packets : List Packet
+    pub says : Done
+    pub each : All IsReadable packets
+    pub reads : IsRead text says (Some place)
+    pub is : out ≡ packet_lines packets ++ text
+    pub came : (at : ℕ) (e : LineEvent) → e.event ≡ read → (t : Told) → IsToldAt s t → Came_of Of setup now s next e (Answered says at) packets t
+    pub cut : (end : Ending) → IsStop end → (e : LineEvent) → e.event ≡ read → (t : Told) → IsToldAt s t → (first rest : List Packet) → packets ≡ first ++ rest → Came_of Of setup now s next e end first t
 
   -- what is said of one that was carried out
   record SaysStep (place : ℕ) (packets : List Packet) (changed : Bool) : Type 0 where
@@ -171,26 +180,26 @@ module _ {K : Type 0} (Of : List Node → Node → Type 0) (setup : List Node) (
     fits = λ at. (refl, refl, inr (λ e. absurd (omega (arith, ap length e))));
   }
 
-  -- what is told of an event ends so, or the file does before
+  -- what is told of an event ends so, or a stop came before
   data EndOf (d : Done) : Ending → Type 0 where
     Said : (at : ℕ) → EndOf d (Answered d at)
-    Unsaid : EndOf d FileEnd
+    Unsaid : (end : Ending) → IsStop end → EndOf d end
 
   is_idle : {end : Ending} → EndOf done.Idle end → FitsEntry end [] false []
   is_idle (Said at) = (refl, refl, refl)
-  is_idle Unsaid = ([], refl)
+  is_idle (Unsaid end stop) = stop_entry end stop [] [] [] false refl
 
   is_skipped : {end : Ending} → EndOf done.Skipped end → following.TellsSkipped end
   is_skipped (Said at) = tt
-  is_skipped Unsaid = tt
+  is_skipped (Unsaid end stop) = stop_skipped end stop
 
   is_malformed : {end : Ending} {fault : JsonFault} → EndOf (done.Malformed (Some fault)) end → following.TellsMalformed fault end
   is_malformed (Said at) = refl
-  is_malformed Unsaid = tt
+  is_malformed {fault = fault} (Unsaid end stop) = stop_malformed end fault stop
 
   is_refused : {end : Ending} {fault : NodeFault} → EndOf (done.Refused (Some fault)) end → following.TellsRefused fault end
   is_refused (Said at) = refl
-  is_refused Unsaid = tt
+  is_refused {fault = fault} (Unsaid end stop) = stop_refused end fault stop
 
   none_first : (first rest : List Packet) → [] ≡ first ++ rest → first ≡ []
   none_first [] rest e = refl
@@ -198,7 +207,7 @@ module _ {K : Type 0} (Of : List Node → Node → Type 0) (setup : List Node) (
 
   -- one that sent nothing
   says_so : (s next : NodeState) (place : ℕ) (read : Read NodeEvent) (out text : List ℕ) (d : Done) → IsRead text d (Some place) → out ≡ text
-      → ((end : Ending) → EndOf d end → (e : LineEvent) → e.event ≡ read → (t : Told) → IsToldAt s t → Came_of s next e end [] t) → AnswersPlaced s next place read out
+      → ((end : Ending) → EndOf d end → (e : LineEvent) → e.event ≡ read → (t : Told) → IsToldAt s t → Came_of Of setup now s next e end [] t) → AnswersPlaced s next place read out
   says_so s next place read out text d is_read is came = record {
     text = text;
     packets = [];
@@ -207,7 +216,7 @@ module _ {K : Type 0} (Of : List Node → Node → Type 0) (setup : List Node) (
     reads = is_read;
     is = is;
     came = λ at. came (Answered d at) (Said at);
-    cut = λ e event t told first rest none. subst (λ (ps : List Packet). Came_of s next e FileEnd ps t) (sym (none_first first rest none)) (came FileEnd Unsaid e event t told);
+    cut = λ end stop e event t told first rest none. subst (λ (ps : List Packet). Came_of Of setup now s next e end ps t) (sym (none_first first rest none)) (came end (Unsaid end stop) e event t told);
   }
 
   pub placed_answer : {s next : NodeState} {place : ℕ} {read : Read NodeEvent} {turn : Turn} {out : List ℕ} {did : List Deed} (is : PlacedTurn now.party s number place read turn out did next)
@@ -228,31 +237,32 @@ module _ {K : Type 0} (Of : List Node → Node → Type 0) (setup : List Node) (
         each = are.each;
         reads = says.reads;
         is = written;
-        came = λ at e is_read t told. happens s next x (packets_of deed) (packets_of deed) changed (Answered says.says at) e (is_read ∙ own.is) own.same t told leads (says.fits at) of_next;
-        cut = λ e is_read t told first rest some. happens s next x (packets_of deed) first changed FileEnd e (is_read ∙ own.is) own.same t told leads (rest, some) of_next;
+        came = λ at e is_read t told. happens Of setup now s next x (packets_of deed) (packets_of deed) changed (Answered says.says at) e (is_read ∙ own.is) own.same t told leads (says.fits at) of_next;
+        cut = λ end stop e is_read t told first rest some.
+            happens Of setup now s next x (packets_of deed) first changed end e (is_read ∙ own.is) own.same t told leads (stop_entry end stop first rest (packets_of deed) changed some) of_next;
       }
   placed_answer {s = s} {next = next} {place = place} {read = read} {out = out} (lists.WasUnstored x own refused taken written none same) whole are =
       says_so s next place read out (idle_line number (Some place)) done.Idle (law.idle number (Some place) is_number whole) written
       (λ end is_end e is_read t told.
-      happens s next x [] [] false end e (is_read ∙ own.is) own.same t told
+      happens Of setup now s next x [] [] false end e (is_read ∙ own.is) own.same t told
       (subst (λ (n : NodeState). Leads s x.kind [] false n) (sym same) (unstored_leads s x.kind refused)) (is_idle is_end)
       (λ u is. subst (λ (n : NodeState). IsOfOpening (opening_of setup u.replay.member) n) (is.state ∙ sym same) is.of_member))
   placed_answer {s = s} {next = next} {place = place} {read = read} {out = out} (lists.IsElsewhere x is_event other taken written none same) whole are =
       says_so s next place read out (skipped_line number (Some place)) done.Skipped (law.skipped number (Some place) is_number whole) written
       (λ end is_end e is_read t told.
-      stays s next end e t told same (following.Skipped x (is_read ∙ is_event) (is_skipped is_end) (λ own. absurd (other (own ∙ ap key told.party)))))
+      stays Of setup now s next end e t told same (following.Skipped x (is_read ∙ is_event) (is_skipped is_end) (λ own. absurd (other (own ∙ ap key told.party)))))
   placed_answer {s = s} {next = next} {place = place} {read = read} {out = out} (lists.IsOfOtherRole x own stored nothing taken written none same) whole are =
       says_so s next place read out (skipped_line number (Some place)) done.Skipped (law.skipped number (Some place) is_number whole) written
       (λ end is_end e is_read t told.
-      stays s next end e t told same
+      stays Of setup now s next end e t told same
       (following.Skipped x (is_read ∙ own.is) (is_skipped is_end) (λ is_own. subst (λ (n : NodeState). Passes n x.kind) (sym told.state) (record { taken = stored; nothing = nothing }))))
   placed_answer {s = s} {next = next} {place = place} {read = read} {out = out} (lists.IsMalformed fault is_fault other refused written none same) whole are =
       says_so s next place read out (malformed_line number (Some place) fault) (done.Malformed (Some fault)) (law.malformed number (Some place) fault is_number whole) written
-      (λ end is_end e is_read t told. stays s next end e t told same (following.Malformed fault (is_read ∙ is_fault) (is_malformed is_end)))
+      (λ end is_end e is_read t told. stays Of setup now s next end e t told same (following.Malformed fault (is_read ∙ is_fault) (is_malformed is_end)))
   placed_answer {s = s} {next = next} {place = place} {read = read} {out = out} (lists.IsRefused x own input brings fault refuses other refused written none same) whole are =
       says_so s next place read out (refused_line number (Some place) fault) (done.Refused (Some fault)) (law.refused number (Some place) fault is_number whole) written
       (λ end is_end e is_read t told.
-      stays s next end e t told same
+      stays Of setup now s next end e t told same
       (following.Refused x (is_read ∙ own.is) fault (is_refused is_end) (own.same ∙ ap key (sym told.party))
       (subst (λ (n : NodeState). Refuses n x.kind fault) (sym told.state) (record { input = input; brings = brings; refuses = refuses; other = other }))))
 
@@ -265,6 +275,7 @@ module _ {K : Type 0} (Of : List Node → Node → Type 0) (setup : List Node) (
     pub plain : All IsPlain texts
     pub answers : ℕ → List EventAnswer
     pub count : (n : ℕ) → length (answers n) ≡ length events
+    pub none : (n : ℕ) → answers n ≡ [] → texts ≡ []
     pub places : (n i : ℕ) (a : EventAnswer) → slice_get (answers n) i ≡ Some a → a.event ≡ i
     pub ends : (n : ℕ) (behind rest : List Line) (more : List EventAnswer) (qs : List Packet) (end : Ending) → Ends behind more qs end rest → Ends (numbered n texts behind) (answers n ++ more) qs end rest
     pub come : (n : ℕ) (p : LineRead) (more : List EventAnswer) → p.answers ≡ answers n ++ more → (es : List LineEvent) → map event_at es ≡ events → (t : Told) → IsToldAt now.node.state t
@@ -277,6 +288,7 @@ module _ {K : Type 0} (Of : List Node → Node → Type 0) (setup : List Node) (
     plain = All-nil IsPlain;
     answers = λ n. [];
     count = λ n. refl;
+    none = λ n is. refl;
     places = λ n i a at. cc;
     ends = λ n behind rest more qs end is. is;
     come = λ n p more is es are t told. none_come p es are t told;
@@ -343,6 +355,10 @@ module _ {K : Type 0} (Of : List Node → Node → Type 0) (setup : List Node) (
           let whole = length-append (before.answers n) (answer_at (lines_at n) ∷ []) in
           let events_size = length-append events (read ∷ []) in
           omega (arith, front, whole, events_size);
+      none = λ n is.
+          let whole = length-append (before.answers n) (answer_at (lines_at n) ∷ []) in
+          let nothing = ap length is in
+          absurd (omega (arith, whole, nothing));
       places = λ n i a at. elim (got_pushed (before.answers n) (answer_at (lines_at n)) i a at) [
         | inl earlier ↦ before.places n i a earlier
         | inr here ↦ sym (ap (λ (x : EventAnswer). x.event) here.1) ∙ sym (here.0 ∙ before.count n)

@@ -19,10 +19,10 @@ use Rattle.node_transcripts.proofs.CutRuns.{cut_runs_are_transcripts, echoes_are
 use Rattle.node_transcripts.proofs.Runs.{runs_are_transcripts}
 
 -- at the end of an input nothing is written behind a node
-end_gives : {K : Type 0} (q : Option (Running K)) (now : Running K) (ran : Ran) (out : List ℕ) → q ≡ Some now → NodeEnd q ran out → out ≡ []
+pub end_gives : {K : Type 0} (q : Option (Running K)) (now : Running K) (ran : Ran) (out : List ℕ) → q ≡ Some now → NodeEnd q ran out → out ≡ []
 end_gives {K} q now ran out e gives = (subst (λ (z : Option (Running K)). NodeEnd z ran out) e gives).1
 
-take_none : (n : ℕ) (out : List ℕ) → out ≡ [] → take n out ≡ []
+pub take_none : (n : ℕ) (out : List ℕ) → out ≡ [] → take n out ≡ []
 take_none zero out none = refl
 take_none (suc n) out none = ap (take (suc n)) none
 

@@ -41,7 +41,7 @@ pub record ReadsTo (setup : List Node) (out : List ℕ) (Stands : Standing → T
   pub plain : All IsPlain texts
   pub reads : (rest : List Line) → (s : Standing) × ReadTo setup [] (numbered 0 texts rest) rest s × Stands s
 
-pub nothing_read : (setup : List Node) → ReadsTo setup [] (λ s. s ≡ nothing_known)
+pub nothing_read : (setup : List Node) → ReadsTo setup [] (λ s. s.told ≡ None)
 nothing_read setup = record { texts = []; is_written = refl; plain = All-nil IsPlain; reads = λ rest. (nothing_known, Start, refl) }
 
 pub echo_is : (line : List ℕ) → 0 < length line → echo_of true line ≡ line ++ 10 ∷ []
@@ -128,11 +128,11 @@ module _ {K : Type 0} (keeper : Keeper K) (source : Source K) (Of : List Node �
   told_more setup Stands now out line more some plain before on = told_if any_lines setup Stands now out line more some plain (λ number others. tt) (reads_if setup out Stands before) on
 
   -- the keeper was honest before
-  commits_honest : {changes : _} {before after : K} → Commits keeper changes before after → keeper.is_honest after → keeper.is_honest before
+  pub commits_honest : {changes : _} {before after : K} → Commits keeper changes before after → keeper.is_honest after → keeper.is_honest before
   commits_honest (keepers.Nothing none same) honest = subst keeper.is_honest same honest
   commits_honest (keepers.Taken some takes) honest = takes.earlier honest
 
-  event_honest : {now next : Running K} {stop stopped : Option NodeStop} {number : ℕ} {line : List ℕ} {turn : Turn} {out : List ℕ}
+  pub event_honest : {now next : Running K} {stop stopped : Option NodeStop} {number : ℕ} {line : List ℕ} {turn : Turn} {out : List ℕ}
       → EventTurn keeper now stop number line turn out next stopped → turn ≢ Ended → keeper.is_honest next.node.keep → keeper.is_honest now.node.keep
   event_honest (turns.DidStep x is packets changed does some taken written party same) ends honest = commits_honest does.commits honest
   event_honest (turns.WasIdle x is does taken written party same) ends honest = commits_honest does.commits honest
@@ -251,7 +251,7 @@ module _ {K : Type 0} (keeper : Keeper K) (source : Source K) (reads : DoneLines
   first_told run now is plain few told asks honest =
       running_told keeper source (IsAsked wanted) reads keep wanted [] (HasNoRows keeper)
       (λ number line setup m rows node out is_number some plain read is begins honest no_rows written.
-      told_more keeper source (IsAsked wanted) setup (λ z. z ≡ nothing_known) (record { party = party_of m; node = node }) [] line out some plain (nothing_read setup)
+      told_more keeper source (IsAsked wanted) setup (λ z. z.told ≡ None) (record { party = party_of m; node = node }) [] line out some plain (nothing_read setup)
       (opening_part keeper source held can (IsAsked wanted) reads setups number line setup m rows node out is_number read is.within is begins honest no_rows written))
       run now is plain few told asks honest
 

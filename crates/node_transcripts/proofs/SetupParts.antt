@@ -14,17 +14,15 @@ use Rattle.stored_laws.specs.Nodes.{AreNodeRows, IsOfOpening, OpeningsCanStartAg
 use Rattle.node_store.specs.Contents.{Content, rows_of}
 use Rattle.node_core.specs.Members.{IsMadeOfRows}
 use Rattle.node_rows.specs.Holds.{HasRow, HoldsRows}
-use Rattle.node_rows.specs.Laws.{EmptyIsHeld, NodesKeepOpenings}
+use Rattle.node_rows.specs.Laws.{EmptyIsHeld}
 use Rattle.node_keepers.specs.Opening.{Source}
 use Rattle.node_cell.specs.Keepers.{Keeper}
-use Rattle.node_cell.specs.Stored.{IsStored, Stored}
+use Rattle.node_cell.specs.Stored.{Stored}
 use Rattle.node_runs.specs.DoneLines.{opened_line}
-use Rattle.node_runs.specs.NodeTurns.{Begins, Running}
+use Rattle.node_runs.specs.NodeTurns.{Begins}
 use Rattle.transcript_lines.specs.declared.done.Done.TheVariants as done
-use Rattle.done_laws.specs.Laws.{DoneLinesAreRead, IsLineNumber, IsWhole}
-use Rattle.transcript_parts.specs.declared.first_lines.Opened.{Opened}
-use Rattle.transcripts.specs.Following.{First, GoesOn, Later, Standing, nothing_known, opening_told, restarted as restarted_told}
-use Rattle.transcripts.specs.Told.{Told}
+use Rattle.done_laws.specs.Laws.{DoneLinesAreRead, IsLineNumber}
+use Rattle.transcripts.specs.Following.{First, opening_told}
 use Rattle.node_transcripts.specs.Laws.{IsToldOf}
 use Rattle.node_transcripts.specs.Readable.{IsReadable, ReadsSetups}
 use Rattle.node_transcripts.proofs.LineParts.{ReadsOn, by_answer}
@@ -60,7 +58,7 @@ abbrev list_in : List Row → Option (List Row) → List Row
 list_in d None = d
 list_in d (Some rows) = rows
 
-made_rows : (setup : List Node) (m : Node) (rows : List Row) (n : NodeState) → IsMadeOfRows setup m rows n → AreNodeRows rows n
+pub made_rows : (setup : List Node) (m : Node) (rows : List Row) (n : NodeState) → IsMadeOfRows setup m rows n → AreNodeRows rows n
 made_rows setup (member.Operator party site) rows (Operates s) made = made.has_rows
 made_rows setup (member.Operator party site) rows (Provides s) made = absurd made
 made_rows setup (member.Provider party) rows (Operates s) made = absurd made
@@ -98,13 +96,13 @@ module _ {K : Type 0} (keeper : Keeper K) (source : Source K) (held : EmptyIsHel
     pub opening_part : (number : ℕ) (line : List ℕ) (setup : List Node) (m : Node) (rows : ℕ) (node : Stored K) (out : List ℕ) → IsLineNumber number → setup_in line ≡ Ok setup
         → Contains setup m → Of setup m → (begins : Begins keeper source setup m rows node) → keeper.is_honest node.keep
         → (keeper.is_honest begins.starts.fresh → keeper.content begins.starts.fresh ≡ empty) → out ≡ opened_line number (party_of m) rows (last_serial node.state)
-        → ReadsOn setup (λ s. s ≡ nothing_known) line out (IsToldOf {K = K} Of setup (record { party = party_of m; node = node }))
+        → ReadsOn setup (λ s. s.told ≡ None) line out (IsToldOf {K = K} Of setup (record { party = party_of m; node = node }))
     opening_part number line setup m rows node out is_number read within is begins honest no_rows written =
         let is_setup = setups line setup read in
         let anew = opens_anew setup m rows node is_setup within begins honest no_rows in
         let serial : last_serial node.state ≡ 0 = ap last_serial anew.is ∙ sent_nothing setup m in
         let text_is : out ≡ opened_line number (party_of m) 0 0 = written ∙ ap (λ n. opened_line number (party_of m) n (last_serial node.state)) anew.none ∙ ap (opened_line number (party_of m) 0) serial in
-        by_answer setup (λ s. s ≡ nothing_known) (IsToldOf {K = K} Of setup (record { party = party_of m; node = node })) line out (opened_line number (party_of m) 0 0) []
+        by_answer setup (λ s. s.told ≡ None) (IsToldOf {K = K} Of setup (record { party = party_of m; node = node })) line out (opened_line number (party_of m) 0 0) []
         (done.Opened (party_of m) 0 0) (All-nil IsReadable) (reads.opened number (party_of m) 0 0 is_number (is_setup.parties m within) (omega arith) (omega arith)) text_is
         (λ at_line at s nothing. (
           opening_told setup m,
@@ -116,68 +114,8 @@ module _ {K : Type 0} (keeper : Keeper K) (source : Source K) (held : EmptyIsHel
             nothing = (refl, refl);
             at = at;
             answered = refl;
-            first = ap (λ (z : Standing). z.told) nothing;
+            first = nothing;
             stands = refl;
           }),
           record { setup_is = refl; member = is; state = sym anew.is; party = refl; of_member = of_itself setup m },
         ))
-
--- ---- the first line of a later run
-
--- where a run is opened behind another, the node goes on as that left it
-pub record ComesBack {K : Type 0} (Of : List Node → Node → Type 0) (setup : List Node) (ended : Running K) (s : Standing) : Type 0 where
-  pub told : Told
-  pub stands : s.told ≡ Some told
-  pub goes_on : GoesOn told s.unanswered (restarted_told told)
-  pub is : IsToldOf Of setup ended told
-
-module _ {K : Type 0} (keeper : Keeper K) (source : Source K) (Of : List Node → Node → Type 0) (reads : DoneLinesAreRead) (keep : NodesKeepOpenings) (setups : ReadsSetups) where
-  pub later_part : (ended : Running K) → IsStored keeper ended.node → keeper.is_honest ended.node.keep → (number : ℕ) (line : List ℕ) (setup : List Node) (m : Node) (rows : ℕ) (node : Stored K) (out : List ℕ)
-      → IsLineNumber number → setup_in line ≡ Ok setup → Contains setup m → IsWhole rows → IsWhole (last_serial node.state)
-      → (begins : Begins keeper source setup m rows node) → keeper.is_honest node.keep → (keeper.is_honest begins.starts.fresh → keeper.content begins.starts.fresh ≡ keeper.content ended.node.keep)
-      → ((found : Node) → Of setup found → found ≡ m) → out ≡ opened_line number (party_of m) rows (last_serial node.state)
-      → ReadsOn setup (ComesBack Of setup ended) line out (IsToldOf {K = K} Of setup (record { party = party_of m; node = node }))
-  later_part ended stored honest number line setup m rows node out is_number read within few whole begins honest_node left only written =
-      let now : Running K = record { party = party_of m; node = node } in
-      let starts = begins.starts in
-      let same : keeper.content starts.fresh ≡ keeper.content ended.node.keep = left (starts.reopens.keeps.earlier honest_node) in
-      by_answer setup (ComesBack Of setup ended) (IsToldOf {K = K} Of setup now) line out (opened_line number (party_of m) rows (last_serial node.state)) []
-      (done.Opened (party_of m) rows (last_serial node.state)) (All-nil IsReadable)
-      (reads.opened number (party_of m) rows (last_serial node.state) is_number ((setups line setup read).parties m within) few whole) written
-      (λ at_line at s stood.
-      let t = stood.told in
-      let is_m : t.replay.member ≡ m = only t.replay.member stood.is.member in
-      let of_ended : IsOfOpening (opening_of setup m) ended.node.state =
-      subst (λ (n : NodeState). IsOfOpening (opening_of setup m) n) stood.is.state (subst (λ (x : Node). IsOfOpening (opening_of setup x) t.replay.state) is_m stood.is.of_member) in
-      let again : node.state ≡ restarted ended.node.state = starts.again honest_node ended.node.state (record {
-        starts = stored.starts;
-        of_member = of_ended;
-        holds = subst (λ (c : Content). HoldsRows c ended.node.state) (sym same) (stored.holds honest);
-      }) in
-      let state_is : restarted t.replay.state ≡ node.state = ap restarted stood.is.state ∙ sym again in
-      let opened : Opened = record { party = party_of m; rows = rows; serial = last_serial node.state; number = at } in (
-        restarted_told t,
-        Later (record {
-          old = t;
-          new = restarted_told t;
-          reads = read;
-          nothing = (refl, refl);
-          opened = opened;
-          answered = refl;
-          stands_at = record {
-            party = ap party_of is_m;
-            serial = ap last_serial (sym state_is);
-            rows = (starts.reopens.list, subst (λ (n : NodeState). AreNodeRows starts.reopens.list n) (sym state_is) (made_rows setup m starts.reopens.list node.state starts.reopens.made), starts.reopens.counts);
-          };
-          stood = stood.stands;
-          goes_on = stood.goes_on;
-          stands = refl;
-        }),
-        record {
-          setup_is = stood.is.setup_is;
-          member = stood.is.member;
-          state = state_is;
-          party = ap party_of is_m;
-          of_member = keep.by_restarts (opening_of setup t.replay.member) t.replay.state stood.is.of_member;
-        },
-      ))

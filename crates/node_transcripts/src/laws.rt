@@ -2,14 +2,18 @@
 
 ghost use Rattle.node_cell.specs.Keepers.{keeper_of};
 ghost use Rattle.node_keepers.specs.Opening.{source_of};
-ghost use Rattle.node_transcripts.specs.LaterRuns.{SeveralRunsAreTranscripts};
+ghost use Rattle.node_transcripts.specs.LaterRuns.{FirstLinesEndRuns, SeveralRunsAreTranscripts};
 ghost use Rattle.node_transcripts.specs.Laws.{CutRunsAreTranscripts, EchoesAreTranscripts, RunsAreTranscripts};
 ghost use Rattle.node_transcripts.specs.Outputs.{BegunRunsAreTranscripts, WholeRunsAreTranscripts};
+ghost use Rattle.node_transcripts.specs.RunKinds.{BegunRunsAreSuch, EarlyRunsAreSuch, EarlyWholeRunsAreSuch, WholeRunsAreSuch};
 
 use done_laws::laws::done_lines_are_read;
 use node_keepers::Keeps;
-use node_rows::laws::{empty_is_held, nodes_keep_openings};
-use stored_laws::laws::openings_can_start_again;
+use node_rows::laws::{
+    changes_are_held, empty_is_held, nodes_keep_openings, restarts_are_held,
+    restarts_can_start_again,
+};
+use stored_laws::laws::{nodes_can_start_again, openings_can_start_again};
 
 /// What a run writes for its lines is a transcript of its node.
 pub fn runs_are_transcripts<S: Keeps>()
@@ -33,14 +37,21 @@ pub fn cut_runs_are_transcripts<S: Keeps>()
     openings_can_start_again();
 }
 
-/// Runs of one node over one store, one behind the other, are one transcript.
+/// What runs of one node over one store wrote, one behind the other, is one transcript. Each may have come to its end,
+/// ended at a line, or been stopped anywhere. The next one opens what it left, whether or not a line of which nothing is
+/// written was carried out. Between them may stand runs in which no node began.
 pub fn several_runs_are_transcripts<S: Keeps>()
-    ensures { SeveralRunsAreTranscripts (keeper_of S.Kept.content S.Kept.is_honest S.Kept.refusals S.Kept.may_leave) (source_of S.may_refuse S.found) }
+    ensures runs { SeveralRunsAreTranscripts (keeper_of S.Kept.content S.Kept.is_honest S.Kept.refusals S.Kept.may_leave) (source_of S.may_refuse S.found) }
+    ensures first_lines { FirstLinesEndRuns (keeper_of S.Kept.content S.Kept.is_honest S.Kept.refusals S.Kept.may_leave) (source_of S.may_refuse S.found) }
 {
     done_lines_are_read();
     nodes_keep_openings();
     empty_is_held();
     openings_can_start_again();
+    changes_are_held();
+    nodes_can_start_again();
+    restarts_are_held();
+    restarts_can_start_again();
 }
 
 /// Whatever `run_node` wrote, whether the run came to the end of its input, ended at a line, or was cut, is a transcript.
@@ -52,4 +63,14 @@ pub fn outputs_are_transcripts<S: Keeps>()
     nodes_keep_openings();
     empty_is_held();
     openings_can_start_again();
+}
+
+/// Whatever `run_node` wrote is such a run, or one in which no node began, but for what stands of a line that was cut.
+pub fn outputs_are_such_runs<S: Keeps>()
+    ensures whole { WholeRunsAreSuch (keeper_of S.Kept.content S.Kept.is_honest S.Kept.refusals S.Kept.may_leave) (source_of S.may_refuse S.found) }
+    ensures begun { BegunRunsAreSuch (keeper_of S.Kept.content S.Kept.is_honest S.Kept.refusals S.Kept.may_leave) (source_of S.may_refuse S.found) }
+    ensures early { EarlyRunsAreSuch (keeper_of S.Kept.content S.Kept.is_honest S.Kept.refusals S.Kept.may_leave) (source_of S.may_refuse S.found) }
+    ensures early_whole { EarlyWholeRunsAreSuch (keeper_of S.Kept.content S.Kept.is_honest S.Kept.refusals S.Kept.may_leave) (source_of S.may_refuse S.found) }
+{
+    done_lines_are_read();
 }

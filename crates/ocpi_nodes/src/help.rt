@@ -2,15 +2,15 @@
 
 /// After the help of the program.
 pub const PROGRAM: &str =
-    r#"Input and output are lines. docs/PROTOCOL.md has their forms; examples/ has whole inputs (*.jsonl)
-beside what they give (*.out). `ocpi_nodes help COMMAND` says what a command reads and writes.
+    r#"Input and output are lines. docs/PROTOCOL.md has their forms; examples/ has whole inputs (in.jsonl)
+beside what they give (out). `ocpi_nodes help COMMAND` says what a command reads and writes.
 
 Examples, in the folder of the repository:
-  ./ocpi_nodes answer < examples/start_session.jsonl
-  ./ocpi_nodes play < examples/charge.jsonl
-  mkdir stores && ./ocpi_nodes play --store stores < examples/charge.jsonl
+  ./ocpi_nodes answer < examples/answer/start_session/in.jsonl
+  ./ocpi_nodes play < examples/play/charge/in.jsonl
+  mkdir stores && ./ocpi_nodes play --store stores < examples/play/charge/in.jsonl
   ./ocpi_nodes settle stores/node2.db
-  ./ocpi_nodes node BE/BEC --store be.db < examples/operators_day.jsonl
+  ./ocpi_nodes node BE/BEC --store be.db < examples/node/operators_day/in.jsonl
   ./ocpi_nodes weave be.transcript nl.transcript | ./ocpi_nodes play
 
 Exit status:
@@ -40,7 +40,7 @@ Exit status:
   2  the command line is wrong
 
 Example, in the folder of the repository:
-  ./ocpi_nodes answer < examples/start_session.jsonl"#;
+  ./ocpi_nodes answer < examples/answer/start_session/in.jsonl"#;
 
 /// After the help of `play`.
 pub const PLAY: &str =
@@ -73,8 +73,8 @@ Exit status:
      end, all is written
 
 Examples, in the folder of the repository:
-  ./ocpi_nodes play < examples/charge.jsonl
-  mkdir stores && ./ocpi_nodes play --store stores < examples/charge.jsonl"#;
+  ./ocpi_nodes play < examples/play/charge/in.jsonl
+  mkdir stores && ./ocpi_nodes play --store stores < examples/play/charge/in.jsonl"#;
 
 /// After the help of `node`.
 pub const NODE: &str =
@@ -118,7 +118,7 @@ Exit status:
      at the end, all is written
 
 Example, in the folder of the repository:
-  ./ocpi_nodes node BE/BEC --store be.db < examples/operators_day.jsonl"#;
+  ./ocpi_nodes node BE/BEC --store be.db < examples/node/operators_day/in.jsonl"#;
 
 /// After the help of `settle`.
 pub const SETTLE: &str =

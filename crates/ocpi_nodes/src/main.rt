@@ -1,4 +1,17 @@
 //! OCPI nodes as programs over lines of JSON.
+//!
+//! # Promises
+//!
+//! - The program ends with that status. By `report`, `report_node`; `report_weave`: `ran`, `given`, `stopped`.
+//! - Where a store could not be closed and nothing else had stopped the run, that did. Where something had, it is
+//!   handed on to be told besides. By `and_closed`, `and_node_closed`: `refused`; `besides`, `once`, `nothing`.
+//! - The status is 2 where the command line is wrong, whether or not that could be printed. After help or version it is
+//!   0 where it was printed, and else 1. By `status_after`: `wrong`, `printed`, `unprinted`.
+//!
+//! # How it is built
+//!
+//! `main` takes the command line, joins one of these to the standard input and output, closes the stores, and ends
+//! with its exit status. With a store the output has no buffer.
 #![tactic(auto)]
 
 ghost use Rattle.std.specs.Prelude.{◌≡◌, ◌≢◌};

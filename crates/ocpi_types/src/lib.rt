@@ -13,6 +13,29 @@
 //!
 //! A type with a rule of its own is made by a `new`, which answers none where the rule does not hold. What owns memory
 //! has a `copy`, which may want some.
+//!
+//! # Promises
+//!
+//! - What OCPI bounds, and every record of it alone, is `Copy`. Large members stand on the heap in a `Boxed`, which
+//!   clauses see as the value itself. By `Token`, `CdrToken`, `Session`, `Price`, `Authorization`, `CommandResponse`,
+//!   `Ack`, `Event`, `Reservation`, `Opening`, `RowKey`; `Body`, `Command`, `Reply`, `Push`, `Row`.
+//! - A row stands under its key in key form, for all thirteen kinds. By `Row::key` (`key_of`).
+//! - A value is made exactly where its limits hold (lengths, ids that differ, ranges), and else none. By `new` of
+//!   `NonEmpty`, `Connectors`, `Evses`, `Locations`, `Parties`, `Setup`, `StatusCode`, `RefusalCode`, `PricePerKwh`.
+//! - A set of ids is a finite set of keys. By `IdSet::insert`: `added`, `after`, `err`, `absent`.
+//! - A word list names each entry, the kinds of packets too. By `Word` of each list.
+//! - A copy equals its source; of a packet, a row or a change it wants memory only where that may own some. By `copy`:
+//!   `equal`, `err`.
+//! - A later version is updated at the moment of its event, or 1 ms after the one before it where that is later. There
+//!   is none where that one was updated at the last moment. By `next_stamp`: `some`, `none`.
+//!
+//! # How it is built
+//!
+//! What OCPI bounds lies in the value: `CiText<MAX>`, `ShortText<MAX, BYTES>`, `Party` and every record of these,
+//! moments, numbers and words alone (`Token`, `Session`, `CommandResponse`, `RowKey`) are `Copy`, own no memory and
+//! have no `Drop`. `FreeText<MAX>` owns a `String`: for texts that are long (`response_url`) or stored by the
+//! thousand (those of a site). A record with such a part has `copy`, which may want memory. A text is seen as the
+//! list of its bytes, wherever it lies, so a definition is the same for each kind of text.
 #![tactic(auto)]
 
 mod apart;

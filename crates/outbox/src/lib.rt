@@ -13,6 +13,33 @@
 //!
 //! The push is among those that are `due`, since it was sent ten seconds before; once it is acknowledged it stands no
 //! more. After a restart all that waits for an answer is due.
+//!
+//! # Promises
+//!
+//! What a node sends until it is answered: pushes, and the commands that a provider sent, under numbers of one
+//! counter.
+//!
+//! - Each number was given, none is both a push and a command, no two pushes are about the same session or token at one
+//!   operator, and only what waits has a resend time. By `consistency`: `rows`, `resend`.
+//! - What waits and has no resend time is due at once. So a restart is two empty tables, and takes no memory. By
+//!   `restart`.
+//! - Exactly what waits and whose resend time is absent, or at or before the moment, is listed by number. Memory never
+//!   wants where nothing is due. By `due`: `ok`, `none`.
+//! - A row is put or dropped only where it fits (`MayPut`, `MayDrop`). By `requires` of `put_row`, `drop_row`.
+//! - What stands, what room stays and what a refusal leaves is said of each call. By `new_push`, `new_command`,
+//!   `set_answer`, `set_result`, `ack`, `sent`.
+//! - An acknowledgement drops exactly the push of that number and addressee. By `ack`: `acknowledged`.
+//! - A request that waits has at most one resend time, ten seconds after the moment at which it was last sent
+//!   (`specs/Resend`: `due_again`). By `sent`: `resend`.
+//! - What stands after a row is put or dropped. By laws `outbox_puts`, `outbox_drops`.
+//!
+//! # How it is built
+//!
+//! An `Outbox` has beside its rows what a start of the node empties: `resend`, the resend times of what waits for an
+//! answer, and `sending`, the room for them. `SendTimes` keeps each time by number, and a queue of the numbers by
+//! time. What waits and has no time is due at once; none has a number below one that is kept beside the tables
+//! (`first`), so that a look for it begins there, and a restart is two empty tables. `reserve_sent` and `sent` are to
+//! a resend time what `reserve_row` and `put_row` are to a row.
 #![tactic(auto)]
 
 mod fault;

@@ -7,6 +7,12 @@
 //! ```
 //!
 //! That `==` is equality of what a packet or an event holds, each record of it, is in `proofs/`.
+//!
+//! # Promises
+//!
+//! - `==` of bodies, packets and events of a node is equality in every field, as spelled; of lists of packets, of as
+//!   many in the same order. By `is_equal_body`, `is_equal_packet`, `is_equal_node_event_kind`, `is_equal_node_event`;
+//!   `is_equal_packets`.
 #![tactic(auto)]
 
 mod node_events;

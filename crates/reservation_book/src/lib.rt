@@ -13,6 +13,13 @@
 //!
 //! A request whose number is below the mark of its reservation is refused (`Stale`). A cancellation sets the mark also
 //! where the reservation does not stand, so it holds where it comes first.
+//!
+//! # Promises
+//!
+//! - A number below the mark is `Stale` with that mark. By `check_number`, `reserve`, `note`, `cancel`.
+//! - A cancellation sets the mark whether or not the reservation stood. By `cancel`: `ok`, `outcome`.
+//! - Marks never fall, and a reservation that is made is newer. By laws `marks_never_fall`,
+//!   `new_reservations_are_newer`.
 #![tactic(auto)]
 
 mod all_rows;

@@ -9,6 +9,15 @@
 //! let version = book.session(id.key());
 //! let bill = book.sole_bill(id.key());
 //! ```
+//!
+//! # Promises
+//!
+//! - Each row that is put stands in the place of the one of its id, and nothing else changes. `rows` are exactly those
+//!   that stand, each once. By `put_row`, `rows`.
+//! - The bill of a session is found where it has one alone, and whether it has a credit is told. By `sole_bill`:
+//!   `some`, `none`; `has_credit`.
+//! - Where each id that the operator made has a number that was given, the next is new; ids of different numbers
+//!   differ, also without case. By laws `next_is_new`, `ids_differ`.
 #![tactic(auto)]
 
 mod book;

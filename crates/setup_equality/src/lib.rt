@@ -3,6 +3,10 @@
 //! ```
 //! let same = are_equal(&first, &second);
 //! ```
+//!
+//! # Promises
+//!
+//! `are_equal` answers just whether two setups are equal, in every field as spelled (proved). It takes no memory.
 #![tactic(auto)]
 
 mod lists;

@@ -1,4 +1,10 @@
 //! Rows that were stored, and what may be wrong with them, whatever node they are of.
+//!
+//! # Promises
+//!
+//! - The number of which a party made an id is found, and none where it made it of no number. By `own_number`: `some`,
+//!   `none`.
+//! - Rows are put counters first, then replies, then all others. By `in_turn`: `same`, `order`.
 #![tactic(auto)]
 
 mod fault;

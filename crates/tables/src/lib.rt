@@ -14,6 +14,20 @@
 //!
 //! Only `reserve` may want memory here: `put` asks for a key that has room. `clear` takes the value away and keeps the
 //! room, and `release` gives it back.
+//!
+//! # Promises
+//!
+//! A `Table` is two finite maps, the values (`shown`) and the keys that have a value or room for one (`room`).
+//!
+//! - Look-ups and visits are what the maps answer. By `get`, `contains`, `has_room`, `iter`, `range_from`.
+//! - The least key that fits is found, or there is none. By `first`, `first_from`, `first_after`, `first_with`: `some`,
+//!   `none`.
+//! - The number of keys that have room is told. By `room_count`.
+//! - Making room leaves the values as they were, whether it succeeds or not. On success the key has room, and no key
+//!   loses its room. By `reserve`: `shown`, `ready`, `keeps`.
+//! - What follows room cannot fail. By `put` on a key with room; `clear`, `remove`, `release`.
+//! - An error leaves the table as it was, and none comes for a key that has room. By `reserve`, `insert`: `err`,
+//!   `again`.
 #![tactic(auto)]
 
 mod key;

@@ -1,9 +1,22 @@
 //! The nodes of a setup on threads, for 1,000 rounds over links that lose, repeat and hold packets by a seed.
 //!
 //! The first line of the input is the setup, and each other an event of one of its nodes. A node brings its events in
-//! turn, one in each round, at the moment of the round. What happened at all nodes is woven into one run, and a world of
-//! the setup plays it. The program writes one line: that in this world each event sends what its node sent, or what
-//! failed. The line is the same whichever thread came first.
+//! turn, one in each round, at the moment of the round. What happened at all nodes is woven into one run, and a world
+//! of the setup plays it. The program writes one line: that in this world each event sends what its node sent, or
+//! what failed. The line is the same whichever thread came first.
+//!
+//! # Promises
+//!
+//! A program that runs nodes for 1,000 rounds, weaves what happened and plays that (`docs/THREADS.md`).
+//!
+//! - The line of success is written only of a run with a cell for each node of the setup, 20,000 entries and more,
+//!   which is one run of the setup's world. By `show_all` (`IsShown` of `specs/Shown`).
+//! - A world of the setup takes all events of it from its opening. By those of each node it sends what the entries of
+//!   that node's cell have, entry by entry. By `show_all` (`IsPlayedAs`), by `is_played` (`IsPlayed` of
+//!   `specs/Playing`).
+//! - That `main` writes that line of no other run. No clause says so (its few lines).
+//! - Whatever the schedule, 20,000 entries and more are such a run. No clause says so (its run (`stdin`, `stdout`), as
+//!   both compilers build it).
 #![tactic(auto)]
 
 mod fault;

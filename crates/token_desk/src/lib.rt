@@ -12,6 +12,12 @@
 //! }
 //! let answer = desk.authorize(&party, uid, Some(token_type))?;
 //! ```
+//!
+//! # Promises
+//!
+//! - The newest token stands. By `judge_put`, `put`, `next_version`, `store`.
+//! - What a swipe and a question give, by cases. By `decide`; `judge_authorize`, `authorize`: `line`.
+//! - References never repeat. By law `references_never_repeat`.
 #![tactic(auto)]
 
 mod answers;

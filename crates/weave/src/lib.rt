@@ -1,4 +1,21 @@
 //! Histories of several nodes made into one run of their world, or refused.
+//!
+//! # Promises
+//!
+//! - Histories are woven into an interleaving, named entry by entry, or as the events of a world. By `weave_turns`:
+//!   `order`; `weave`: `interleaving`.
+//! - What is told is so: the first packet that came and was never sent, or was sent otherwise. Where each was sent so,
+//!   it is places from which on each next entry waits for what is sent behind them. By `weave_turns`, `weave`: `cause`.
+//! - They are refused, but for want of memory, only where no interleaving exists. By `weave_turns`, `weave`:
+//!   `complete`.
+//! - In another form what given parties sent is taken as it came: its delivery waits for nothing. The faults name the
+//!   entry that delivers, and the one by which another packet was sent. But for want of memory it refuses only where
+//!   there is no such order. By `weave_turns_with`: `order` (`InterleavesWith` of `specs/Given`), `cause`
+//!   (`ExplainsTurns` of `specs/TurnFaults`), `complete`.
+//! - The places of its `NoOrder` are where the order ends: the entries before them are in an interleaving of the
+//!   histories up to there. By `weave_turns_with`: `cause` (`IsEnd` of `specs/TurnFaults`).
+//! - Where no packet came from a given party, each of these orders is an interleaving in which every delivery follows
+//!   its sending; and such a one is always one of these. By laws `none_given`, `any_given`.
 #![tactic(auto)]
 
 ghost use Rattle.std.specs.Prelude.{◌≢◌, [], IfErr, IfOk};

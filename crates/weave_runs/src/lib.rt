@@ -4,6 +4,41 @@
 //! let files = [TranscriptFile { name: "be.transcript", text }, ..];
 //! let ran = run_weave(alloc, &files, &["NL/TNM"], &mut writer, &mut words);
 //! ```
+//!
+//! # Promises
+//!
+//! The program `weave`.
+//!
+//! - What it writes of a run is a line that reads as the setup, and a line for each entry of the files' histories.
+//!   These are an interleaving, in which what given parties sent is taken as it came. By `run_weave`: `ok`
+//!   (`IsWovenText` of `specs/Outputs`).
+//! - Where nothing came from a given party, so with the files of all, the events of the lines are a legal run of the
+//!   setup's world. It ends with each node as its history left it, and with all that this sent. By the same
+//!   (`IsWoven`).
+//! - Each file's history is what the whole file tells. By the same (`AreTranscripts`).
+//! - A line that came is read as its entry's event. Deliveries and restarts between runs are written as defined, and
+//!   are read as those events where they are no longer than a line may be. A delivery from a given party is the line
+//!   that came, with its packet. By the same (`IsStep` of `specs/Steps`).
+//! - The given parties are nodes of the setup without a file. Where one is not, the fault says so of its word, no file
+//!   is refused, and nothing is written. By `run_weave`: `ok`, `err` (`AreGiven`, `IsWrongAmong` of `specs/Parties`).
+//! - `NeverSent`, `Differs` and `NoOrder` are told only where these histories have no interleaving. The first two name
+//!   the packet that comes by an entry and the line of that; `Differs` also the line for which the sender sent another.
+//!   By `run_weave`: `ok` (`HaveNoRun`; `TellsFault` of `specs/Refusals`).
+//! - That packet is the first, by files and their lines, that came from no given party and was not sent so. By the same
+//!   (`ExplainsTurns` of `weave/specs/TurnFaults`).
+//! - The lines of `NoOrder` are those at which the order comes to its end, and not another block. By the same
+//!   (`IsEnd`).
+//! - A refusal of a file names one behind transcripts of nodes of the setup with which the first file begins; or the
+//!   first. By `run_weave`: `ok` (`RefusesFile` of `specs/Accusations`).
+//! - Where that is `NotARun` or `WrongTranscript`, no history that leaves its node no choice has the file for its
+//!   transcript; and where the first file has no beginning, none of any setup has. By the same (`AccusesRightly` of
+//!   `transcripts/specs/Accusing`; `HasNoBeginning`).
+//! - Where writing fails, a beginning of that is written. By `run_weave`: `err`.
+//! - Which line such a refusal names, and by which of the two. No clause says so (tested (examples)).
+//! - No files give nothing, and nothing else does. By `run_weave`: `ok` (`IsRunText`).
+//! - Nothing is written before all of it is made. No clause says so (tested (examples)).
+//! - What standard error says beside a refusal is so: who has no file, and which member differs first. No clause says
+//!   so (tested (examples)).
 #![tactic(auto)]
 
 ghost use Rattle.std.specs.Prelude.{◌≡◌, IfErr, IfOk, List, ℕ, string_bytes, take};

@@ -6,8 +6,8 @@ use Rattle.json_text.specs.Trees.{view, members_view}
 use Rattle.json_text.proofs.TreeViews.{get_member-push}
 use Rattle.json_text.proofs.trees.last_of.Goals as goal
 
-pub returns-then-eq : goal.returns-then-eq
-returns-then-eq c =
+pub returns-then-is_name : goal.returns-then-is_name
+returns-then-is_name c =
     let xs = c.args.members.now.items in
     let i = c.loop-left.left - 1 in
     let m = c.index-member.result.now in

@@ -12,9 +12,9 @@ loop-next-preserved c =
     let one = c.in-Some.next in
     let rest = into_iter_items c.next.new.self in
     let steps : into_iter_items at.next-iterator ≡ one ∷ rest = c.in-Some.ensures.steps.0 in
-    let ready = All-tail (HasRoom at.texts) one rest (subst (All (HasRoom at.texts)) steps at.invariant.ready) in
+    let ready = All-tail (HasRoom at.stored) one rest (subst (All (HasRoom at.stored)) steps at.invariant.ready) in
     record {
-      rest = ap (λ (s : Content). placed_all s rest) c.put_one.ensures.shown ∙ sym (ap (placed_all (kept at.texts)) steps) ∙ at.invariant.rest;
+      rest = ap (λ (s : Content). placed_all s rest) c.put_one.ensures.shown ∙ sym (ap (placed_all (kept at.stored)) steps) ∙ at.invariant.rest;
       ready = λ k d low some. subst (λ r. IsTrue (contains_key r (slice_index_or rest k d).place)) (sym c.put_one.ensures.room) (ready k d low some);
       long =
           let was = at.invariant.long in

@@ -1,0 +1,5 @@
+mod Ascii
+mod Printed
+mod RecordTexts
+mod BodyTexts
+mod Again

@@ -1,7 +1,0 @@
-# Writes a site line and the START_SESSION after it as two lines with spaces at their ends, one of a byte too many and
-# one of the most bytes that a line may have.
-{ read -r site; read -r start; } < examples/start_session.jsonl
-printf '%s\n' "$site"
-for length in 1048577 1048576; do
-    printf '%-*s\n' "$length" "$start"
-done
