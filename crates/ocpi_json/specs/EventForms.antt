@@ -38,7 +38,9 @@ use Rattle.ocpi_forms.specs.Tokens.{token_at, IsToken}
 
 abbrev pub event_of_word : List ℕ → Option EventWord
 event_of_word s =
-    if bytes_eq s (codes "submit") then Some event.Submit
+    if bytes_eq s (codes "deliver") then Some event.Deliver
+    else if bytes_eq s (codes "meter") then Some (event.Charger report.Meter)
+    else if bytes_eq s (codes "submit") then Some event.Submit
     else if bytes_eq s (codes "token") then Some event.Token
     else if bytes_eq s (codes "service") then Some event.Service
     else if bytes_eq s (codes "swipe") then Some (event.Charger report.Swipe)
@@ -46,11 +48,9 @@ event_of_word s =
     else if bytes_eq s (codes "refuses") then Some (event.Charger report.Refuses)
     else if bytes_eq s (codes "unlocked") then Some (event.Charger report.Unlocked)
     else if bytes_eq s (codes "starts") then Some (event.Charger report.Starts)
-    else if bytes_eq s (codes "meter") then Some (event.Charger report.Meter)
     else if bytes_eq s (codes "stops") then Some (event.Charger report.Stops)
     else if bytes_eq s (codes "fault") then Some (event.Charger report.Fault)
     else if bytes_eq s (codes "credit") then Some event.Credit
-    else if bytes_eq s (codes "deliver") then Some event.Deliver
     else if bytes_eq s (codes "tick") then Some event.Tick
     else if bytes_eq s (codes "restart") then Some event.Restart
     else if bytes_eq s (codes "refused") then Some event.Refused else None

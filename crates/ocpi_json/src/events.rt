@@ -106,11 +106,13 @@ pub struct CreditOrdered {
     pub session_id: CiText<36>,
 }
 
-/// The event that a word names, if there is one.
+/// The event that a word names, if there is one. The words that come most are tried first.
 fn event_word(word: &str) -> Option<EventWord>
     ensures { result ≡ event_of_word word.now }
 {
     match word {
+        "deliver" => Some(EventWord::Deliver),
+        "meter" => Some(EventWord::Charger(ChargerWord::Meter)),
         "submit" => Some(EventWord::Submit),
         "token" => Some(EventWord::Token),
         "service" => Some(EventWord::Service),
@@ -119,11 +121,9 @@ fn event_word(word: &str) -> Option<EventWord>
         "refuses" => Some(EventWord::Charger(ChargerWord::Refuses)),
         "unlocked" => Some(EventWord::Charger(ChargerWord::Unlocked)),
         "starts" => Some(EventWord::Charger(ChargerWord::Starts)),
-        "meter" => Some(EventWord::Charger(ChargerWord::Meter)),
         "stops" => Some(EventWord::Charger(ChargerWord::Stops)),
         "fault" => Some(EventWord::Charger(ChargerWord::Fault)),
         "credit" => Some(EventWord::Credit),
-        "deliver" => Some(EventWord::Deliver),
         "tick" => Some(EventWord::Tick),
         "restart" => Some(EventWord::Restart),
         "refused" => Some(EventWord::Refused),
