@@ -127,11 +127,28 @@ pub fn open_all<S: Keeps>(
     }
 }
 
+/// The place of the keeper of a party that is spelled as here. Of most it is the only one, and found by comparing
+/// numbers.
+fn find_spelled<K>(kept: &[KeptNode<K>], party: &Party) -> Option<usize>
+    ensures { IfSome result (λ i. (n : KeptNodeOf K) × IsKeeperOf kept.now party.now i n) }
+{
+    for i in 0..kept.len() {
+        if kept[i].party == *party {
+            return Some(i);
+        }
+    }
+    None
+}
+
 /// The place of a party's keeper. Parties are compared without case.
 fn find<K>(kept: &[KeptNode<K>], party: &Party) -> Option<usize>
     ensures found { IfSome result (λ i. (n : KeptNodeOf K) × IsKeeperOf kept.now party.now i n) }
     ensures none { IfNone result ((i : ℕ) (n : KeptNodeOf K) → IsKeeperOf kept.now party.now i n → ⊥) }
 {
+    let spelled = find_spelled(kept, party);
+    if spelled.is_some() {
+        return spelled;
+    }
     for i in 0..kept.len() {
         if kept[i].party.is_same(party) {
             return Some(i);

@@ -12,11 +12,27 @@ use ocpi_text::{Party, Whole};
 use ocpi_types::Packet;
 use world_steps::delivering::sent_to;
 
+/// The place of a party that is spelled as here. Of most it is the only one, and found by comparing numbers.
+fn find_spelled(places: &[Place], party: &Party) -> Option<usize>
+    ensures { IfSome result (λ i. (p : PlaceOf) × IsPlaceOf places.now party.now i p) }
+{
+    for i in 0..places.len() {
+        if places[i].party == *party {
+            return Some(i);
+        }
+    }
+    None
+}
+
 /// The place of a party, which is compared without case.
 pub(crate) fn find(places: &[Place], party: &Party) -> Option<usize>
     ensures found { IfSome result (λ i. (p : PlaceOf) × IsPlaceOf places.now party.now i p) }
     ensures none { IfNone result ((i : ℕ) (p : PlaceOf) → IsPlaceOf places.now party.now i p → ⊥) }
 {
+    let spelled = find_spelled(places, party);
+    if spelled.is_some() {
+        return spelled;
+    }
     for i in 0..places.len() {
         if places[i].party.is_same(party) {
             return Some(i);
@@ -38,6 +54,20 @@ pub(crate) fn of_party<'w>(places: &'w [Place], party: &Party) -> Option<&'w Pla
     None
 }
 
+/// The packet of that serial that a party, spelled as here, sent to the other.
+fn delivered_spelled<'w>(
+    places: &'w [Place],
+    to: &Party,
+    from: &Party,
+    serial: Whole,
+) -> Option<&'w Packet>
+    ensures { IfSome result (λ q. MayArrive (places_seen places.now) to.now from.now serial q.now) }
+{
+    let i = find_spelled(places, from)?;
+    let packet = sent_to(places[i].sent.as_slice(), to, serial)?;
+    Some(packet)
+}
+
 /// The packet of that serial that a party sent to the other.
 pub(crate) fn delivered<'w>(
     places: &'w [Place],
@@ -48,6 +78,10 @@ pub(crate) fn delivered<'w>(
     ensures found { IfSome result (λ q. MayArrive (places_seen places.now) to.now from.now serial q.now) }
     ensures none { IfNone result ((q : PacketOf) → MayArrive (places_seen places.now) to.now from.now serial q → ⊥) }
 {
+    let spelled = delivered_spelled(places, to, from, serial);
+    if spelled.is_some() {
+        return spelled;
+    }
     for place in places {
         if place.party.is_same(from) {
             if let Some(packet) = sent_to(place.sent.as_slice(), to, serial) {
