@@ -18,6 +18,7 @@
 
 mod key;
 mod least;
+mod places;
 mod queue;
 mod table;
 mod visits;
