@@ -18,7 +18,7 @@ use Rattle.std.proofs.lemmas.List.Elements.{Contains-get_or, Contains-append_lef
 use Rattle.std.proofs.lemmas.List.Quantifiers.{all_pairs_push}
 use Rattle.tables.specs.Places.{slot_at, placed, at_key, AreSlots}
 use Rattle.tables.proofs.Maps.{equal_of_is_eq, told}
-use Rattle.tables.proofs.Options.{none_some, none_else, known}
+use Rattle.tables.proofs.Options.{none_some, none_else, is_none, known}
 use Rattle.tables.proofs.Elements.{in_none, no_pairs}
 
 -- what stands at a place, if there is one
@@ -76,6 +76,9 @@ module _ {K V : Type 0} (R : K → K → Ordering) (places : List (K × ℕ)) (s
   -- and one that has none
   pub none_placed : at_key R places k ≡ None → at_key R (placed places slots) k ≡ None
   none_placed e = looked_placed R places slots k ∙ ap (held slots) e
+
+  pub not_placed : at_key R (placed places slots) k ≡ None → at_key R places k ≡ None
+  not_placed e = is_none _ (sym some_placed ∙ ap is_some e)
 
   -- what it shows
   pub value_placed : (i : ℕ) → at_key R places k ≡ Some i → option_flatten (at_key R (placed places slots) k) ≡ slot_at slots i

@@ -20,9 +20,9 @@ abbrev pub at_key : {K X : Type 0} → (K → K → Ordering) → List (K × X) 
 at_key R es k = lookup (is_at (R k)) es
 
 module _ {K V : Type 0} (R : K → K → Ordering) where
-  -- a key that had no room has room and no value, and each other key has what it had
+  -- a key has room and no value, and each other key has what it had
   abbrev pub MakesRoom : K → List (K × Option V) → List (K × Option V) → Type 0
-  MakesRoom k es fs = at_key R es k ≡ None → (q : K) → at_key R fs q ≡ cond (is_at (R k) q) (Some None) (at_key R es q)
+  MakesRoom k es fs = (q : K) → at_key R fs q ≡ cond (is_at (R k) q) (Some None) (at_key R es q)
 
   -- each slot is that of one key, or it is free and has no value
   pub record AreSlots (places : List (K × ℕ)) (slots : List (Option V)) (free : List ℕ) : Type 0 where

@@ -163,7 +163,7 @@ pub(crate) fn place_for<K: TableKey, V: Drop>(
     ensures room { length slots.new.items ≤ vec_capacity free.new }
     ensures place { IfOk result (λ i. at_key K.cmp places.new.entries key ≡ Some i) }
     ensures found { OnOk result (IsSome (at_key K.cmp places.old.entries key) → placed places.new.entries slots.new.items ≡ placed places.old.entries slots.old.items) }
-    ensures made { OnOk result (MakesRoom K.cmp key (placed places.old.entries slots.old.items) (placed places.new.entries slots.new.items)) }
+    ensures made { OnOk result (get K.cmp places.old key ≡ None → MakesRoom K.cmp key (placed places.old.entries slots.old.items) (placed places.new.entries slots.new.items)) }
     ensures absent { OnErr result (at_key K.cmp places.old.entries key ≡ None) }
     ensures err { OnErr result (placed places.new.entries slots.new.items ≡ placed places.old.entries slots.old.items) }
 {
