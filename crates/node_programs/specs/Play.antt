@@ -27,6 +27,7 @@ use Rattle.line_runs.specs.declared.run.Turn.TheVariants.{Taken, Refused, Ended}
 use Rattle.node_store.specs.declared.fault.StoreFault.{StoreFault}
 use Rattle.node_keepers.specs.Keeping.{AreOpened, AreUnopened, KeeperRefuses, KeeperTakes, Keeping}
 use Rattle.program_lines.specs.Writing.{packet_lines, refusal_line}
+use Rattle.node_programs.specs.declared.play.Keepers.{Keepers}
 use Rattle.node_keepers.specs.declared.keeping.KeptNode.{KeptNode}
 
 -- a world, the setup that it was opened from, and the keepers of its nodes, which are of type K
@@ -52,6 +53,14 @@ kept_in (Some now) = now.kept
 -- before the first line
 abbrev pub opening : {K : Type 0} → Stage K
 opening = record { playing = None; stop = None }
+
+-- Keepers are shown the changes of an event of that party's node: they are kept, or the keeper refuses them, which is
+-- noted.
+pub data KeepersTake {K : Type 0} (keeping : Keeping K) (party : List ℕ) (changes : List Change) (before after : Keepers K) : Type 0 where
+  Are_kept : KeeperTakes keeping party changes before.kept.items after.kept.items → after.refusal ≡ before.refusal
+      → KeepersTake keeping party changes before after
+  Are_refused : (fault : StoreFault) → changes ≢ [] → KeeperRefuses keeping party fault before.kept.items after.kept.items → after.refusal ≡ Some fault
+      → KeepersTake keeping party changes before after
 
 -- what is written of an event: the packets that the node sent, that it was of no node, or why it was refused
 abbrev pub outcome_lines : Outcome → List ℕ

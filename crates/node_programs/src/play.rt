@@ -33,18 +33,48 @@ use node_keepers::{Keeps, KeptNode, commit, open_all};
 use node_steps::NodeFault;
 use node_store::{Keep, StoreFault};
 use ocpi_json::{JsonFault, Scratch, read_event, read_setup};
-use ocpi_types::{Event, Packet, Setup};
+use ocpi_text::Party;
+use ocpi_types::{Change, Event, Packet, Setup};
 use program_lines::{refuse, write_packets};
 use std::alloc::{AllocError, Global};
 use std::io::{BufRead, Write};
 use std::marker::Model;
-use world::{Outcome, World};
+use world::{Outcome, Takes, World};
+
+/// The keepers of the nodes, and why the one that was last shown changes refused them, where it did.
+struct Keepers<K> {
+    kept: Vec<KeptNode<K>>,
+    refusal: Option<StoreFault>,
+}
+
+impl<K: Drop> Drop for Keepers<K> {
+    fn drop(self) {
+        let Keepers {
+            kept: _,
+            refusal: _,
+        } = self;
+    }
+}
+
+impl<K: Keep> Takes for Keepers<K> {
+    ghost use Rattle.node_keepers.specs.Keeping.{keeping_of};
+    ghost use Rattle.node_programs.specs.Play.{KeepersTake};
+
+    ghost takes = { λ before party changes after. KeepersTake (keeping_of K.content K.is_honest K.refusals) party changes before after };
+
+    fn take(&mut self, party: &Party, changes: &[Change]) {
+        match commit(&mut self.kept, party, changes) {
+            Ok(()) => {}
+            Err(fault) => self.refusal = Some(fault),
+        }
+    }
+}
 
 /// The world, the setup that it was opened from, and the keepers of its nodes.
 pub struct Played<K> {
     setup: Setup,
     world: World,
-    kept: Vec<KeptNode<K>>,
+    keepers: Keepers<K>,
 }
 
 /// What a derive would do, in a function of its own: so it is proved once, and not in each function that drops a world.
@@ -53,7 +83,7 @@ impl<K: Drop> Drop for Played<K> {
         let Played {
             setup: _,
             world: _,
-            kept: _,
+            keepers: _,
         } = self;
     }
 }
@@ -67,16 +97,21 @@ impl<K> Model for Played<K> {
 
     ghost coded = { Prim.hlevel (codes, map.code, K.code) };
 
-    ghost view = { λ p. record { setup = p.setup; world = p.world.places; kept = p.kept.items } };
+    ghost view = { λ p. record { setup = p.setup; world = p.world.places; kept = p.keepers.kept.items } };
 }
 
 impl<K> Played<K> {
     fn into_kept(self) -> Vec<KeptNode<K>>
         ensures { result.items ≡ self.kept }
     {
-        let Played { setup, world, kept } = self;
+        let Played {
+            setup,
+            world,
+            keepers,
+        } = self;
         drop(setup);
         drop(world);
+        let Keepers { kept, refusal: _ } = keepers;
         kept
     }
 }
@@ -209,7 +244,15 @@ fn keep_world<S: Keeps>(
     ensures err { IfErr result (AreUnopened (keeping_of S.Kept.content S.Kept.is_honest S.Kept.refusals) S.may_refuse setup) }
 {
     let kept = open_all(alloc, keeps, setup.as_slice())?;
-    Ok(Played { setup, world, kept })
+    let keepers = Keepers {
+        kept,
+        refusal: None,
+    };
+    Ok(Played {
+        setup,
+        world,
+        keepers,
+    })
 }
 
 /// Opens the world of a setup line, where there is none.
@@ -275,8 +318,8 @@ fn write_outcome(
     }
 }
 
-/// Lets an event that was read happen, has its changes kept, and then writes what comes of it. Where memory runs out
-/// for it, it is refused. Where they are not kept, nothing is written, and the run ends.
+/// Lets an event that was read happen, whose changes are kept before it is carried out, and then writes what comes of it.
+/// Where memory runs out for it, it is refused. Where the changes are not kept, nothing is written, and the run ends.
 fn play_read<K: Keep>(
     alloc: Global,
     played: &mut Played<K>,
@@ -293,16 +336,14 @@ fn play_read<K: Keep>(
         → EventTurn (keeping_of K.content K.is_honest K.refusals) stop.old played.old line turn out
         (record { playing = Some played.new; stop = stop.new }))) }
 {
-    let Ok(outcome) = played.world.step(event) else {
+    played.keepers.refusal = None;
+    let Ok(outcome) = played.world.step_shown(event, &mut played.keepers) else {
         refuse(output, NodeFault::Memory)?;
         return Ok(Turn::Refused);
     };
-    match commit(&mut played.kept, &event.node, played.world.changes()) {
-        Ok(()) => {}
-        Err(fault) => {
-            *stop = Some(fault);
-            return Ok(Turn::Ended);
-        }
+    if let Some(fault) = played.keepers.refusal {
+        *stop = Some(fault);
+        return Ok(Turn::Ended);
     }
     write_outcome(alloc, outcome, played.world.packets(), output)
 }

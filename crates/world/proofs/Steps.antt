@@ -21,7 +21,7 @@ use Rattle.ocpi_types.specs.declared.rows.Change.{Change}
 use Rattle.stored_laws.specs.Laws.{OperatorsAreWhole, ProvidersAreWhole}
 use Rattle.stored_laws.specs.Nodes.{IsWhole}
 use Rattle.world.specs.Deliveries.{IsPlaceOf}
-use Rattle.world.specs.Seen.{packets_sent, place_seen, places_seen, sent_from, told, told_in}
+use Rattle.world.specs.Seen.{IsShown, packets_sent, place_seen, places_seen, sent_from, told}
 use Rattle.world.specs.Works.{AsksFor, Brings, IsIdle, IsPlanned, place_after}
 use Rattle.world.specs.declared.place.Place as declared
 use Rattle.world.specs.declared.planned.Outcome as outcomes
@@ -96,11 +96,12 @@ place_here ps party i p x at is =
     let here = slice_get_read ps (length ps) i x refl (slice_get_within ps i p at.here) is in
     record { here = here; same = ap (λ (z : declared.Place). key z.party) (same_Some x p (sym here ∙ at.here)) ∙ at.same }
 
--- what is told where there is no work
-pub told_idle : (w : World) (t : Told) (o : outcomes.Outcome) → t.outcome ≡ o → t.sending ≡ None → t.changes.items ≡ [] → told_in w t ≡ told o [] []
-told_idle w t o is no_packets no_changes =
-    ap (λ (z : outcomes.Outcome). told z (packets_sent w t.sending) t.changes.items) is
-    ∙ (ap (λ (z : Option Sending). told o (packets_sent w z) t.changes.items) no_packets ∙ ap (λ (z : List Change). told o [] z) no_changes)
+-- what is told where there is no work, and no row was shown
+pub told_idle : {T : Type 0} (takes : T → List ℕ → List Change → T → Type 0) (w : World) (e : Event) (t : Told) (o : outcomes.Outcome) (before after : T) → t.outcome ≡ o → t.sending ≡ None →
+    Gives w e (told o [] []) w → takes before e.node [] after → IsShown takes w e t.outcome (packets_sent w t.sending) w before after
+told_idle takes w e t o before after is no_packets gives shown =
+    subst (λ (z : outcomes.Outcome). IsShown takes w e z (packets_sent w t.sending) w before after) (sym is)
+    (subst (λ (z : Option Sending). IsShown takes w e o (packets_sent w z) w before after) (sym no_packets) (record { changes = []; gives = gives; idle = λ not. refl; shown = shown }))
 
 -- and where there is
 pub told_work : (ps : List declared.Place) (i from : ℕ) (y z : declared.Place) (d : NodeWork) → slice_get ps i ≡ Some y → from ≡ length y.sent.items → place_seen z ≡ place_after d (place_seen y) →

@@ -1,6 +1,7 @@
 -- What the values of the code stand for.
-use Rattle.std.specs.Prelude.{ℕ, List, [], Option, None, Some, drop, map, slice_get}
+use Rattle.std.specs.Prelude.{◌≡◌, ◌≢◌, ℕ, List, [], Option, None, Some, drop, map, slice_get}
 use Rattle.node_core.specs.States.{state_of}
+use Rattle.ocpi_types.specs.declared.events.Event.{Event}
 use Rattle.ocpi_types.specs.declared.packet.Packet.{Packet}
 use Rattle.ocpi_types.specs.declared.rows.Change.{Change}
 use Rattle.ocpi_types.specs.declared.sessions.Session.{Session}
@@ -9,8 +10,8 @@ use Rattle.world.specs.declared.place.Place as declared
 use Rattle.world.specs.declared.planned.Outcome as outcomes
 use Rattle.world.specs.declared.planned.Outcome.TheVariants as outcome
 use Rattle.world.specs.declared.planned.Sending.{Sending}
-use Rattle.world.specs.declared.planned.Told.{Told}
 use Rattle.world_steps.specs.Steps as steps
+use Rattle.world_steps.specs.Steps.{Gives}
 use Rattle.world_steps.specs.World.{Place, World, past_of}
 
 abbrev pub place_seen : declared.Place → Place
@@ -34,9 +35,12 @@ told outcome.Stepped packets changes = steps.Stepped packets changes
 told outcome.Skipped packets changes = steps.Skipped
 told (outcome.Refused fault) packets changes = steps.Refused fault
 
--- what a step left to be told, in the world that it left
-abbrev pub told_in : World → Told → steps.Outcome
-told_in w t = told t.outcome (packets_sent w t.sending) t.changes.items
+-- the event is a step of the world, of which this is told, and the rows that it changes were shown to a taker
+pub record IsShown {T : Type 0} (takes : T → List ℕ → List Change → T → Type 0) (w : World) (event : Event) (o : outcomes.Outcome) (packets : List Packet) (v : World) (before after : T) : Type 0 where
+  pub changes : List Change
+  pub gives : Gives w event (told o packets changes) v
+  pub idle : o ≢ outcome.Stepped → changes ≡ []
+  pub shown : takes before event.node changes after
 
 -- the versions of a session that are left
 abbrev pub versions_left : Past → List Session

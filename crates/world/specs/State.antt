@@ -4,14 +4,12 @@ use Rattle.handover.specs.Owed.{Account}
 use Rattle.node_core.specs.States.{owed_of}
 use Rattle.ocpi_text.specs.Text.{key}
 use Rattle.ocpi_types.specs.declared.packet.Packet.{Packet}
-use Rattle.ocpi_types.specs.declared.rows.Change.{Change}
 use Rattle.ocpi_types.specs.declared.sessions.Session.{Session}
 use Rattle.world_steps.specs.World.{World, past_of}
 
--- the world, and of the last step the rows that it changed and the packets that it sent
+-- the world, and the packets that its last step sent
 pub record WorldState : Type 0 where
   pub places : World
-  pub changes : List Change
   pub packets : List Packet
 
 -- what the node of a party owes by an account, where there is one

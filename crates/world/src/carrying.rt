@@ -9,8 +9,9 @@ ghost use Rattle.world.specs.Works.{place_after};
 ghost use Rattle.world_steps.specs.Steps.{all_put, version_put};
 
 use crate::place::Place;
+use crate::planned::Takes;
 use node_core::NodeWork;
-use node_steps::copies;
+use ocpi_text::Party;
 use ocpi_types::{Change, Packet, Row, Session};
 use std::alloc::{AllocError, Global};
 
@@ -68,14 +69,13 @@ fn add_versions(versions: &mut Vec<Session>, mut more: Vec<Session>)
     }
 }
 
-/// The rows that the work changes, once there is room for the packets that it sends. An error is want of memory.
-fn ready(alloc: Global, work: &NodeWork, sent: &mut Vec<Packet>) -> Result<Vec<Change>, AllocError>
-    ensures changes { IfOk result (λ v. v.items ≡ changes_by work.now) }
+/// Takes room for the packets that the work sends. An error is want of memory.
+fn make_sent_room(work: &NodeWork, sent: &mut Vec<Packet>) -> Result<(), AllocError>
     ensures same { sent.new.items ≡ sent.old.items }
     ensures room { OnOk result (length sent.new.items + length (packets_by work.now) ≤ vec_capacity sent.new) }
 {
     sent.reserve(work.packets().len())?;
-    copies(alloc, work.changes())
+    Ok(())
 }
 
 /// The versions of its sessions that an operator stores by the work; a provider has none. An error is want of memory.
@@ -104,43 +104,55 @@ fn ready_versions(
 }
 
 impl Place {
-    /// The node does what was planned: all memory for it is taken first. The rows that it changes are answered. An
-    /// error is want of memory, and changes nothing.
-    fn act(&mut self, alloc: Global, work: NodeWork) -> Result<Vec<Change>, AllocError>
+    /// The node of that party does what was planned: all memory for it is taken first, and then the rows that it changes
+    /// are shown. An error is want of memory, and then nothing changes and nothing is shown.
+    fn act<T: Takes>(
+        &mut self,
+        alloc: Global,
+        party: &Party,
+        work: NodeWork,
+        taker: &mut T,
+    ) -> Result<(), AllocError>
         requires { MayDo (state_of self.old.node) work }
         ensures ok { OnOk result (place_seen self.new ≡ place_after work (place_seen self.old)) }
-        ensures changes { IfOk result (λ v. v.items ≡ changes_by work) }
+        ensures shown { OnOk result (T.takes taker.old party.now (changes_by work) taker.new) }
         ensures err { OnErr result (place_seen self.new ≡ place_seen self.old) }
+        ensures unshown { OnErr result (taker.new ≡ taker.old) }
     {
         let more = ready_versions(alloc, &work, &mut self.versions)?;
-        let changes = ready(alloc, &work, &mut self.sent)?;
+        make_sent_room(&work, &mut self.sent)?;
         self.node.make_room(&work)?;
+        taker.take(party, work.changes());
         let packets = self.node.apply(work);
         add_packets(&mut self.sent, packets);
         add_versions(&mut self.versions, more);
-        Ok(changes)
+        Ok(())
     }
 
-    /// The node does its work: the packets that it sends and the versions of its sessions that it stores are added to
-    /// those of this place, and the rows that it changes are answered. A node that starts again is made of its rows. An
-    /// error is want of memory, and changes nothing.
-    pub(crate) fn carry_out(
+    /// The node of that party does its work: the packets that it sends and the versions of its sessions that it stores
+    /// are added to those of this place, and the rows that it changes are shown. A node that starts again is made of its
+    /// rows. An error is want of memory, and then nothing changes and nothing is shown.
+    pub(crate) fn carry_out<T: Takes>(
         &mut self,
         alloc: Global,
+        party: &Party,
         work: NodeWork,
-    ) -> Result<Vec<Change>, AllocError>
+        taker: &mut T,
+    ) -> Result<(), AllocError>
         requires may { MayDo (state_of self.old.node) work }
         requires whole { IsWhole (state_of self.old.node) }
         ensures ok { OnOk result (place_seen self.new ≡ place_after work (place_seen self.old)) }
-        ensures changes { IfOk result (λ v. v.items ≡ changes_by work) }
+        ensures shown { OnOk result (T.takes taker.old party.now (changes_by work) taker.new) }
         ensures err { OnErr result (place_seen self.new ≡ place_seen self.old) }
+        ensures unshown { OnErr result (taker.new ≡ taker.old) }
     {
         match work {
             NodeWork::Restart => {
                 self.node.start_again(alloc)?;
-                Ok(Vec::new(alloc))
+                taker.take(party, &[]);
+                Ok(())
             }
-            work => self.act(alloc, work),
+            work => self.act(alloc, party, work, taker),
         }
     }
 }

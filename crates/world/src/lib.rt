@@ -5,13 +5,12 @@
 //! let mut world = World::open(alloc, &setup)?;
 //! let outcome = world.step(&event)?;
 //! let packets = world.packets();
-//! let changes = world.changes();
 //! for version in world.past(&operator, session) {}
 //! let owed = world.settlement(&provider, &operator, currency);
 //! ```
 //!
 //! A step finds the node of the event, and what reaches it; plans it, which changes nothing; takes all memory that the
-//! step needs; and then carries it out, which cannot fail. So a step costs what the step of the one node costs, and
+//! step needs; shows the rows that it changes (`World::step_shown`); and then carries it out, which cannot fail. So a step costs what the step of the one node costs, and
 //! nothing is ever undone.
 #![tactic(auto)]
 
@@ -25,5 +24,5 @@ mod planning;
 mod world;
 
 pub use past::Past;
-pub use planned::Outcome;
+pub use planned::{Outcome, Takes};
 pub use world::World;

@@ -3,7 +3,8 @@
 ghost use Rattle.std.specs.Prelude.{◌≡◌, ◌≢◌, List, [], None, IfOk, OnErr, OnOk, drop};
 ghost use Rattle.ocpi_text.specs.Text.{key};
 ghost use Rattle.ocpi_types.specs.declared.events.Event.{Event as EventOf};
-ghost use Rattle.world.specs.Seen.{packets_sent, places_seen, told, told_in, versions_left};
+ghost use Rattle.ocpi_types.specs.declared.rows.Change.{Change as ChangeOf};
+ghost use Rattle.world.specs.Seen.{IsShown, packets_sent, places_seen, told, versions_left};
 ghost use Rattle.world.specs.State.{owed_by, past_by};
 ghost use Rattle.world_laws.specs.Later.{IsLater};
 ghost use Rattle.world_laws.specs.Laws.{IsReached, IsRight};
@@ -14,11 +15,11 @@ use crate::finding::{find, of_party};
 use crate::opening::open_all;
 use crate::past::Past;
 use crate::place::Place;
-use crate::planned::{Outcome, Planned, Sending, Told};
+use crate::planned::{Nobody, Outcome, Planned, Sending, Takes, Told};
 use crate::planning::plan;
 use node_core::nodes_of;
 use ocpi_text::{CiKey, Party, ShortText};
-use ocpi_types::{Change, Event, Packet, Session, Setup};
+use ocpi_types::{Event, Packet, Session, Setup};
 use std::alloc::{AllocError, Global};
 use std::marker::Model;
 use stored_laws::laws::{operators_are_whole, providers_are_whole};
@@ -28,7 +29,6 @@ use world_laws::laws::{worlds_are_right, worlds_go_on};
 pub struct World {
     alloc: Global,
     places: Vec<Place>,
-    changes: Vec<Change>,
     sending: Option<Sending>,
 }
 
@@ -38,7 +38,6 @@ impl Drop for World {
         let World {
             alloc: _,
             places: _,
-            changes: _,
             sending: _,
         } = self;
     }
@@ -56,33 +55,43 @@ impl Model for World {
     ghost use Rattle.world.specs.Seen.{packets_sent, places_seen};
     ghost use Rattle.world_laws.specs.Laws.{IsReached};
 
-    ghost view = { λ w. record { places = places_seen w.places.items; changes = w.changes.items; packets = packets_sent (places_seen w.places.items) w.sending } };
+    ghost view = { λ w. record { places = places_seen w.places.items; packets = packets_sent (places_seen w.places.items) w.sending } };
 
     ghost invariant = { λ w. IsReached (places_seen w.places.items) };
 }
 
-/// An event comes to the node of its party. An error is want of memory, and changes nothing.
-fn step_places(alloc: Global, places: &mut Vec<Place>, event: &Event) -> Result<Told, AllocError>
+/// An event comes to the node of its party, and the rows that it changes are shown. An error is want of memory, and then
+/// nothing changes and nothing is shown.
+fn step_places<T: Takes>(
+    alloc: Global,
+    places: &mut Vec<Place>,
+    event: &Event,
+    taker: &mut T,
+) -> Result<Told, AllocError>
     requires { IsReached (places_seen places.old.items) }
-    ensures ok { IfOk result (λ t. Gives (places_seen places.old.items) event.now (told_in (places_seen places.new.items) t) (places_seen places.new.items)) }
-    ensures idle { IfOk result (λ t. t.outcome ≢ Outcome.Stepped → (t.sending ≡ None) × (t.changes.items ≡ [])) }
+    ensures ok { IfOk result (λ t. IsShown T.takes (places_seen places.old.items) event.now t.outcome (packets_sent (places_seen places.new.items) t.sending) (places_seen places.new.items) taker.old taker.new) }
+    ensures idle { IfOk result (λ t. t.outcome ≢ Outcome.Stepped → t.sending ≡ None) }
     ensures err { OnErr result (places_seen places.new.items ≡ places_seen places.old.items) }
+    ensures unshown { OnErr result (taker.new ≡ taker.old) }
 {
     operators_are_whole();
     providers_are_whole();
     let Some(i) = find(places.as_slice(), &event.node) else {
-        return Ok(Told::idle(alloc, Outcome::Skipped));
+        taker.take(&event.node, &[]);
+        return Ok(Told::idle(Outcome::Skipped));
     };
     match plan(places.as_slice(), &places[i], &event.kind)? {
-        Planned::Idle(outcome) => Ok(Told::idle(alloc, outcome)),
+        Planned::Idle(outcome) => {
+            taker.take(&event.node, &[]);
+            Ok(Told::idle(outcome))
+        }
         Planned::Acts(work) => {
             let place = &mut places[i];
             let from = place.sent.as_slice().len();
-            let changes = place.carry_out(alloc, work)?;
+            place.carry_out(alloc, &event.node, work, taker)?;
             Ok(Told {
                 outcome: Outcome::Stepped,
                 sending: Some(Sending { place: i, from }),
-                changes,
             })
         }
     }
@@ -149,13 +158,12 @@ fn owed_among(
 impl World {
     /// The world of a setup before the first event. An error is want of memory.
     pub fn open(alloc: Global, setup: &Setup) -> Result<World, AllocError>
-        ensures { IfOk result (λ w. w ≡ record { places = opened setup.now; changes = []; packets = [] }) }
+        ensures { IfOk result (λ w. w ≡ record { places = opened setup.now; packets = [] }) }
     {
         let places = open_all(alloc, nodes_of(setup))?;
         Ok(World {
             alloc,
             places,
-            changes: Vec::new(alloc),
             sending: None,
         })
     }
@@ -166,22 +174,33 @@ impl World {
     /// An error is want of memory: nothing changes then, and the event may come again. A world is right after each
     /// step, and later than before it (`consistency`).
     pub fn step(&mut self, event: &Event) -> Result<Outcome, AllocError>
-        ensures ok { IfOk result (λ o. Gives self.old.places event.now (told o self.new.packets self.new.changes) self.new.places) }
-        ensures idle { IfOk result (λ o. o ≢ Outcome.Stepped → (self.new.packets ≡ []) × (self.new.changes ≡ [])) }
+        ensures ok { IfOk result (λ o. (changes : List ChangeOf) × Gives self.old.places event.now (told o self.new.packets changes) self.new.places) }
+        ensures idle { IfOk result (λ o. o ≢ Outcome.Stepped → self.new.packets ≡ []) }
         ensures right { OnOk result (IsRight self.new.places) }
         ensures later { OnOk result (IsLater self.old.places self.new.places) }
         ensures err { OnErr result (self.new ≡ self.old) }
     {
+        self.step_shown(event, &mut Nobody {})
+    }
+
+    /// As [`World::step`]. The rows that the step changes are shown, in order, before it is carried out; none, where the
+    /// event is not stepped. Where memory runs out nothing is shown.
+    pub fn step_shown<T: Takes>(
+        &mut self,
+        event: &Event,
+        taker: &mut T,
+    ) -> Result<Outcome, AllocError>
+        ensures ok { IfOk result (λ o. IsShown T.takes self.old.places event.now o self.new.packets self.new.places taker.old taker.new) }
+        ensures idle { IfOk result (λ o. o ≢ Outcome.Stepped → self.new.packets ≡ []) }
+        ensures right { OnOk result (IsRight self.new.places) }
+        ensures later { OnOk result (IsLater self.old.places self.new.places) }
+        ensures err { OnErr result (self.new ≡ self.old) }
+        ensures unshown { OnErr result (taker.new ≡ taker.old) }
+    {
         worlds_go_on();
-        let told = step_places(self.alloc, &mut self.places, event)?;
-        let Told {
-            outcome,
-            sending,
-            changes,
-        } = told;
-        self.changes = changes;
-        self.sending = sending;
-        Ok(outcome)
+        let told = step_places(self.alloc, &mut self.places, event, taker)?;
+        self.sending = told.sending;
+        Ok(told.outcome)
     }
 
     /// What holds of every world at any time, which its type keeps: it is the end of a legal run from the opening of a
@@ -201,19 +220,18 @@ impl World {
         worlds_go_on();
     }
 
-    /// Nothing is told of the last step any more: neither its packets nor its changes.
+    /// The packets of the last step are told no more.
     fn forget(&mut self)
-        ensures { self.new ≡ record self.old { changes = []; packets = [] } }
+        ensures { self.new ≡ record self.old { packets = [] } }
     {
-        self.changes.clear();
         self.sending = None;
     }
 
-    /// The world of a setup after events. Of these neither packets nor changes are told: what they sent was sent when
-    /// they happened. An error is want of memory.
+    /// The world of a setup after events. Of these no packets are told: what they sent was sent when they happened. An
+    /// error is want of memory.
     pub fn run(alloc: Global, setup: &Setup, events: &[Event]) -> Result<World, AllocError>
         ensures legal { IfOk result (λ w. WorldRun (opened setup.now) events.now w.places) }
-        ensures told { IfOk result (λ w. (w.packets ≡ []) × (w.changes ≡ [])) }
+        ensures told { IfOk result (λ w. w.packets ≡ []) }
         ensures right { IfOk result (λ w. IsRight w.places) }
         ensures goes_on { IfOk result (λ w. (es : List EventOf) (v : WorldOf) → WorldRun w.places es v → IsRight v × IsLater w.places v) }
     {
@@ -233,13 +251,6 @@ impl World {
         ensures { result.now ≡ self.now.packets }
     {
         packets_of(self.places.as_slice(), self.sending)
-    }
-
-    /// The rows that the last step changed, in order, where [`World::packets`] are those that it sent.
-    pub fn changes(&self) -> &[Change]
-        ensures { result.now ≡ self.now.changes }
-    {
-        self.changes.as_slice()
     }
 
     /// All versions that a session of an operator ever had, oldest first. It takes no memory.

@@ -16,4 +16,4 @@ loop-event-preserved c =
     let v = c.step.new.self in
     let start = opened c.args.setup.now in
     subst (λ (l : List Event). WorldRun start l v.places) (sym (front_more es i e (omega arith) c.event-item.is))
-    (run_more start u.places v.places (take i es) e (told c.in_ok-_outcome._outcome v.packets v.changes) c.loop-event.invariant c.in_ok-_outcome.ensures.ok)
+    (run_more start u.places v.places (take i es) e (told c.in_ok-_outcome._outcome v.packets c.in_ok-_outcome.ensures.ok.0) c.loop-event.invariant c.in_ok-_outcome.ensures.ok.1)
