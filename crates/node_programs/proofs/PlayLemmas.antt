@@ -15,8 +15,9 @@ use Rattle.world.specs.Seen.{told}
 use Rattle.world.specs.declared.planned.Outcome.{Outcome}
 use Rattle.world.specs.declared.planned.Outcome.TheVariants.{Stepped, Skipped, Refused}
 use Rattle.world_steps.specs.World.{World, opened}
-use Rattle.node_keepers.specs.Keeping.{AreOpened, AreUnopened, Keeping}
-use Rattle.node_programs.specs.Play.{Opened, Playing, SetupTurn, Stage, changes_told, played_from}
+use Rattle.node_keepers.specs.Keeping.{AreOpened, AreUnopened, KeeperRefuses, KeeperTakes, Keeping}
+use Rattle.node_programs.specs.Play.{Are_kept, Are_refused, KeepersTake, Opened, Playing, SetupTurn, Stage, changes_told, played_from}
+use Rattle.node_programs.specs.declared.play.Keepers.{Keepers}
 
 -- a world was opened, and its keepers
 pub opens : {K : Type 0} (keeping : Keeping K) (may_refuse : ℕ → StoreFault → Type 0) (stop : Option StoreFault) (line : List ℕ) (setup : List Node) (w : World) (p : Playing K) →
@@ -40,3 +41,29 @@ err_one P r f is h = let p = err_from_is_err_and r is in rw (p.1, p.2) h
 pub unopened_in : {K : Type 0} (keeping : Keeping K) (may_refuse : ℕ → StoreFault → Type 0) (setup shown : List Node) (fault : StoreFault) →
     shown ≡ setup → AreUnopened keeping may_refuse shown fault → AreUnopened keeping may_refuse setup fault
 unopened_in keeping may_refuse setup shown fault is = subst (λ (nodes : List Node). AreUnopened keeping may_refuse nodes fault) is
+
+-- keepers that were shown changes have kept them, where none is noted to have refused
+pub are_kept : {K : Type 0} (keeping : Keeping K) (party : List ℕ) (changes : List Change) (before after : Keepers K) → KeepersTake keeping party changes before after →
+    before.refusal ≡ None → after.refusal ≡ None → KeeperTakes keeping party changes before.kept.items after.kept.items
+are_kept keeping party changes before after (Are_kept takes same) none empty = takes
+are_kept keeping party changes before after (Are_refused fault some refuses is) none empty = absurd (no_some fault (sym is ∙ empty))
+  where
+    no_some : (f : StoreFault) → Some f ≡ None → ⊥
+    no_some f e = cc
+
+-- and else the one that is noted refused them
+pub record WasRefused {K : Type 0} (keeping : Keeping K) (party : List ℕ) (changes : List Change) (fault : StoreFault) (before after : Keepers K) : Type 0 where
+  pub some : changes ≢ []
+  pub refuses : KeeperRefuses keeping party fault before.kept.items after.kept.items
+
+pub was_refused : {K : Type 0} (keeping : Keeping K) (party : List ℕ) (changes : List Change) (fault : StoreFault) (before after : Keepers K) → KeepersTake keeping party changes before after →
+    before.refusal ≡ None → after.refusal ≡ Some fault → WasRefused keeping party changes fault before after
+was_refused keeping party changes fault before after (Are_kept takes same) none is = absurd (no_some fault (sym is ∙ (same ∙ none)))
+  where
+    no_some : (f : StoreFault) → Some f ≡ None → ⊥
+    no_some f e = cc
+was_refused keeping party changes fault before after (Are_refused other some refuses told) none is =
+    record { some = some; refuses = subst (λ (f : StoreFault). KeeperRefuses keeping party f before.kept.items after.kept.items) (one (sym told ∙ is)) refuses }
+  where
+    one : {f g : StoreFault} → Some f ≡ Some g → f ≡ g
+    one e = cc
