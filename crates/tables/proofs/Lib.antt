@@ -2,6 +2,7 @@ pub mod Options
 pub mod Elements
 pub mod Ordered
 pub mod Slots
+pub mod Backwards
 pub mod Maps
 pub mod Entries
 pub mod Indexing

@@ -33,6 +33,7 @@
 mod key;
 mod least;
 mod queue;
+mod reversed;
 mod table;
 mod visits;
 

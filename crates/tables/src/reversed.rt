@@ -1,0 +1,68 @@
+//! Keys in the opposite order.
+
+ghost use Rattle.std.specs.Cmp.{back_po, back_total};
+ghost use Rattle.tables.specs.Keys.{back_exact, back_ties};
+
+use crate::key::TableKey;
+use std::cmp::Ordering;
+use std::marker::Model;
+
+/// A key in the opposite order of its own, which clauses see as the key itself.
+#[derive(Clone, Copy)]
+pub(crate) struct Reversed<K> {
+    pub(crate) key: K,
+}
+
+impl<K> Model for Reversed<K> {
+    ghost Value = { K };
+
+    ghost coded = { K.code };
+
+    ghost view = { λ r. r.key };
+
+    ghost inverse = { λ k. record { key = k } };
+}
+
+impl<K: TableKey> PartialEq for Reversed<K> {
+    ghost eq = { K.eq };
+
+    ghost laws = { K.PartialEq.laws };
+
+    fn eq(&self, other: &Self) -> bool {
+        self.key == other.key
+    }
+}
+
+impl<K: TableKey> Eq for Reversed<K> {
+    ghost laws = { K.Eq.laws };
+}
+
+impl<K: TableKey> PartialOrd for Reversed<K> {
+    ghost partial_cmp = { λ x y. K.partial_cmp y x };
+
+    ghost laws = { back_po K.PartialEq.laws K.PartialOrd.laws };
+
+    fn partial_cmp(&self, other: &Self) -> Option<Ordering> {
+        other.key.partial_cmp(&self.key)
+    }
+}
+
+/// What is later is less.
+impl<K: TableKey> Ord for Reversed<K> {
+    ghost cmp = { λ x y. K.cmp y x };
+
+    ghost total = { back_total K.Ord.total };
+
+    ghost matches_partial_cmp = { λ x y. K.matches_partial_cmp y x };
+
+    ghost matches_eq = { back_ties K.Ord.total K.matches_eq };
+
+    fn cmp(&self, other: &Self) -> Ordering {
+        other.key.cmp(&self.key)
+    }
+}
+
+/// What is later is less.
+impl<K: TableKey> TableKey for Reversed<K> {
+    ghost exact = { back_exact K.exact };
+}
