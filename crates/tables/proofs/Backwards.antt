@@ -119,7 +119,7 @@ module _ {K X : Type 0} {R : K → K → Ordering} (o : IsTotalOrder R) (exact :
 
   pub made_back :
       (lookup (is_at (flip_args R k)) es ≡ None →
-        ((q : K) → lookup (is_at (flip_args R q)) fs ≡ cond (is_at (flip_args R k) q) (Some None) (lookup (is_at (flip_args R q)) es)) × IsStrictlySortedBy (flip_args R) (keys_of fs)) →
+      ((q : K) → lookup (is_at (flip_args R q)) fs ≡ cond (is_at (flip_args R k) q) (Some None) (lookup (is_at (flip_args R q)) es)) × IsStrictlySortedBy (flip_args R) (keys_of fs)) →
       lookup (is_at (R k)) (reverse es) ≡ None →
       ((q : K) → lookup (is_at (R q)) (reverse fs) ≡ cond (is_at (R k) q) (Some None) (lookup (is_at (R q)) (reverse es))) × IsStrictlySortedBy R (keys_of (reverse fs))
   made_back made none =
