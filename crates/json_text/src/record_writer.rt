@@ -332,8 +332,8 @@ impl RecordWriter {
     {
         // The type keeps the bound, and `millis` tells it.
         let _millis = moment.millis();
-        let text = moment.write(self.alloc)?;
-        self.text(field, &text)
+        let text = moment.text();
+        self.text(field, text.as_str())
     }
 
     /// The same, where there is one.
