@@ -263,7 +263,9 @@ pub fn tell_refused(
             )?;
             output.push_str(text_of(event, Field::TokenType))
         }
-        "NumbersUsedUp" => output.push_str("a counter has no next number: start a node of another party"),
+        "NumbersUsedUp" => output.push_str(
+            "a counter has no next number: start a node of another party",
+        ),
         "StampEnd" => output.push_str("no later moment is left for a version"),
         _ => output.push_str("memory ran out: give more"),
     }
