@@ -1,5 +1,5 @@
 #!/usr/bin/env python3
-"""Draws a run of `ocpi_nodes play` as a sequence picture in SVG, or tells it in words.
+"""Draws a run of `ocpi_nodes play` as a sequence picture in SVG, or prints it in words.
 
     examples/draw_run.py examples/play/charge/in.jsonl examples/play/charge/out > charge.svg
     ./ocpi_nodes play < examples/play/charge/in.jsonl | examples/draw_run.py --text examples/play/charge/in.jsonl
@@ -110,7 +110,7 @@ def tell(run):
         if step.delivered:
             packet = step.delivered
             again = " again" if packet.deliveries[0] != place else ""
-            what = f"gets{again} from {packet.sender} {packet.means()} ({packet.kind} {packet.name()})"
+            what = f"receives{again} from {packet.sender} {packet.means()} ({packet.kind} {packet.name()})"
         lines.append(f"{head}{step.node:6}  {what}")
         for packet in step.packets:
             again = " again" if packet.is_again else ""
@@ -224,7 +224,7 @@ class Picture:
             self.beside(step.node, step.told.split(), "told")
         elif step.delivered:
             again = " again" if step.delivered.deliveries[0] != place else ""
-            self.arrivals[place] = self.beside(step.node, [f"gets {step.delivered.name()}{again}"], "small")
+            self.arrivals[place] = self.beside(step.node, [f"receives {step.delivered.name()}{again}"], "small")
         else:
             y = self.beside(step.node, happening(step).replace(" kWh", "\u00a0kWh").split(" "), "own")
             self.texts.append(f'<circle cx="{self.x(step.node)}" cy="{y}" r="4" class="dot"/>')

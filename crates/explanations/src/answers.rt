@@ -231,7 +231,7 @@ fn words_for_report(word: &str) -> Option<(&'static str, &'static str)> {
             ": is the EVSE's uid right?",
         )),
         "swipe" => Some((
-            "nothing begins at ",
+            "no session begins at ",
             " by this token: is it stored, valid and of that type, and the EVSE in service and free?",
         )),
         _ => None,
@@ -263,8 +263,10 @@ pub fn tell_refused(
             )?;
             output.push_str(text_of(event, Field::TokenType))
         }
-        "NumbersUsedUp" => output.push_str("a counter has no next number: begin anew"),
-        "StampEnd" => output.push_str("the calendar ends: no later moment is left for a version"),
+        "NumbersUsedUp" => output.push_str(
+            "a counter has no next number: start a node of another party",
+        ),
+        "StampEnd" => output.push_str("no later moment is left for a version"),
         _ => output.push_str("memory ran out: give more"),
     }
 }

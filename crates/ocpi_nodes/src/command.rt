@@ -102,12 +102,12 @@ fn with_telling<'a>(alloc: Global, command: Command<'a>) -> Result<Command<'a>, 
     let explain = Arg::new(alloc, "explain")
         .long("explain")
         .action(ArgAction::SetTrue)
-        .help("Say on standard error what is wrong with a line, and where");
+        .help("Print on standard error what is wrong with a line, and where");
     let command = with_arg(command, explain)?;
     let strict = Arg::new(alloc, "strict")
         .long("strict")
         .action(ArgAction::SetTrue)
-        .help("End with status 1 where --explain says something");
+        .help("Exit with status 1 where --explain prints something");
     with_arg(command, strict)
 }
 
@@ -117,7 +117,7 @@ fn play<'a>(alloc: Global) -> Result<Command<'a>, Error> {
         .value_name("DIR")
         .help("Keep the rows of each node in a file of this folder");
     let command = Command::new(alloc, "play")
-        .about("Let the events of standard input happen in a world of operators and providers")
+        .about("Apply the events of standard input at the operators and providers of a setup")
         .after_help(help::PLAY)
         .arg(store)?;
     with_telling(alloc, command)
@@ -128,7 +128,7 @@ fn existing<'a>(alloc: Global) -> Result<Arg<'a>, Error> {
     let arg = Arg::new(alloc, "existing")
         .long("existing")
         .action(ArgAction::SetTrue)
-        .help("Make no file: refuse where none stands, as at any start but a node's first");
+        .help("Create no file: refuse where there is none, as at any start but a node's first");
     Ok(arg.requires_arg("store")?)
 }
 
@@ -145,9 +145,9 @@ fn node<'a>(alloc: Global) -> Result<Command<'a>, Error> {
     let echo = Arg::new(alloc, "echo")
         .long("echo")
         .action(ArgAction::SetTrue)
-        .help("Write each line before what it gives");
+        .help("Print each line before what it returns");
     let command = Command::new(alloc, "node")
-        .about("Let the events of standard input happen at one node of a setup")
+        .about("Apply the events of standard input at one node of a setup")
         .after_help(help::NODE)
         .arg(party)?;
     let command = with_arg(command, store)?;
@@ -166,7 +166,7 @@ fn settle<'a>(alloc: Global) -> Result<Command<'a>, Error> {
         .required(true)
         .help("The store of a node");
     let command = Command::new(alloc, "settle")
-        .about("Tell what is owed by the charge detail records of a store")
+        .about("Print what is owed by the charge detail records of a store")
         .after_help(help::SETTLE)
         .arg(file)?;
     Ok(command)
@@ -177,12 +177,12 @@ fn weave<'a>(alloc: Global) -> Result<Command<'a>, Error> {
         .long("given")
         .value_name("PARTY")
         .action(ArgAction::Append)
-        .help("Take what this party sent as it came: it has no file here");
+        .help("Take what this party sent as it was received: it has no file here");
     let files = Arg::new(alloc, "files")
         .value_name("FILE")
         .required(true)
         .action(ArgAction::Append)
-        .help("The transcript of a node, as `node --echo` wrote it");
+        .help("The transcript of a node, as `node --echo` printed it");
     let command = Command::new(alloc, "weave")
         .about("Make one run of the transcripts of several nodes, as input of `play`")
         .after_help(help::WEAVE)

@@ -3,7 +3,7 @@
 /// After the help of the program.
 pub const PROGRAM: &str =
     r#"Input and output are lines. docs/PROTOCOL.md has their forms; examples/ has whole inputs (in.jsonl)
-beside what they give (out). `ocpi_nodes help COMMAND` says what a command reads and writes.
+beside what they give (out). `ocpi_nodes help COMMAND` says what a command reads and prints.
 
 Examples, in the folder of the repository:
   ./ocpi_nodes answer < examples/answer/start_session/in.jsonl
@@ -23,16 +23,16 @@ Exit status:
 pub const ANSWER: &str =
     r#"Input, on standard input: lines of JSON; docs/PROTOCOL.md has their forms, under "JSON".
   The first is the site line: the moment, the operator's party, its providers, and its site.
-  Each other line is a packet that comes to the operator at that moment.
+  Each other line is a packet that the operator receives at that moment.
   A line has at most 1048576 bytes, and ends with a line feed, or a carriage return and a line feed;
-  the last may lack its end. Empty lines are passed over. At most 1000000000 lines are read.
+  the last may lack its end. Empty lines are skipped. At most 1000000000 lines are read.
 
 Output, on standard output:
-  For a packet that is taken: each packet that the operator sends, a line of JSON each.
+  For a packet that is accepted: each packet that the operator sends, a line of JSON each.
   For a line that is refused: `refused N Name`, the number and the name of the refusal, and the
   member where one is at fault. It changes nothing, and the next line follows; a refused or absent
   site line ends the run.
-  What was answered is written before the program waits for more input.
+  All answers are printed before the program waits for more input.
 
 Explanations, on standard error: with --explain, for each line that was refused: its number, the
   refusal, the path of the member or the column, what was found, and what is wanted there. With
@@ -53,16 +53,16 @@ pub const PLAY: &str =
   The first is the setup: the nodes, each of a party, and with a site where it is an operator.
   Each other line is an event at one of them.
   A line has at most 1048576 bytes, and ends with a line feed, or a carriage return and a line feed;
-  the last may lack its end. Empty lines are passed over. At most 1000000000 lines are read.
+  the last may lack its end. Empty lines are skipped. At most 1000000000 lines are read.
 
 Output, on standard output:
-  For an event that happens: each packet that the node sends, a line of JSON each.
+  For an event that is applied: each packet that the node sends, a line of JSON each.
   For an event that is of no node, or a delivery of a packet that was not sent to it: `skipped`.
   For a line that is refused: `refused N Name`, the number and the name of the refusal, and the
   member where one is at fault. It changes nothing, and the next line follows; a refused or absent
   setup ends the run.
   At the end: what each provider owes each operator, as `owed NL/TNM BE/BEC EUR 3.0864`.
-  What was answered is written before the program waits for more input.
+  All answers are printed before the program waits for more input.
 
 Explanations, on standard error: with --explain, for each line that was refused: its number, the
   refusal, the path of the member or the column, what was found, and what is wanted there; and for
@@ -70,17 +70,17 @@ Explanations, on standard error: with --explain, for each line that was refused:
   --strict the status is 1 where there was such a line. The output is the same with or without.
 
 Stores: with --store DIR the rows of the i-th node, from 1, are kept in the file DIR/node<i>.db. The
-  folder must exist, and the files must not: they are made, for their owner alone (mode 0600). The
-  rows that an event changes are there before its packets are written. Until the end of the run
-  DIR/node<i>.db-wal is part of it. docs/STORE.md has the tables, and what to ask them.
+  folder must exist, and the files must not: they are created, for their owner alone (mode 0600).
+  The rows that an event changes are committed before its packets are printed. Until the end of the
+  run DIR/node<i>.db-wal is part of it. docs/STORE.md has the tables, and what to ask them.
 
 Exit status:
   0  no line was refused
   1  a line was refused, or reading or writing failed, which standard error says
   2  the command line is wrong
   3  a store refused: standard error has `store: N Name`, and then which file, why, and what to do.
-     That ends the run, and nothing of that line is written; where it could not be closed at the
-     end, all is written
+     That ends the run, and nothing of that line is printed; where it could not be closed at the
+     end, all is printed
 
 Examples, in the folder of the repository:
   ./ocpi_nodes play < examples/play/charge/in.jsonl
@@ -92,9 +92,9 @@ pub const NODE: &str =
   The first is the setup, as of `play`. PARTY is one of its parties, in any case.
   Each other line is an event, as of `play`, but a delivery has the packet itself:
   {"at":"2025-01-01T10:00:00Z","event":"deliver","node":"BE/BEC","packet":{..}}
-  Or it is an array of at most 256 such events, which are carried out in turn and committed at once.
+  Or it is an array of at most 256 such events, which are applied in turn and committed together.
   A line has at most 1048576 bytes, and ends with a line feed, or a carriage return and a line feed;
-  the last may lack its end. Empty lines are passed over. At most 1000000000 lines are read.
+  the last may lack its end. Empty lines are skipped. At most 1000000000 lines are read.
 
 Output, on standard output:
   Each packet that the node sends, a line of JSON each, and after those of an event one that says
@@ -108,8 +108,8 @@ Output, on standard output:
     refused    the node refused the event
     all        each event of an array is done: `events` is their number
   `line` is the number of the line, from 1, empty ones counted. For an event of an array `event` is
-  its place in it, from 0, and `all` stands behind the last. All that a line gives is written before
-  the next line is carried out. With --echo each line is written before what it gives.
+  its place in it, from 0, and `all` stands behind the last. All that a line returns is printed
+  before the next line is applied. With --echo each line is printed before what it returns.
 
 Explanations, on standard error: with --explain, for each line, or event of one, that was malformed
   or refused: its number, the refusal, the path of the member or the column, what was found, and
@@ -117,12 +117,12 @@ Explanations, on standard error: with --explain, for each line, or event of one,
   idle, why that may be. With --strict the status is 1 where there was such a line. The output is
   the same with or without.
 
-Store: with --store FILE the node's rows are kept in that file, which is made where it is missing,
-  for its owner alone (mode 0600). Where it has rows, the node goes on from them. The rows that a
-  line changes are there before its packets are written. Until the end of the run FILE-wal is part
-  of it. docs/STORE.md has the tables, and what to ask them.
-  With --existing too no file is made: where none stands, the store refuses. Give it at each start
-  but a node's first, since a node that begins anew gives numbers again that partners have seen.
+Store: with --store FILE the node's rows are kept in that file, which is created where it is
+  missing, for its owner alone (mode 0600). If it has rows, the node goes on from them. The rows
+  that a line changes are committed before its packets are printed. Until the end of the run
+  FILE-wal is part of it. docs/STORE.md has the tables, and what to ask them.
+  With --existing too no file is created: where there is none, the store refuses. Give it at each
+  start but a node's first, since a new node reuses numbers that partners have seen.
 
 Exit status:
   0  no line, or event of one, was refused
@@ -130,22 +130,22 @@ Exit status:
   2  the command line is wrong, or the setup has no such party
   3  the store refused, memory ran out for an array of events, or no such node has just the rows:
      standard error has `store: N Name`, and then which file or row, why, and what to do. That ends
-     the run, and nothing of that line is written but its echo; where the store could not be closed
-     at the end, all is written
+     the run, and nothing of that line is printed but its echo; where the store could not be closed
+     at the end, all is printed
 
 Example, in the folder of the repository:
   ./ocpi_nodes node BE/BEC --store be.db < examples/node/operators_day/in.jsonl"#;
 
 /// After the help of `settle`.
 pub const SETTLE: &str =
-    r#"Input: the rows of a file that `play --store` or `node --store` made; standard input is not read.
+    r#"Input: the rows of a file that `play --store` or `node --store` created; standard input is not read.
   A store of version 1 is moved to version 2 for good: earlier programs do not read it then.
 
 Output, on standard output: what is owed by the charge detail records of the file to each operator
   in each currency, as `owed BE/BEC EUR 3.0864`, by operator and then by currency.
 
 Exit status:
-  0  all rows were read, and what is owed was written
+  0  all rows were read, and what is owed was printed
   1  writing failed, which standard error says
   2  the command line is wrong
   3  the store refused: standard error has `store: N Name`, and then which file, why, and what to do
@@ -155,28 +155,28 @@ Example, after `ocpi_nodes play --store stores`:
 
 /// After the help of `weave`.
 pub const WEAVE: &str =
-    r#"Input: each FILE is a transcript, all that `node PARTY --echo` read and wrote for one node. Several
-  runs over one store stand in it one behind the other. The setups of all are equal, the parties
-  differ. A last line that has no end was cut, and is left out. Standard input is not read.
-  What a party sent that --given names is taken as it came; it has no FILE. PARTY is one of the
-  setup, in any case. Say --given once for each such party.
+    r#"Input: each FILE is a transcript, all that `node PARTY --echo` read and printed for one node.
+  Several runs over one store stand in it one behind the other. The setups of all are equal, the
+  parties differ. A last line that has no end was cut, and is left out. Standard input is not read.
+  What a party sent that --given names is taken as it was received; it has no FILE. PARTY is one of
+  the setup, in any case. Give --given once for each such party.
 
-Output, on standard output: one run in which all happened that the transcripts tell, as input of
-  `play`: the setup line of the first FILE, then an event a line, each delivery behind its sending.
-  A delivery from a given party stands as it came, with its packet, which `play` refuses.
+Output, on standard output: one run of all that the transcripts have, as input of `play`: the setup
+  line of the first FILE, then an event a line, each delivery after its packet was sent. A delivery
+  from a given party stands as it was received, with its packet, which `play` refuses.
   Or why there is none, and nothing else:
-    refused 1 NeverSent(BE/BEC 9 FILE:12)         this line got a packet that its sender never sent
+    refused 1 NeverSent(BE/BEC 9 FILE:12)         this line has a packet that its sender never sent
     refused 2 Differs(BE/BEC 9 FILE:31 FILE:12)   for the first line its sender sent another one
-    refused 3 NoOrder(FILE:12 FILE:7)             each line waits for what is sent behind another
+    refused 3 NoOrder(FILE:12 FILE:7)             each line needs a packet sent behind another
     refused 4 Memory                              memory ran out
-    refused 5 NotARun(FILE:12)                    the node would have answered it otherwise
+    refused 5 NotARun(FILE:12)                    the node would have returned something else
     refused 6 WrongTranscript(FILE:12)            it is no line of one, or of another setup or party
     refused 7 TooManyWays(FILE:12)                stops leave open more than 64 ways
   FILE:12 is a line of that file, from 1; at line 0 no run in it was opened. Beside the first two
   standard error may say more. docs/DISPUTES.md says what follows from each.
 
 Exit status:
-  0  a run was written
+  0  a run was printed
   1  the transcripts were refused, or writing failed, which standard error says
   2  the command line is wrong, or --given names a party that the setup has not, or one of a FILE
   3  a file was not read, which standard error says; nothing is said of the others

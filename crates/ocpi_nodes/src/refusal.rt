@@ -27,7 +27,7 @@ pub fn words_for(fault: StoreFault) -> &'static str {
 pub fn words_for_node(fault: StoreFault) -> &'static str {
     match fault {
         StoreFault::Refused(Cause::NotFound) => {
-            "there is no such file, and --existing makes none: name the store that was used before, or see that its disk is mounted"
+            "there is no such file, and --existing creates none: name the store that was used before, or check that its disk is mounted"
         }
         _ => words_for(fault),
     }
@@ -36,10 +36,10 @@ pub fn words_for_node(fault: StoreFault) -> &'static str {
 fn words_for_cause(cause: Cause) -> &'static str {
     match cause {
         Cause::AlreadyExists => {
-            "it exists already, and a run makes new files: move it away, or name another folder"
+            "it exists already, and a run creates new files: move it away, or name another folder"
         }
-        Cause::FolderNotFound => "its folder does not exist: make that first",
-        Cause::NotFound => "there is no such file: name one that a run with --store made",
+        Cause::FolderNotFound => "its folder does not exist: create it first",
+        Cause::NotFound => "there is no such file: name one that a run with --store created",
         Cause::NotAFile =>
             "it is a folder, or no plain file: name the file of a store, as node1.db",
         Cause::PermissionDenied => {
@@ -55,7 +55,7 @@ fn words_for_cause(cause: Cause) -> &'static str {
         Cause::Disk => "the disk failed: the system's log says more",
         Cause::Size => "a row is larger than a store takes",
         Cause::NotEmpty =>
-            "it has rows already, which a -wal file held that lay there: move it away, or name another folder",
+            "it has rows already, from a -wal file that was there: move it away, or name another folder",
         Cause::NoKeeper => "no file is that of the node whose rows changed",
         Cause::OpenedBefore => "it was opened before in this run, which opens it once",
         Cause::Other => "the database refused it: keep a copy of the file, and report this",
@@ -96,9 +96,9 @@ pub fn words_for_reason(reason: BadReason) -> &'static str {
         }
         BadReason::BilledTwice => "another bill is of the same session",
         BadReason::CreditedTwice => "another credit is of the same session",
-        BadReason::BilledEarly => "its session is not there as completed",
+        BadReason::BilledEarly => "its session is missing, or not completed",
         BadReason::Unbilled => "the completed session has no bill",
-        BadReason::CreditWithoutBill => "the bill that the credit takes back is not there",
+        BadReason::CreditWithoutBill => "the bill that the credit takes back is missing",
     }
 }
 
@@ -158,10 +158,10 @@ pub fn advice_for(reason: BadReason) -> &'static str {
 pub fn words_for_unread(kind: ErrorKind) -> &'static str {
     match kind {
         ErrorKind::NotFound | ErrorKind::NotADirectory => {
-            "there is no such file: name a transcript, as a run of `node --echo` wrote it"
+            "there is no such file: name a transcript, as a run of `node --echo` printed it"
         }
         ErrorKind::IsADirectory =>
-            "it is a folder: name a transcript, as a run of `node --echo` wrote it",
+            "it is a folder: name a transcript, as a run of `node --echo` printed it",
         ErrorKind::PermissionDenied => "no permission: the file must be readable",
         _ => "it cannot be read: the system's log says more",
     }
