@@ -15,6 +15,9 @@
 //! Only `reserve` may want memory here: `put` asks for a key that has room. `clear` takes the value away and keeps the
 //! room, and `release` gives it back.
 //!
+//! The slots stand from the latest key on, since a search of a node begins at its first key and most new keys are later
+//! than all others. Visits go from the end.
+//!
 //! # Promises
 //!
 //! A `Table` is two finite maps, the values (`shown`) and the keys that have a value or room for one (`room`).
