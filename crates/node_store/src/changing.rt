@@ -24,21 +24,12 @@ pub(crate) fn placed_all(alloc: Global, changes: &[Change]) -> Result<Vec<Placed
     Ok(placed)
 }
 
-/// Whether a place is of a kind of row of which nearly every change is of one that stands, as a counter.
-fn stands_mostly(place: &Place) -> bool {
-    matches!(place.0.as_str(), "command" | "count" | "session")
-}
-
 /// Takes the room that a row needs, where it is not there.
 fn reserve_row(stored: &mut Table<Place, StoredRow>, place: Place) -> Result<(), AllocError>
     ensures same { kept stored.new ≡ kept stored.old }
     ensures ready { OnOk result (IsTrue (contains_key (room stored.new) place)) }
     ensures stay { (p : RowPlace) → IsTrue (contains_key (room stored.old) p) → IsTrue (contains_key (room stored.new) p) }
 {
-    // Room that stands is found by one descent, and taken again by two.
-    if stands_mostly(&place) && stored.has_room(place) {
-        return Ok(());
-    }
     stored.reserve(place)
 }
 
