@@ -1,9 +1,8 @@
 //! Keys in the opposite order.
 
 ghost use Rattle.std.specs.Cmp.{back_po, back_total};
-ghost use Rattle.tables.specs.Keys.{back_exact, back_ties};
+ghost use Rattle.tables.specs.Keys.{back_ties};
 
-use crate::key::TableKey;
 use std::cmp::Ordering;
 use std::marker::Model;
 
@@ -23,21 +22,21 @@ impl<K> Model for Reversed<K> {
     ghost inverse = { λ k. record { key = k } };
 }
 
-impl<K: TableKey> PartialEq for Reversed<K> {
+impl<K: PartialEq> PartialEq for Reversed<K> {
     ghost eq = { K.eq };
 
-    ghost laws = { K.PartialEq.laws };
+    ghost laws = { K.laws };
 
     fn eq(&self, other: &Self) -> bool {
         self.key == other.key
     }
 }
 
-impl<K: TableKey> Eq for Reversed<K> {
+impl<K: Eq> Eq for Reversed<K> {
     ghost laws = { K.Eq.laws };
 }
 
-impl<K: TableKey> PartialOrd for Reversed<K> {
+impl<K: PartialOrd> PartialOrd for Reversed<K> {
     ghost partial_cmp = { λ x y. K.partial_cmp y x };
 
     ghost laws = { back_po K.PartialEq.laws K.PartialOrd.laws };
@@ -48,7 +47,7 @@ impl<K: TableKey> PartialOrd for Reversed<K> {
 }
 
 /// What is later is less.
-impl<K: TableKey> Ord for Reversed<K> {
+impl<K: Ord> Ord for Reversed<K> {
     ghost cmp = { λ x y. K.cmp y x };
 
     ghost total = { back_total K.Ord.total };
@@ -60,9 +59,4 @@ impl<K: TableKey> Ord for Reversed<K> {
     fn cmp(&self, other: &Self) -> Ordering {
         other.key.cmp(&self.key)
     }
-}
-
-/// What is later is less.
-impl<K: TableKey> TableKey for Reversed<K> {
-    ghost exact = { back_exact K.exact };
 }
