@@ -1,5 +1,4 @@
--- The orders of expiries and of places: each is total, and only equal keys tie. The places for one token stand
--- together.
+-- The places for one token stand together.
 use Rattle.std.proofs.Common.{◌≡◌, ℕ, List, [], ◌∷◌, false, refl, sym, ap, subst, ◌∙◌}
 use Rattle.std.specs.declared.cmp.Ordering.{Ordering}
 use Rattle.std.specs.declared.cmp.Ordering.TheVariants.{Equal}
@@ -12,33 +11,10 @@ use Rattle.tables.specs.Keys.{text_cmp, text_pair_cmp, text_total, text_exact, p
 use Rattle.tables.specs.Tables.{IsLeast, HasNone}
 use Rattle.tables.proofs.Options.{none_of}
 use Rattle.tables.proofs.Parts.{first_part_le, neither_above}
-use Rattle.reservation_book.specs.Places.{Place, triple_cmp, expiry_cmp, group_cmp, place_cmp}
+pub use Rattle.reservation_book.specs.Orders.{expiry_total, expiry_exact, group_total, group_exact, place_total, place_exact}
+use Rattle.reservation_book.specs.Places.{Place, expiry_cmp, group_cmp, place_cmp}
 use Rattle.reservation_book.specs.declared.standing.TokenAt.{TokenAt}
 use Rattle.reservation_book.specs.Listed.{IsPlaceFor, IsPlaceOn, IsPlaceAfter}
-
-triple_total : {A B C : Type 0} {R : A → A → Ordering} {S : B → B → Ordering} {T : C → C → Ordering} → IsTotalOrder R → IsTotalOrder S → IsTotalOrder T → IsTotalOrder (triple_cmp R S T)
-triple_total {A} {B} {C} r s t = then_total (then_total (on_total (λ (p : A × B × C). p.0) r) (on_total (λ (p : A × B × C). p.1) s)) (on_total (λ (p : A × B × C). p.2) t)
-
-pub expiry_total : IsTotalOrder expiry_cmp
-expiry_total = triple_total nat_cmp_total text_total text_total
-
-pub expiry_exact : IsAntisymmetric expiry_cmp
-expiry_exact = triple_exact nat_cmp text_cmp text_cmp nat_cmp-IsAntisymmetric text_exact text_exact
-
-pub group_total : IsTotalOrder group_cmp
-group_total = triple_total text_total text_total text_total
-
-pub group_exact : IsAntisymmetric group_cmp
-group_exact = triple_exact text_cmp text_cmp text_cmp text_exact text_exact text_exact
-
-abbrev pub Rest : Type 0
-Rest = ℕ × List ℕ × List ℕ
-
-pub place_total : IsTotalOrder place_cmp
-place_total = then_total (on_total (λ (p : Place). p.0) group_total) (on_total (λ (p : Place). p.1) expiry_total)
-
-pub place_exact : IsAntisymmetric place_cmp
-place_exact = pair_exact group_cmp expiry_cmp group_exact expiry_exact
 
 -- what is not above by two orders in turn is not above by the first, nor, where that ties, by the second
 second_le : (r s : Ordering) → r ≡ Equal → is_gt (ordering_then r s) ≡ false → is_gt s ≡ false

@@ -1,5 +1,6 @@
 pub mod Rows
 pub mod Places
+pub mod Orders
 pub mod Listed
 pub mod Tokens
 pub mod Refusals

@@ -146,7 +146,7 @@ impl ReservationBook {
         ensures none { IfNone result ((x : Standing) → IsFor self.now.rows.reservations token.now x → IsOn evse_uid x → ⊥) }
     {
         let place = self.listings.first(token, evse_uid)?;
-        Some(standing_of(&self.reservations, &(place.0.0, place.1.2)))
+        Some(standing_of(&self.reservations, &place.reservation()))
     }
 
     /// The next of the provider's reservations for the token at the location, after the one on that EVSE with that id.
@@ -155,7 +155,7 @@ impl ReservationBook {
         ensures none { IfNone result ((x : Standing) → IsFor self.now.rows.reservations token.now x → IsLtBy text_pair_cmp (evse_uid, id) (spot x) → ⊥) }
     {
         let place = self.listings.next_for(token, evse_uid, id)?;
-        Some(standing_of(&self.reservations, &(place.0.0, place.1.2)))
+        Some(standing_of(&self.reservations, &place.reservation()))
     }
 
     /// Whether a request of that number about the provider's reservation of that id is taken. Refused is one with a

@@ -29,6 +29,7 @@ mod expiring;
 mod fault;
 mod laws;
 mod listings;
+mod place_key;
 mod standing;
 
 pub use book::ReservationBook;

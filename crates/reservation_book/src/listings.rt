@@ -20,6 +20,7 @@ ghost use Rattle.reservation_book.specs.Tokens.{IsToken};
 ghost use Rattle.reservation_book.specs.Rows.{Reservations};
 ghost use Rattle.ocpi_types.specs.declared.stored.Reservation.{Reservation};
 
+use crate::place_key::PlaceKey;
 use crate::standing::TokenAt;
 use ocpi_text::{CiKey, Moment, PartyKey};
 use ocpi_types::{Reservation, Token, TokenType, type_place};
@@ -31,12 +32,6 @@ pub(crate) type ReservationKey = (PartyKey, CiKey<36>);
 
 /// The moment of a reservation's expiry, its provider and its id.
 pub(crate) type ExpiryKey = (Moment, PartyKey, CiKey<36>);
-
-/// A provider, a location and a token's uid, then the token's type, as a number, the EVSE and the id of a reservation.
-pub(crate) type PlaceKey = (
-    (PartyKey, CiKey<36>, CiKey<36>),
-    (u64, CiKey<36>, CiKey<36>),
-);
 
 /// Whether it is the token of that uid and type.
 pub(crate) fn is_token(token: &Token, uid: CiKey<36>, token_type: TokenType) -> bool
@@ -50,14 +45,14 @@ fn place_key(key: &ReservationKey, reservation: &Reservation) -> PlaceKey
     ensures { result ≡ place_key key.now reservation.now }
 {
     let token = &reservation.token;
-    (
-        (key.0, reservation.location_id.key(), token.uid.key()),
-        (
+    PlaceKey {
+        token: (key.0, reservation.location_id.key(), token.uid.key()),
+        spot: (
             type_place(token.token_type),
             reservation.evse_uid.key(),
             key.1,
         ),
-    )
+    }
 }
 
 /// The reservations that stand, by the moment of their expiry, and by the token, the location and the EVSE that they
@@ -175,27 +170,27 @@ fn place_for(token: &TokenAt, evse_uid: CiKey<36>, id: CiKey<36>) -> PlaceKey
     ensures evse { result.1.1 ≡ evse_uid }
     ensures id { result.1.2 ≡ id }
 {
-    (
-        (token.provider, token.location_id, token.uid),
-        (type_place(token.token_type), evse_uid, id),
-    )
+    PlaceKey {
+        token: (token.provider, token.location_id, token.uid),
+        spot: (type_place(token.token_type), evse_uid, id),
+    }
 }
 
 /// Whether it is the place of a reservation for the token.
-fn is_for(place: &PlaceKey, token: &TokenAt) -> bool
-    ensures yes { IsTrue result → IsPlaceFor token.now place.now }
-    ensures no { result ≡ false → IsPlaceFor token.now place.now → ⊥ }
+fn is_for(place: PlaceKey, token: &TokenAt) -> bool
+    ensures yes { IsTrue result → IsPlaceFor token.now place }
+    ensures no { result ≡ false → IsPlaceFor token.now place → ⊥ }
 {
     let group = (token.provider, token.location_id, token.uid);
-    place.0.cmp(&group).is_eq() && place.1.0 == type_place(token.token_type)
+    place.token().cmp(&group).is_eq() && place.spot().0 == type_place(token.token_type)
 }
 
 /// Whether it is the place of a reservation for the token on the EVSE.
-fn is_on(place: &PlaceKey, token: &TokenAt, evse_uid: CiKey<36>) -> bool
-    ensures yes { IsTrue result → IsPlaceOn token.now evse_uid place.now }
-    ensures no { result ≡ false → IsPlaceOn token.now evse_uid place.now → ⊥ }
+fn is_on(place: PlaceKey, token: &TokenAt, evse_uid: CiKey<36>) -> bool
+    ensures yes { IsTrue result → IsPlaceOn token.now evse_uid place }
+    ensures no { result ≡ false → IsPlaceOn token.now evse_uid place → ⊥ }
 {
-    is_for(place, token) && place.1.1.cmp(&evse_uid).is_eq()
+    is_for(place, token) && place.spot().1.cmp(&evse_uid).is_eq()
 }
 
 impl Listings {
@@ -216,11 +211,11 @@ impl Listings {
         ensures none { IfNone result (HasNone place_cmp (shown_of place_cmp self.now.places) (IsPlaceFor token.now)) }
     {
         let from = place_for(token, least_text(), least_text());
-        let Some((place, _)) = self.places.first_from(from) else {
+        let Some(found) = self.places.first_from(from) else {
             return None;
         };
-        if is_for(&place, token) {
-            Some(place)
+        if is_for(found.0, token) {
+            Some(found.0)
         } else {
             None
         }
@@ -232,11 +227,11 @@ impl Listings {
         ensures none { IfNone result (HasNone place_cmp (shown_of place_cmp self.now.places) (IsPlaceOn token.now evse_uid)) }
     {
         let from = place_for(token, evse_uid, least_text());
-        let Some((place, _)) = self.places.first_from(from) else {
+        let Some(found) = self.places.first_from(from) else {
             return None;
         };
-        if is_on(&place, token, evse_uid) {
-            Some(place)
+        if is_on(found.0, token, evse_uid) {
+            Some(found.0)
         } else {
             None
         }
@@ -253,11 +248,11 @@ impl Listings {
         ensures none { IfNone result (HasNone place_cmp (shown_of place_cmp self.now.places) (IsPlaceAfter token.now (evse_uid, id))) }
     {
         let from = place_for(token, evse_uid, id);
-        let Some((place, _)) = self.places.first_after(from) else {
+        let Some(found) = self.places.first_after(from) else {
             return None;
         };
-        if is_for(&place, token) {
-            Some(place)
+        if is_for(found.0, token) {
+            Some(found.0)
         } else {
             None
         }
