@@ -1,4 +1,5 @@
-use Rattle.std.proofs.Common.{rules, sym, subst}
+use Rattle.std.proofs.Common.{inr, refl, sym, subst}
+use Rattle.std.proofs.lemmas.Result.{err_from_is_err_and}
 use Rattle.handover.specs.Cdrs.{HasOnePerSession}
 use Rattle.handover.specs.Inbox.{InboxRows}
 use Rattle.handover.proofs.Holding.{not_in_conflict, not_kept, one_more_session}
@@ -9,7 +10,8 @@ returns-in_err-add_cdr-in-Taken-clause-fault c =
     let clear = not_in_conflict _ _ c.in-Taken.is c.in_ok-taking.ensures.conflict in
     let new = not_kept _ _ _ c.in-Taken.is c.in_ok-taking.ensures.kept clear in
     let parties = c.in_ok-taking.ensures.ok in
-    search (rules, clear, new, parties)
+    let told = err_from_is_err_and c.from_residual-in_err-add_cdr-in-Taken.result c.from_residual-in_err-add_cdr-in-Taken.ensures.1 in
+    rw (told.1, told.2) (inr (refl, parties, clear, new))
 
 pub returns-in_ok-add_cdr-in-Taken-clause-once : goal.returns-in_ok-add_cdr-in-Taken-clause-once
 returns-in_ok-add_cdr-in-Taken-clause-once c =
