@@ -3,6 +3,7 @@ pub mod Takings
 pub mod Sessions
 pub mod Answering
 pub mod Moving
+pub mod Resuming
 pub mod Following
 pub mod Swiping
 pub mod Inverting
