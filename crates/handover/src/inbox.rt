@@ -346,6 +346,15 @@ impl Inbox {
         }
     }
 
+    /// Drops the session of an operator and an id, if one is held, and gives its room back. It takes no memory.
+    fn drop_session(&mut self, operator: PartyKey, id: CiKey<36>)
+        ensures rows { self.new.rows ≡ drop_row (RowKey.Session operator id) self.old.rows }
+        ensures keeps { KeepsOtherRoom (RowKey.Session operator id) self.old.rooms self.new.rooms }
+        ensures room { GivesBack (RowKey.Session operator id) self.old self.new.rooms }
+    {
+        drop(self.sessions.remove((operator, id)));
+    }
+
     /// Drops a session or a charge detail record, and gives its room back; keys of other kinds change nothing. It
     /// takes no memory.
     pub fn drop_row(&mut self, key: RowKey)
@@ -354,9 +363,7 @@ impl Inbox {
         ensures room { GivesBack key self.old self.new.rooms }
     {
         match key {
-            RowKey::Session { operator, id } => {
-                self.sessions.remove((operator, id));
-            }
+            RowKey::Session { operator, id } => self.drop_session(operator, id),
             RowKey::Cdr { operator, id } => self.cdrs.remove(operator, id),
             RowKey::Count { .. }
             | RowKey::Reply { .. }

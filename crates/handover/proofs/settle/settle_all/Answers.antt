@@ -18,4 +18,4 @@ loop-cdr-preserved c =
     settled_more c.args.cdrs.now c.loop-cdr.cdr-index c.cdr-item.result _ _ (c.key-operator.result, c.cdr-item.result.currency) _
     (slice_get_read _ _ c.loop-cdr.cdr-index c.cdr-item.result refl c.loop-cdr-test.true c.cdr-item.is)
     (λ i. ((rw c.deref-seen.ensures at c.key-operator.ensures) i, c.cdr-item.result.currency))
-    (cost_sum _ c.sum_in.result _ c.from.result c.cost_of.result c.loop-cdr.cdr-index c.sum_in.ensures c.from.ensures (rw c.deref-seen.ensures at c.cost_of.ensures.value) small (c.loop-cdr.invariant.1 (c.key-operator.result, c.cdr-item.result.currency)) count) small c.in_ok-insert.ensures.shown c.loop-cdr.invariant.0 c.loop-cdr.invariant.1
+    (cost_sum _ c.sum_in.result _ c.from.result c.cost_of.result c.loop-cdr.cdr-index (rw c.deref-seen.ensures at c.sum_in.ensures) c.from.ensures (rw c.deref-seen.ensures at c.cost_of.ensures.value) small (c.loop-cdr.invariant.1 (c.key-operator.result, c.cdr-item.result.currency)) count) small (rw c.deref-seen.ensures at c.in_ok-insert.ensures.shown) c.loop-cdr.invariant.0 c.loop-cdr.invariant.1

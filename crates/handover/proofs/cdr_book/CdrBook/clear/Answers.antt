@@ -12,7 +12,7 @@ returns-in_default-clause-cdrs c = rw (← c.self.view_is) (sym (remove_absent t
 
 pub add_to-requires-clause-room : goal.add_to-requires-clause-room
 add_to-requires-clause-room c =
-    account_room _ _ _ _ c.self.invariant (c.args.operator, c.args.id) c.in-Some.cdr.now (sym c.get.ensures ∙ ap (λ (r : Option (Bor Cdr)). option_copied r) c.in-Some.is)
+    rw c.deref-seen.ensures (account_room _ _ _ _ c.self.invariant (c.args.operator, c.args.id) c.in-Some.cdr.now (sym c.get.ensures ∙ ap (λ (r : Option (Bor Cdr)). option_copied r) c.in-Some.is))
 
 pub add_to-requires-clause-bound : goal.add_to-requires-clause-bound
 add_to-requires-clause-bound c = sum_bound _ _ _ _ c.self.invariant _ c.room_count-most.result c.room_count-most.ensures.most c.room_count-most.ensures.small

@@ -13,7 +13,7 @@ pub put-requires-2 : goal.put-requires-2
 put-requires-2 c = rw ((rw c.deref-seen.ensures at c.group_of-group.ensures), (rw c.deref-seen.ensures at c.key-id.ensures)) (rw (← c.self.view_is) at c.requires.room).of_session
 
 pub add_to-requires-clause-room : goal.add_to-requires-clause-room
-add_to-requires-clause-room c = (cdr_room_parts _ c.args.cdr _ _ (group_of c.args.cdr) (rw c.deref-seen.ensures at c.key-operator.ensures) (rw c.deref-seen.ensures at c.key-id.ensures) refl (rw (← c.self.view_is) at c.requires.room)).2
+add_to-requires-clause-room c = rw c.deref-seen.ensures ((cdr_room_parts _ c.args.cdr _ _ (group_of c.args.cdr) (rw c.deref-seen.ensures at c.key-operator.ensures) (rw c.deref-seen.ensures at c.key-id.ensures) refl (rw (← c.self.view_is) at c.requires.room)).2)
 
 pub add_to-requires-clause-bound : goal.add_to-requires-clause-bound
 add_to-requires-clause-bound c = sum_bound _ _ _ _ c.self.invariant _ c.room_count-most.result c.room_count-most.ensures.most c.room_count-most.ensures.small

@@ -10,7 +10,7 @@ use Rattle.handover.proofs.cdr_book.CdrBook.remove.Goals as goal
 
 pub add_to-requires-clause-room : goal.add_to-requires-clause-room
 add_to-requires-clause-room c =
-    account_room _ _ _ _ c.self.invariant (c.args.operator, c.args.id) c.in-Some.cdr (sym c.remove.ensures.value ∙ c.in-Some.is)
+    rw c.deref-seen.ensures (account_room _ _ _ _ c.self.invariant (c.args.operator, c.args.id) c.in-Some.cdr (sym c.remove.ensures.value ∙ c.in-Some.is))
 
 pub add_to-requires-clause-bound : goal.add_to-requires-clause-bound
 add_to-requires-clause-bound c = sum_bound _ _ _ _ c.self.invariant _ c.room_count-most.result c.room_count-most.ensures.most c.room_count-most.ensures.small
