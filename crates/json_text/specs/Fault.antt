@@ -1,6 +1,7 @@
 -- What a reader answers, memory aside.
-use Rattle.std.specs.Prelude.{ℕ, ◌≡◌, List, ◌++◌, codes, Result, Ok, Err}
+use Rattle.std.specs.Prelude.{ℕ, ◌≡◌, List, ◌++◌, Option, None, Some, codes, decimal, Result, Ok, Err}
 use Rattle.ocpi_types.specs.Fields.{name_of}
+use Rattle.ocpi_types.specs.declared.field.Field.{Field}
 use Rattle.json_text.specs.declared.fault.JsonFault.{JsonFault}
 use Rattle.json_text.specs.declared.fault.JsonFault.TheVariants.{Syntax, BadNumberToken, TaggedText, Missing, WrongForm, UnknownWord, UnknownKind, Memory}
 
@@ -38,13 +39,43 @@ abbrev pub IsBy : {X Y : Type 0} → (X → Y) → Read X → Read Y → Type 0
 IsBy view (Ok x) read = read ≡ Ok (view x)
 IsBy view (Err e) read = read ≡ Err e
 
+-- the number of a refusal
+abbrev pub fault_number : JsonFault → ℕ
+fault_number Syntax = 1
+fault_number BadNumberToken = 2
+fault_number TaggedText = 3
+fault_number (Missing f) = 4
+fault_number (WrongForm f) = 5
+fault_number (UnknownWord f) = 6
+fault_number UnknownKind = 7
+fault_number Memory = 8
+
+-- its name
+abbrev pub fault_name : JsonFault → List ℕ
+fault_name Syntax = codes "Syntax"
+fault_name BadNumberToken = codes "BadNumberToken"
+fault_name TaggedText = codes "TaggedText"
+fault_name (Missing f) = codes "Missing"
+fault_name (WrongForm f) = codes "WrongForm"
+fault_name (UnknownWord f) = codes "UnknownWord"
+fault_name UnknownKind = codes "UnknownKind"
+fault_name Memory = codes "Memory"
+
+-- the member that is at fault, where one is
+abbrev pub fault_field : JsonFault → Option Field
+fault_field Syntax = None
+fault_field BadNumberToken = None
+fault_field TaggedText = None
+fault_field (Missing f) = Some f
+fault_field (WrongForm f) = Some f
+fault_field (UnknownWord f) = Some f
+fault_field UnknownKind = None
+fault_field Memory = None
+
 -- how a refusal is told: its number and name, and the name of the member in brackets
+abbrev pub told : ℕ → List ℕ → Option Field → List ℕ
+told number name None = decimal number ++ (codes " " ++ name)
+told number name (Some f) = decimal number ++ (codes " " ++ (name ++ (codes "(" ++ (name_of f ++ codes ")"))))
+
 abbrev pub fault_text : JsonFault → List ℕ
-fault_text Syntax = codes "1 Syntax"
-fault_text BadNumberToken = codes "2 BadNumberToken"
-fault_text TaggedText = codes "3 TaggedText"
-fault_text (Missing f) = codes "4 Missing(" ++ name_of f ++ codes ")"
-fault_text (WrongForm f) = codes "5 WrongForm(" ++ name_of f ++ codes ")"
-fault_text (UnknownWord f) = codes "6 UnknownWord(" ++ name_of f ++ codes ")"
-fault_text UnknownKind = codes "7 UnknownKind"
-fault_text Memory = codes "8 Memory"
+fault_text fault = told (fault_number fault) (fault_name fault) (fault_field fault)

@@ -1,6 +1,7 @@
 //! Why an event was refused.
 
 ghost use Rattle.std.specs.Prelude.{◌≡◌, Some};
+ghost use Rattle.node_steps.specs.FaultText.{fault_name, fault_number};
 
 use std::alloc::{AllocError, AllocFailed};
 use std::error::Error;
@@ -24,20 +25,43 @@ pub enum NodeFault {
     Memory,
 }
 
+impl NodeFault {
+    /// The number under which it is told.
+    pub fn number(self) -> u64
+        ensures { result ≡ fault_number self }
+    {
+        match self {
+            NodeFault::NotForMe => 1,
+            NodeFault::NumbersUsedUp => 2,
+            NodeFault::StampEnd => 3,
+            NodeFault::Memory => 4,
+            NodeFault::UnknownOperator => 5,
+            NodeFault::UnknownToken => 6,
+        }
+    }
+
+    /// Its name.
+    pub fn name(self) -> &'static str
+        ensures { result.now ≡ fault_name self }
+    {
+        match self {
+            NodeFault::NotForMe => "NotForMe",
+            NodeFault::NumbersUsedUp => "NumbersUsedUp",
+            NodeFault::StampEnd => "StampEnd",
+            NodeFault::Memory => "Memory",
+            NodeFault::UnknownOperator => "UnknownOperator",
+            NodeFault::UnknownToken => "UnknownToken",
+        }
+    }
+}
+
 impl fmt::Display for NodeFault {
     ghost use Rattle.node_steps.specs.FaultText.{fault_text};
 
     ghost output = { λ f. Some (fault_text f) };
 
     fn fmt<W: fmt::Write>(&self, f: &mut fmt::Formatter<W>) -> fmt::Result {
-        match self {
-            NodeFault::NotForMe => f.write_str("1 NotForMe"),
-            NodeFault::UnknownOperator => f.write_str("5 UnknownOperator"),
-            NodeFault::UnknownToken => f.write_str("6 UnknownToken"),
-            NodeFault::StampEnd => f.write_str("3 StampEnd"),
-            NodeFault::NumbersUsedUp => f.write_str("2 NumbersUsedUp"),
-            NodeFault::Memory => f.write_str("4 Memory"),
-        }
+        write!(f, "{} {}", self.number(), self.name())
     }
 }
 
