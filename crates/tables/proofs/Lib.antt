@@ -10,3 +10,4 @@ pub mod Ties
 pub mod DueFront
 pub mod Nothing
 pub mod Rooms
+pub mod Places

@@ -4,9 +4,9 @@ use Rattle.std.specs.Prelude.{Option, Some, None, Contains}
 use Rattle.std.specs.Cmp.{nat_cmp_total}
 use Rattle.std.specs.FinMap.{get, insert, remove, nat_cmp-IsAntisymmetric}
 use Rattle.tables.specs.Keys.{text_number_total, text_number_exact}
-use Rattle.std.proofs.lemmas.List.Elements.{Contains-append_right}
 use Rattle.tables.proofs.Maps.{of_insert, of_remove}
 use Rattle.tables.proofs.Options.{not_both}
+use Rattle.tables.proofs.Elements.{in_later}
 use Rattle.ocpi_text.specs.Text.{key}
 use Rattle.ocpi_text.specs.Whole.{max_whole}
 use Rattle.ocpi_types.specs.Commands as commands
@@ -36,7 +36,7 @@ use Rattle.provider_steps.specs.declared.pushing.Pushing.{Pushing}
 use Rattle.provider_steps.specs.Acts.{billed, held, kept, referenced, replaced, stored, token_acts, with_answer, with_result}
 use Rattle.provider_steps.specs.Events.{Arrives, Asks, Done, Event, Gives, Happens, Input, Refused, Restarted, Restarts, Submits, Ticks}
 use Rattle.provider_steps.specs.Moves.{Out, counters_of, step_of_acts}
-use Rattle.provider_steps.specs.Orders.{Makes, OrderLine, next_reference, next_request}
+use Rattle.provider_steps.specs.Orders.{Makes, next_reference, next_request}
 use Rattle.provider_steps.specs.Orders as orders
 use Rattle.provider_steps.specs.Packets.{Answers, PacketLine}
 use Rattle.provider_steps.specs.Packets as lines
@@ -45,9 +45,6 @@ use Rattle.provider_laws.specs.Held.{cdr_put, cdrs_put}
 use Rattle.provider_laws.specs.References.{Carrier, InCommand, InReply, Carries, given_in}
 use Rattle.provider_laws.proofs.events.Parts.{Does, Kept, SameReplies, SameCommands, Made, Responded, Resulted, SameSessions, SessionTaken, SameCdrs, CdrTaken, SameReferences, Given, CdrsMove}
 use Rattle.provider_laws.proofs.events.Through.{ArePlain, acted_through, one_act, plain_append, through, through_append}
-
-in_later : {X : Type 0} (x : X) (xs : List X) (y : X) → Contains xs y → Contains (x ∷ xs) y
-in_later x xs y h = Contains-append_right (x ∷ []) xs y h
 
 -- rows of which all parts but tokens, pushes and counters are those of others
 pub record Untouched (r t : Rows) : Type 0 where
