@@ -1,5 +1,5 @@
 -- What a reader answers, memory aside.
-use Rattle.std.specs.Prelude.{ℕ, ◌≡◌, List, ◌++◌, Option, None, Some, codes, decimal, Result, Ok, Err}
+use Rattle.std.specs.Prelude.{ℕ, ◌≡◌, List, ◌++◌, Option, None, Some, codes, Result, Ok, Err}
 use Rattle.ocpi_types.specs.Fields.{name_of}
 use Rattle.ocpi_types.specs.declared.field.Field.{Field}
 use Rattle.json_text.specs.declared.fault.JsonFault.{JsonFault}
@@ -73,9 +73,12 @@ fault_field UnknownKind = None
 fault_field Memory = None
 
 -- how a refusal is told: its number and name, and the name of the member in brackets
-abbrev pub told : ℕ → List ℕ → Option Field → List ℕ
-told number name None = decimal number ++ (codes " " ++ name)
-told number name (Some f) = decimal number ++ (codes " " ++ (name ++ (codes "(" ++ (name_of f ++ codes ")"))))
-
 abbrev pub fault_text : JsonFault → List ℕ
-fault_text fault = told (fault_number fault) (fault_name fault) (fault_field fault)
+fault_text Syntax = codes "1 Syntax"
+fault_text BadNumberToken = codes "2 BadNumberToken"
+fault_text TaggedText = codes "3 TaggedText"
+fault_text (Missing f) = codes "4 Missing(" ++ name_of f ++ codes ")"
+fault_text (WrongForm f) = codes "5 WrongForm(" ++ name_of f ++ codes ")"
+fault_text (UnknownWord f) = codes "6 UnknownWord(" ++ name_of f ++ codes ")"
+fault_text UnknownKind = codes "7 UnknownKind"
+fault_text Memory = codes "8 Memory"

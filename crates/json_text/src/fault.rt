@@ -87,9 +87,15 @@ impl fmt::Display for JsonFault {
     ghost output = { λ e. Some (fault_text e) };
 
     fn fmt<W: fmt::Write>(&self, f: &mut fmt::Formatter<W>) -> fmt::Result {
-        match self.field() {
-            None => write!(f, "{} {}", self.number(), self.name()),
-            Some(field) => write!(f, "{} {}({})", self.number(), self.name(), field.name()),
+        match self {
+            JsonFault::Syntax => write!(f, "1 Syntax"),
+            JsonFault::BadNumberToken => write!(f, "2 BadNumberToken"),
+            JsonFault::TaggedText => write!(f, "3 TaggedText"),
+            JsonFault::Missing(field) => write!(f, "4 Missing({})", field.name()),
+            JsonFault::WrongForm(field) => write!(f, "5 WrongForm({})", field.name()),
+            JsonFault::UnknownWord(field) => write!(f, "6 UnknownWord({})", field.name()),
+            JsonFault::UnknownKind => write!(f, "7 UnknownKind"),
+            JsonFault::Memory => write!(f, "8 Memory"),
         }
     }
 }

@@ -1,5 +1,5 @@
 -- How a refusal is told: its number and its name.
-use Rattle.std.specs.Prelude.{ℕ, List, ◌++◌, codes, decimal}
+use Rattle.std.specs.Prelude.{ℕ, List, codes}
 use Rattle.node_steps.specs.declared.fault.NodeFault.{NodeFault}
 use Rattle.node_steps.specs.declared.fault.NodeFault.TheVariants.{NotForMe, UnknownOperator, UnknownToken, StampEnd, NumbersUsedUp, Memory}
 
@@ -20,4 +20,9 @@ fault_name UnknownOperator = codes "UnknownOperator"
 fault_name UnknownToken = codes "UnknownToken"
 
 abbrev pub fault_text : NodeFault → List ℕ
-fault_text fault = decimal (fault_number fault) ++ (codes " " ++ fault_name fault)
+fault_text NotForMe = codes "1 NotForMe"
+fault_text UnknownOperator = codes "5 UnknownOperator"
+fault_text UnknownToken = codes "6 UnknownToken"
+fault_text StampEnd = codes "3 StampEnd"
+fault_text NumbersUsedUp = codes "2 NumbersUsedUp"
+fault_text Memory = codes "4 Memory"

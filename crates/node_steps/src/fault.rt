@@ -61,7 +61,14 @@ impl fmt::Display for NodeFault {
     ghost output = { λ f. Some (fault_text f) };
 
     fn fmt<W: fmt::Write>(&self, f: &mut fmt::Formatter<W>) -> fmt::Result {
-        write!(f, "{} {}", self.number(), self.name())
+        match self {
+            NodeFault::NotForMe => f.write_str("1 NotForMe"),
+            NodeFault::UnknownOperator => f.write_str("5 UnknownOperator"),
+            NodeFault::UnknownToken => f.write_str("6 UnknownToken"),
+            NodeFault::StampEnd => f.write_str("3 StampEnd"),
+            NodeFault::NumbersUsedUp => f.write_str("2 NumbersUsedUp"),
+            NodeFault::Memory => f.write_str("4 Memory"),
+        }
     }
 }
 
