@@ -9,7 +9,7 @@ use Rattle.tables.proofs.Options.{not_both}
 use Rattle.tables.proofs.Elements.{in_later}
 use Rattle.ocpi_text.specs.Text.{key}
 use Rattle.ocpi_text.specs.Whole.{max_whole}
-use Rattle.ocpi_types.specs.Commands as commands
+use Rattle.ocpi_types.specs.Commands.{reference_of as reference_in}
 use Rattle.ocpi_types.specs.declared.events.Order.{Order}
 use Rattle.ocpi_types.specs.declared.packet.Packet.{Packet}
 use Rattle.ocpi_types.specs.declared.rows.Change.{Change}
@@ -128,7 +128,7 @@ module _ (s : State) (at : ℕ) (q : Packet) (to : List ℕ) (new : get s.rows.r
       r.outbox.commands ≡ insert s.rows.outbox.commands m d → Carries r (InCommand n) x → Carries s.rows (InCommand n) x
   same_carried m c d stands same n x r is (e, has, named) =
       elim (of_insert nat_cmp_total nat_cmp-IsAntisymmetric s.rows.outbox.commands m d n e (sym (ap (λ z. get z n) is) ∙ has)) [
-        | inl (at_m, equal) ↦ (c, ap (get s.rows.outbox.commands) at_m ∙ stands, ap commands.reference_of (sym same) ∙ ap (λ (z : SentCommand). commands.reference_of z.command) equal ∙ named)
+        | inl (at_m, equal) ↦ (c, ap (get s.rows.outbox.commands) at_m ∙ stands, ap reference_in (sym same) ∙ ap (λ (z : SentCommand). reference_in z.command) equal ∙ named)
         | inr old ↦ (e, old, named)
       ]
 
@@ -323,7 +323,7 @@ module _ (s : State) (at : ℕ) (operator to : List ℕ) where
   DoesOrder o acts = Does s (Submits at operator o) (all_changes acts) (through acts s.rows)
 
   -- the command that is made carries no reference
-  old_carried : {o : Order} {c : Command} {b : List Act} → Makes s o c b → next_request s ≤ max_whole → commands.reference_of c ≡ None → DoesOrder o (sends_it c ∷ [])
+  old_carried : {o : Order} {c : Command} {b : List Act} → Makes s o c b → next_request s ≤ max_whole → reference_in c ≡ None → DoesOrder o (sends_it c ∷ [])
   old_carried {o = o} {c = c} {b = b} makes most none = record {
     replies = SameReplies refl;
     commands = Made at operator o refl to c b makes refl (omega arith) most;
@@ -337,12 +337,12 @@ module _ (s : State) (at : ℕ) (operator to : List ℕ) where
       by : (a : Carrier) (x : List ℕ) → Carries (through (sends_it c ∷ []) s.rows) a x → Carries s.rows a x
       by (InReply p n) x h = h
       by (InCommand n) x (d, has, named) = elim (of_insert nat_cmp_total nat_cmp-IsAntisymmetric s.rows.outbox.commands (next_request s) (unanswered to c) n d has) [
-        | inl (same, equal) ↦ not_both x (commands.reference_of c) none (ap (λ (z : SentCommand). commands.reference_of z.command) equal ∙ named)
+        | inl (same, equal) ↦ not_both x (reference_in c) none (ap (λ (z : SentCommand). reference_in z.command) equal ∙ named)
         | inr old ↦ (d, old, named)
       ]
 
   -- it carries the next
-  new_carried : {o : Order} {c : Command} {b : List Act} → Makes s o c b → next_request s ≤ max_whole → commands.reference_of c ≡ Some (reference_of s.party (next_reference s)).text → next_reference s ≤ max_whole →
+  new_carried : {o : Order} {c : Command} {b : List Act} → Makes s o c b → next_request s ≤ max_whole → reference_in c ≡ Some (reference_of s.party (next_reference s)).text → next_reference s ≤ max_whole →
       DoesOrder o (referenced (next_reference s) ∷ sends_it c ∷ [])
   new_carried {o = o} {c = c} {b = b} makes most is small = record {
     replies = SameReplies refl;
@@ -358,7 +358,7 @@ module _ (s : State) (at : ℕ) (operator to : List ℕ) where
           Carries s.rows a x ⊎ ((a ≡ InCommand (next_request s)) × (x ≡ (reference_of s.party (next_reference s)).text))
       by (InReply p n) x h = inl h
       by (InCommand n) x (d, has, named) = elim (of_insert nat_cmp_total nat_cmp-IsAntisymmetric s.rows.outbox.commands (next_request s) (unanswered to c) n d has) [
-        | inl (same, equal) ↦ inr (ap InCommand same, (let both : Some x ≡ Some (reference_of s.party (next_reference s)).text = sym named ∙ sym (ap (λ (z : SentCommand). commands.reference_of z.command) equal) ∙ is in cc))
+        | inl (same, equal) ↦ inr (ap InCommand same, (let both : Some x ≡ Some (reference_of s.party (next_reference s)).text = sym named ∙ sym (ap (λ (z : SentCommand). reference_in z.command) equal) ∙ is in cc))
         | inr old ↦ inl (d, old, named)
       ]
 
@@ -429,7 +429,7 @@ line_does s at q to acts (lines.Responded r carries c awaited is) range =
     by : (a : Carrier) (x : List ℕ) → Carries (through (kept q.request (with_answer r c) ∷ []) s.rows) a x → Carries s.rows a x
     by (InReply p n) x h = h
     by (InCommand n) x (d, has, named) = elim (of_insert nat_cmp_total nat_cmp-IsAntisymmetric s.rows.outbox.commands q.request (with_answer r c) n d has) [
-      | inl (same, equal) ↦ (c, ap (get s.rows.outbox.commands) same ∙ awaited.stands, ap (λ (z : SentCommand). commands.reference_of z.command) equal ∙ named)
+      | inl (same, equal) ↦ (c, ap (get s.rows.outbox.commands) same ∙ awaited.stands, ap (λ (z : SentCommand). reference_in z.command) equal ∙ named)
       | inr old ↦ (d, old, named)
     ]
 line_does s at q to acts (lines.LateResponse r carries none is) range = subst (DoesAll s (Arrives at q)) (sym is) (untouched_does s (Arrives at q) [] s.rows refl (same_rows s.rows))
