@@ -112,6 +112,7 @@ impl Books {
         self.reserve_all(plan.changes.as_slice())?;
         reserve_times(&mut self.outbox, plan.volatile.as_slice())
     }
+
     /// Takes the memory that changes of what is awaited need. An error is want of memory, for changes of which one has
     /// no room.
     fn reserve_waits(&mut self, waits: &[Waiting]) -> Result<(), AllocError>

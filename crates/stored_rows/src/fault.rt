@@ -5,6 +5,7 @@ ghost use Rattle.std.specs.Prelude.{◌≡◌, Some};
 use ocpi_text::E4;
 use ocpi_types::RowKey;
 use std::alloc::{AllocError, AllocFailed};
+use std::error::Error;
 use std::fmt;
 
 /// What is wrong with a row of a list of which no node can be made.
@@ -78,8 +79,17 @@ pub struct BadRow {
     pub reason: BadReason,
 }
 
+/// It shows the reason alone: a key is written as a row's text has it, by the crate that writes rows.
+impl fmt::Debug for BadRow {
+    fn fmt<W: fmt::Write>(&self, f: &mut fmt::Formatter<W>) -> fmt::Result {
+        f.debug_struct("BadRow")
+            .field("reason", &self.reason)
+            .finish_non_exhaustive()
+    }
+}
+
 /// Why no node is made of rows that were stored.
-#[derive(Clone, Copy)]
+#[derive(Clone, Copy, Debug)]
 pub enum RowsFault {
     /// No node of that party, with those peers, has just these rows. This row shows it.
     BadRows(BadRow),
@@ -99,6 +109,8 @@ impl fmt::Display for RowsFault {
         }
     }
 }
+
+impl Error for RowsFault {}
 
 impl From<AllocError> for RowsFault {
     ghost use Rattle.stored_rows.specs.declared.fault.RowsFault.TheVariants.{Memory};
