@@ -5,8 +5,6 @@
 //! - The program ends with that status. By `report`, `report_node`; `report_weave`: `ran`, `given`, `stopped`.
 //! - Where a store could not be closed and nothing else had stopped the run, that did. Where something had, it is
 //!   handed on to be told besides. By `and_closed`, `and_node_closed`: `refused`; `besides`, `once`, `nothing`.
-//! - The status is 2 where the command line is wrong, whether or not that could be printed. After help or version it is
-//!   0 where it was printed, and else 1. By `status_after`: `wrong`, `printed`, `unprinted`.
 //! - Without `--strict` explanations change no status, and with it none but 0. By `status_with`: `lax`, `other`.
 //!
 //! # How it is built
@@ -18,16 +16,14 @@
 ghost use Rattle.std.specs.Prelude.{◌≡◌, ◌≢◌};
 ghost use Rattle.clap.specs.Values.{kind_of};
 
-mod command;
 mod endings;
-mod help;
 mod refusal;
 mod watching;
 mod weaving;
 
 use clap::Error;
 use clap::error::ErrorKind;
-use command::{NodeWords, PlayWords, WRONG_WORDS, Word, status_after, take_words};
+use command_line::{NodeWords, PlayWords, WRONG_WORDS, Word, status_after, take_words};
 use endings::{Told, and_closed, and_node_closed, let_go, report, report_node};
 use explanations::{Program, Telling, WatchedReader, WatchedWriter};
 use line_runs::{LineReader, Ran, RunFault};
@@ -405,8 +401,6 @@ fn settle_found<W: Write, C: Drop>(
 
 /// Writes what is owed by rows.
 fn settle_rows<W: Write>(rt: &HostRuntime, writer: &mut W, rows: &[Row]) -> Result<Ran, PlayFault> {
-    match run_settle(rt.alloc(), rows, writer) {
-        Ok(()) => Ok(Ran::Whole),
-        Err(fault) => Err(PlayFault::Run(fault)),
-    }
+    run_settle(rt.alloc(), rows, writer)?;
+    Ok(Ran::Whole)
 }
