@@ -94,15 +94,12 @@ fn weave_to<'a, W: Write>(
     writer: &mut W,
 ) -> Result<Ran, WeaveStop<'a>> {
     let mut words = String::new(rt.alloc());
-    match run_weave(rt.alloc(), files, given, writer, &mut words) {
-        Ok(ran) => {
-            if !words.is_empty() {
-                let _ = eprintln!(rt; "{}", words.as_str());
-            }
-            Ok(ran)
-        }
-        Err(fault) => Err(WeaveStop::from(fault)),
+    let ran = run_weave(rt.alloc(), files, given, writer, &mut words);
+    if ran.is_ok() && !words.is_empty() {
+        let _ = eprintln!(rt; "{}", words.as_str());
     }
+    drop(words);
+    Ok(ran?)
 }
 
 /// Says that memory ran out before anything was made of the files. It takes no memory.
