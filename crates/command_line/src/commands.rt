@@ -109,7 +109,7 @@ fn store<'a>(alloc: Global) -> Arg<'a> {
 /// The command with the word that goes with `store` alone.
 fn with_existing<'a>(alloc: Global, command: Command<'a>) -> Result<Command<'a>, Error> {
     match existing(alloc) {
-        Ok(existing) => with_arg(command, existing),
+        Ok(arg) => with_arg(command, arg),
         Err(error) => {
             drop(command);
             Err(error)
@@ -118,11 +118,11 @@ fn with_existing<'a>(alloc: Global, command: Command<'a>) -> Result<Command<'a>,
 }
 
 fn existing<'a>(alloc: Global) -> Result<Arg<'a>, Error> {
-    let existing = Arg::new(alloc, "existing")
+    let arg = Arg::new(alloc, "existing")
         .long("existing")
         .action(ArgAction::SetTrue)
         .help("Make no file: refuse where none stands, as at any start but a node's first");
-    Ok(existing.requires_arg("store")?)
+    Ok(arg.requires_arg("store")?)
 }
 
 fn echo<'a>(alloc: Global) -> Arg<'a> {
