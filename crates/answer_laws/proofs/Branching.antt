@@ -1,6 +1,5 @@
 -- What follows where something holds, and what where it does not.
-use Rattle.std.proofs.Common.{◌≡◌, inl, inr, sym, ◌∙◌}
-use Rattle.std.specs.Prelude.{◌⊎◌}
+use Rattle.std.proofs.Common.{◌≡◌, inl, inr, sym, ◌∙◌, ◌⊎◌}
 
 -- one follows where that holds, and the other where it does not
 abbrev pub Branch : {X : Type 0} → Type 0 → (X → Type 0) → (X → Type 0) → X → Type 0

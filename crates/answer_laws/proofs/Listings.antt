@@ -1,6 +1,6 @@
 -- What is listed once is found as one: by its key, or by its place in an order.
-use Rattle.std.proofs.Common.{◌≡◌, ◌<◌, ℕ, List, [], ◌∷◌, inl, inr, map, refl, sym, ap, subst, ◌∙◌, arith}
-use Rattle.std.specs.Prelude.{◌↔◌, Contains, Option, None, Some, slice_get}
+use Rattle.std.proofs.Common.{◌≡◌, ◌<◌, ℕ, List, [], ◌∷◌, inl, inr, map, refl, sym, ap, subst, ◌∙◌, arith, ◌↔◌}
+use Rattle.std.proofs.Common.{Contains, Option, None, Some, slice_get}
 use Rattle.std.specs.Cmp.{IsTotalOrder}
 use Rattle.std.specs.List.{AllPairs}
 use Rattle.std.specs.List.Sorted.{IsStrictlySortedBy}
@@ -11,12 +11,11 @@ use Rattle.std.specs.Option.{option_map}
 use Rattle.std.proofs.lemmas.List.Elements.{All-contains, Contains-append_cases, Contains-append_right}
 use Rattle.std.proofs.lemmas.Option.{slice_get-map}
 use Rattle.tables.proofs.Elements.{first_below, first_pairs, in_front, in_map, in_none, in_single, later_pairs, sorted_back}
-use Rattle.ocpi_text.specs.Text.{key}
-use Rattle.ocpi_types.specs.Apart.{DifferFrom}
-use Rattle.outbox.specs.Due.{AreExactly}
-use Rattle.outbox.specs.Pushes.{IsReplaced, OneEach, Pushes}
-use Rattle.outbox.specs.declared.push_book.Subject.{Subject}
-use Rattle.node_steps.specs.Peers.{IsPeer}
+use Rattle.ocpi_text.specs.{key}
+use Rattle.ocpi_types.specs.{DifferFrom}
+use Rattle.outbox.specs.{AreExactly, IsReplaced, OneEach, Subject}
+use Rattle.outbox.specs.Pushes.{Pushes}
+use Rattle.node_steps.specs.{IsPeer}
 use Rattle.site_book.proofs.Apart.{one_place, place}
 
 -- ---- by a key

@@ -1,46 +1,34 @@
 -- What begins a session at an operator is one thing: a start that is carried out, an answer, a deadline, or a token that
 -- is shown.
-use Rattle.std.proofs.Common.{◌≡◌, ℕ, true, false, List, inl, inr, refl, sym, ap, subst, ◌∙◌}
-use Rattle.std.specs.Prelude.{Option, None, Some, is_some}
+use Rattle.std.proofs.Common.{◌≡◌, ℕ, true, false, List, inl, inr, refl, sym, ap, subst, ◌∙◌, Option, None, Some}
+use Rattle.std.proofs.Common.{is_some}
 use Rattle.std.specs.FinMap.{get}
 use Rattle.std.specs.Ordering.{is_gt, ordering_reverse}
 use Rattle.std.specs.declared.cmp.Ordering.{Ordering}
 use Rattle.std.specs.declared.cmp.Ordering.TheVariants.{Less, Equal, Greater}
-use Rattle.tables.specs.Keys.{text_cmp, text_exact, text_total}
+use Rattle.tables.specs.{text_cmp, text_exact, text_total}
 use Rattle.tables.proofs.Options.{not_both}
-use Rattle.ocpi_text.specs.Text.{key}
-use Rattle.ocpi_types.specs.declared.authorizations.Authorization.{Authorization}
-use Rattle.ocpi_types.specs.declared.authorizations.Authorization.TheVariants as authorization
-use Rattle.ocpi_types.specs.declared.authorizations.AuthorizationInfo.{AuthorizationInfo}
-use Rattle.ocpi_types.specs.declared.commands.Command.TheVariants as command
-use Rattle.ocpi_types.specs.declared.site.Connector.{Connector}
-use Rattle.ocpi_types.specs.declared.site.Evse.{Evse}
-use Rattle.ocpi_types.specs.declared.site.Location.{Location}
-use Rattle.ocpi_types.specs.declared.stored.OpenCommand.{OpenCommand}
-use Rattle.ocpi_types.specs.declared.token.Token.{Token}
-use Rattle.ocpi_types.specs.declared.words.AuthMethod.{AuthMethod}
-use Rattle.ocpi_types.specs.declared.words.AuthMethod.TheVariants as how
-use Rattle.ocpi_types.specs.declared.words.TokenType.{TokenType}
-use Rattle.ocpi_types.specs.declared.words.WhitelistType.{WhitelistType}
-use Rattle.ocpi_types.specs.declared.words.WhitelistType.TheVariants.{Always, Allowed, AllowedOffline, Never}
-use Rattle.authorization_book.specs.declared.awaited.Awaited.{Awaited}
-use Rattle.site_book.specs.declared.claim.Claim.{Claim}
-use Rattle.site_book.specs.declared.claim.Claim.TheVariants.{Reserved}
+use Rattle.ocpi_text.specs.{key}
+use Rattle.ocpi_types.specs.{AllowedOffline, Always, AuthMethod, Authorization, AuthorizationInfo, Connector, Evse}
+use Rattle.ocpi_types.specs.{Location, Never, OpenCommand, Token, TokenType, WhitelistType}
+use Rattle.ocpi_types.specs.authorization
+use Rattle.ocpi_types.specs.command
+use Rattle.ocpi_types.specs.how
+use Rattle.ocpi_types.specs.declared.words.WhitelistType.TheVariants.{Allowed}
+use Rattle.authorization_book.specs.{Awaited}
+use Rattle.site_book.specs.{Claim, Reserved}
 use Rattle.token_desk.specs.Swipes as desk
 use Rattle.token_desk.specs.Tokens.{Tokens}
-use Rattle.token_desk.specs.declared.answers.Swipe.{Swipe}
-use Rattle.token_desk.specs.declared.answers.Swipe.TheVariants as told
-use Rattle.operator_rows.specs.State.{OneClaimEach, State}
+use Rattle.token_desk.specs.{Swipe}
+use Rattle.token_desk.specs.told
+use Rattle.operator_rows.specs.{OneClaimEach}
+use Rattle.operator_rows.specs.State.{State}
 use Rattle.session_tables.specs.Accepts.{Accepts}
-use Rattle.session_tables.specs.Answers.{BeginsByAnswer, BeginsThere, BeginsWithoutAnswer, Decided}
-use Rattle.session_tables.specs.Beginnings.{begins}
+use Rattle.session_tables.specs.{Beginning, BeginsByAnswer, BeginsThere, BeginsWithoutAnswer, Decided, EndsBy, HoldsFor}
+use Rattle.session_tables.specs.{IsConnectorAt, IsOpenTo, MayTake, MayTakeAt, Nothing, Shown, SwipeLine, begins, id_of}
+use Rattle.session_tables.specs.{provider_of, told_by}
 use Rattle.session_tables.specs.Places as places
-use Rattle.session_tables.specs.Places.{EndsBy, HoldsFor, IsConnectorAt, MayTake, MayTakeAt}
 use Rattle.session_tables.specs.Swipes as swipes
-use Rattle.session_tables.specs.Swipes.{IsOpenTo, SwipeLine, id_of, provider_of, told_by}
-use Rattle.session_tables.specs.declared.beginning.Beginning.{Beginning}
-use Rattle.session_tables.specs.declared.shown.Shown.{Shown}
-use Rattle.session_tables.specs.declared.shown.Shown.TheVariants.{Nothing}
 use Rattle.answer_laws.specs.Nodes.{SiteDiffers}
 use Rattle.answer_laws.proofs.Branching.{AtMostOne, Branch, one_branch, one_is}
 use Rattle.answer_laws.proofs.OperatorPlaces.{one_connector}

@@ -1,39 +1,26 @@
 -- A command is decided in one way, unless it leaves an EVSE to be picked.
-use Rattle.std.proofs.Common.{◌≡◌, ℕ, List, inl, inr, sym, ap, subst, ◌∙◌}
-use Rattle.std.specs.Prelude.{◌⊎◌, None, Some, IsSome}
+use Rattle.std.proofs.Common.{◌≡◌, ℕ, List, inl, inr, sym, ap, subst, ◌∙◌, ◌⊎◌, None, Some, IsSome}
 use Rattle.std.specs.FinMap.{get}
-use Rattle.ocpi_text.specs.Text.{key}
-use Rattle.ocpi_types.specs.declared.commands.CancelReservation.{CancelReservation}
-use Rattle.ocpi_types.specs.declared.commands.Command.{Command}
-use Rattle.ocpi_types.specs.declared.commands.Command.TheVariants as command
-use Rattle.ocpi_types.specs.declared.commands.ReserveNow.{ReserveNow}
-use Rattle.ocpi_types.specs.declared.commands.StartSession.{StartSession}
-use Rattle.ocpi_types.specs.declared.commands.StopSession.{StopSession}
-use Rattle.ocpi_types.specs.declared.commands.UnlockConnector.{UnlockConnector}
-use Rattle.ocpi_types.specs.declared.sessions.Session.{Session}
-use Rattle.ocpi_types.specs.declared.site.Connector.{Connector}
-use Rattle.ocpi_types.specs.declared.site.Evse.{Evse}
-use Rattle.ocpi_types.specs.declared.site.Location.{Location}
-use Rattle.ocpi_types.specs.declared.stored.Reservation.{Reservation}
-use Rattle.ocpi_types.specs.declared.words.CommandResponseType.TheVariants as response
-use Rattle.ocpi_types.specs.declared.words.CommandResultType.TheVariants as result
-use Rattle.reservation_book.specs.Refusals.{IsHere, IsInTime}
-use Rattle.reservation_book.specs.declared.standing.Standing.{Standing}
-use Rattle.session_state.specs.Pasts.{IsFinal}
-use Rattle.site_book.specs.Sites.{IsEvseFor, IsLocation}
-use Rattle.site_book.specs.declared.claim.Claim.{Claim}
-use Rattle.site_book.specs.declared.claim.Claim.TheVariants.{Reserved}
+use Rattle.ocpi_text.specs.{key}
+use Rattle.ocpi_types.specs.{CancelReservation, Command, Connector, Evse, Location, Reservation, ReserveNow, Session}
+use Rattle.ocpi_types.specs.{StartSession, StopSession, UnlockConnector}
+use Rattle.ocpi_types.specs.command
+use Rattle.ocpi_types.specs.response
+use Rattle.ocpi_types.specs.result
+use Rattle.reservation_book.specs.{IsHere, IsInTime, Standing}
+use Rattle.session_state.specs.{IsFinal}
+use Rattle.site_book.specs.{Claim, IsEvseFor, IsLocation, Reserved}
 use Rattle.tables.proofs.Options.{not_both}
-use Rattle.operator_rows.specs.State.{IsFree, OneClaimEach, State}
+use Rattle.operator_rows.specs.{IsFree, OneClaimEach}
+use Rattle.operator_rows.specs.State.{State}
 use Rattle.operator_tables.specs.Cancel as cancel
 use Rattle.operator_tables.specs.Decides.{Decides}
-use Rattle.operator_tables.specs.Places.{HasService, IsForeign, IsHeldFor, Works, place_of}
+use Rattle.operator_tables.specs.{Decision, HasService, IsForeign, IsHeldFor, Works, place_of}
 use Rattle.operator_tables.specs.Reserve as reserve
 use Rattle.operator_tables.specs.Start as start
 use Rattle.operator_tables.specs.Stop as stop
 use Rattle.operator_tables.specs.Unlock as unlock
-use Rattle.operator_tables.specs.declared.decision.Decision.{Decision}
-use Rattle.operator_tables.specs.declared.decision.Decision.TheVariants as decision
+use Rattle.operator_tables.specs.decision
 use Rattle.answer_laws.specs.Nodes.{SiteDiffers}
 use Rattle.answer_laws.specs.Picks.{DecisionsDifferByPicks, NamedEvsesLeaveOnePick, NamesEvse, TakesEvse}
 use Rattle.answer_laws.proofs.Branching.{Alike, AtMostOne, Branch, alike_branch, one_branch, one_is}

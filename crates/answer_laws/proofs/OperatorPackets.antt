@@ -1,34 +1,23 @@
 -- A packet comes to one thing at an operator, unless it leaves several EVSEs to be taken.
-use Rattle.std.proofs.Common.{◌≡◌, ◌++◌, ◌+◌, ℕ, List, [], ◌∷◌, inl, inr, refl, sym, ap, subst, ◌∙◌, arith}
-use Rattle.std.specs.Prelude.{◌⊎◌, Option, None, Some}
+use Rattle.std.proofs.Common.{◌≡◌, ◌++◌, ◌+◌, ℕ, List, [], ◌∷◌, inl, inr, refl, sym, ap, subst, ◌∙◌, arith, ◌⊎◌, Option}
+use Rattle.std.proofs.Common.{None, Some}
 use Rattle.std.specs.FinMap.{get}
 use Rattle.tables.proofs.Options.{not_both}
-use Rattle.ocpi_text.specs.Text.{key}
-use Rattle.ocpi_types.specs.declared.authorizations.Authorization.{Authorization}
-use Rattle.ocpi_types.specs.declared.commands.Command.{Command}
-use Rattle.ocpi_types.specs.declared.packet.Body.{Body}
-use Rattle.ocpi_types.specs.declared.packet.Body.TheVariants as body
-use Rattle.ocpi_types.specs.declared.packet.Packet.{Packet}
-use Rattle.ocpi_types.specs.declared.rows.Change.TheVariants.{Put}
-use Rattle.ocpi_types.specs.declared.rows.Row.TheVariants as row
-use Rattle.ocpi_types.specs.declared.stored.Reply.{Reply}
-use Rattle.ocpi_types.specs.declared.token.Token.{Token}
-use Rattle.authorization_book.specs.declared.awaited.Awaited.{Awaited}
-use Rattle.authorization_book.specs.declared.waiting.Waiting.TheVariants.{Ends}
-use Rattle.token_desk.specs.Putting.{IsNewer, IsNotNewer}
-use Rattle.node_steps.specs.Acts.{Act, acknowledged, answered, changed, repeated}
-use Rattle.operator_rows.specs.Sound.{IsConsistent}
+use Rattle.ocpi_text.specs.{key}
+use Rattle.ocpi_types.specs.{Authorization, Body, Command, Packet, Put, Reply, Token}
+use Rattle.ocpi_types.specs.body
+use Rattle.ocpi_types.specs.row
+use Rattle.authorization_book.specs.{Awaited, Ends}
+use Rattle.token_desk.specs.{IsNewer, IsNotNewer}
+use Rattle.node_steps.specs.{Act, acknowledged, answered, changed, repeated}
+use Rattle.operator_rows.specs.{IsConsistent}
 use Rattle.operator_rows.specs.State.{State}
 use Rattle.operator_tables.specs.Decides.{Decides}
-use Rattle.operator_tables.specs.declared.decision.Decision.{Decision}
-use Rattle.operator_steps.specs.Acts.{decided_acts, spent}
-use Rattle.operator_steps.specs.Asking.{AnswerActs, IsAnswered, IsAwaited}
-use Rattle.operator_steps.specs.Moves.{Work, quiet}
-use Rattle.operator_steps.specs.Sessions.{numbered_sessions}
+use Rattle.operator_tables.specs.{Decision}
+use Rattle.operator_steps.specs.{Acknowledges, AnswerActs, Comes, IsAnswered, IsAwaited, IsRequestBody, PacketLine}
+use Rattle.operator_steps.specs.{TokenLine, Work, acknowledgement, decided_acts, numbered_sessions, quiet, spent}
 use Rattle.operator_steps.specs.Steps as packets
-use Rattle.operator_steps.specs.Steps.{Acknowledges, Comes, IsRequestBody, PacketLine, TokenLine, acknowledgement}
-use Rattle.session_tables.specs.Answers.{BeginsByAnswer, Decided}
-use Rattle.session_tables.specs.declared.beginning.Beginning.{Beginning}
+use Rattle.session_tables.specs.{Beginning, BeginsByAnswer, Decided}
 use Rattle.answer_laws.specs.Nodes.{SiteDiffers}
 use Rattle.answer_laws.specs.Picks.{HasOnePick}
 use Rattle.answer_laws.proofs.Branching.{AtMostOne, Branch, one_branch, one_is}

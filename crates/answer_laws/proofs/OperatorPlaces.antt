@@ -1,18 +1,14 @@
 -- A place of a site is found by its ids.
-use Rattle.std.proofs.Common.{◌≡◌, ℕ, true, false, List, [], ◌∷◌, sym, subst, ◌∙◌}
-use Rattle.std.specs.Prelude.{Option, None, Some, Contains, slice_get, IsSome}
-use Rattle.ocpi_text.specs.Text.{key}
-use Rattle.ocpi_types.specs.Apart.{AllDiffer}
-use Rattle.ocpi_types.specs.Locations.{site_evse_keys}
-use Rattle.ocpi_types.specs.declared.site.Connector.{Connector}
-use Rattle.ocpi_types.specs.declared.site.Evse.{Evse}
-use Rattle.ocpi_types.specs.declared.site.Location.{Location}
+use Rattle.std.proofs.Common.{◌≡◌, ℕ, true, false, List, [], ◌∷◌, sym, subst, ◌∙◌, Option, None, Some, Contains}
+use Rattle.std.proofs.Common.{slice_get, IsSome}
+use Rattle.ocpi_text.specs.{key}
+use Rattle.ocpi_types.specs.{AllDiffer, Connector, Evse, Location, site_evse_keys}
 use Rattle.site_book.proofs.Apart.{one_evse_each, place}
-use Rattle.site_book.specs.Sites.{IsChosen, IsEvseFor, IsEvseOf, IsLocation}
-use Rattle.node_steps.specs.Peers.{IsPeer}
+use Rattle.site_book.specs.{IsChosen, IsEvseFor, IsEvseOf, IsLocation}
+use Rattle.node_steps.specs.{IsPeer}
 use Rattle.operator_rows.specs.State.{State}
 use Rattle.session_tables.proofs.Finding.{same_connector}
-use Rattle.session_tables.specs.Places.{IsConnectorAt}
+use Rattle.session_tables.specs.{IsConnectorAt}
 use Rattle.answer_laws.specs.Nodes.{SiteDiffers}
 use Rattle.answer_laws.proofs.Listings.{one_of_key, one_peer}
 

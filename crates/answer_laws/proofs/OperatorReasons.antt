@@ -1,23 +1,15 @@
 -- An operator refuses an input for one reason.
-use Rattle.std.proofs.Common.{◌≡◌, ℕ, List, inl, inr, refl, sym, ◌∙◌}
-use Rattle.std.specs.Prelude.{◌≢◌}
-use Rattle.ocpi_types.specs.declared.events.ChargerEvent.{ChargerEvent}
-use Rattle.ocpi_types.specs.declared.packet.Packet.{Packet}
-use Rattle.node_steps.specs.declared.fault.NodeFault.{NodeFault}
-use Rattle.node_steps.specs.declared.fault.NodeFault.TheVariants.{NotForMe, UnknownOperator, UnknownToken, StampEnd, NumbersUsedUp, Memory}
-use Rattle.operator_rows.specs.Sound.{IsConsistent}
+use Rattle.std.proofs.Common.{◌≡◌, ℕ, List, inl, inr, refl, sym, ◌∙◌, ◌≢◌}
+use Rattle.ocpi_types.specs.{ChargerEvent, Packet}
+use Rattle.node_steps.specs.{Memory, NodeFault, NotForMe, NumbersUsedUp, StampEnd, UnknownOperator, UnknownToken}
+use Rattle.operator_rows.specs.{IsConsistent}
 use Rattle.operator_rows.specs.State.{State}
-use Rattle.operator_steps.specs.Credits.{HasNoCreditStamp}
-use Rattle.operator_steps.specs.Events.{Arrives, Credits, Input, Reports, Restarts, Serves, Ticks}
-use Rattle.operator_steps.specs.Faults.{IsCreditFault, IsDue, IsOwnFault, IsReportFault}
-use Rattle.operator_steps.specs.Moves.{Work}
-use Rattle.operator_steps.specs.Sessions.{HasNoStamp}
+use Rattle.operator_steps.specs.{Arrives, Comes, HasNoCreditStamp, HasNoStamp, Input, IsCreditFault, IsDue, IsForMe}
+use Rattle.operator_steps.specs.{IsOwnFault, IsReportFault, IsTaken, PacketLine, Reports, Restarts, Serves, TickLine}
+use Rattle.operator_steps.specs.{Ticks, Work}
+use Rattle.operator_steps.specs.Events.{Credits}
 use Rattle.operator_steps.specs.Steps as packets
-use Rattle.operator_steps.specs.Steps.{Comes, IsForMe, IsTaken, PacketLine}
-use Rattle.operator_steps.specs.Tick.{TickLine}
-use Rattle.world_steps.specs.Steps.{OperatorRefuses}
-use Rattle.world_steps.specs.Network.{OfOperator, OfProvider}
-use Rattle.world_steps.specs.World.{Operates, Provides}
+use Rattle.world_steps.specs.{OfOperator, OfProvider, Operates, OperatorRefuses, Provides}
 use Rattle.answer_laws.specs.Answers.{RefusalsHaveOneReason}
 use Rattle.answer_laws.specs.Nodes.{SiteDiffers}
 use Rattle.answer_laws.proofs.Branching.{Branch, one_branch, one_is}

@@ -1,37 +1,24 @@
 -- A report of a charge point comes to one thing at an operator.
-use Rattle.std.proofs.Common.{◌≡◌, ◌++◌, ◌+◌, ◌<◌, ℕ, List, [], ◌∷◌, inl, inr, refl, sym, ap, subst, ◌∙◌, arith}
-use Rattle.std.specs.Prelude.{None, Some}
+use Rattle.std.proofs.Common.{◌≡◌, ◌++◌, ◌+◌, ◌<◌, ℕ, List, [], ◌∷◌, inl, inr, refl, sym, ap, subst, ◌∙◌, arith, None}
+use Rattle.std.proofs.Common.{Some}
 use Rattle.std.specs.FinMap.{get}
-use Rattle.ocpi_text.specs.Moment.{last_moment}
-use Rattle.ocpi_text.specs.Text.{key}
-use Rattle.ocpi_types.specs.declared.commands.Command.{Command}
-use Rattle.ocpi_types.specs.declared.commands.Command.TheVariants as command
-use Rattle.ocpi_types.specs.declared.events.ChargerEvent.{ChargerEvent}
-use Rattle.ocpi_types.specs.declared.events.ChargerEvent.TheVariants as event
-use Rattle.ocpi_types.specs.declared.packet.Body.TheVariants as body
-use Rattle.ocpi_types.specs.declared.rows.Place.{Place}
-use Rattle.ocpi_types.specs.declared.sessions.Session.{Session}
-use Rattle.ocpi_types.specs.declared.stored.OpenCommand.{OpenCommand}
-use Rattle.ocpi_types.specs.declared.token.Token.{Token}
-use Rattle.ocpi_types.specs.declared.words.CommandResultType.{CommandResultType}
+use Rattle.ocpi_text.specs.{key, last_moment}
+use Rattle.ocpi_types.specs.{ChargerEvent, Command, CommandResultType, OpenCommand, Place, Session, Token}
+use Rattle.ocpi_types.specs.command
+use Rattle.ocpi_types.specs.event
+use Rattle.ocpi_types.specs.body
 use Rattle.authorization_book.specs.declared.waiting.Waiting.TheVariants as waiting
-use Rattle.site_book.specs.declared.claim.Claim.{Claim}
-use Rattle.site_book.specs.declared.claim.Claim.TheVariants.{Live, OpenStart}
-use Rattle.node_steps.specs.Acts.{Act, asked}
-use Rattle.operator_rows.specs.Sound.{IsConsistent}
+use Rattle.site_book.specs.{Claim, Live, OpenStart}
+use Rattle.node_steps.specs.{Act, asked}
+use Rattle.operator_rows.specs.{IsConsistent}
 use Rattle.operator_rows.specs.State.{State}
-use Rattle.operator_steps.specs.Asking.{IsAsked, answer_deadline, question}
+use Rattle.operator_steps.specs.{ChargerLine, Ending, EndsBy, HasNoStamp, IsAbout, IsAsked, IsBegun, IsEnded, IsMoved}
+use Rattle.operator_steps.specs.{IsOfSite, IsStarted, Shows, Work, answer_deadline, ends_acts, numbered_sessions}
+use Rattle.operator_steps.specs.{outcome, question, quiet}
 use Rattle.operator_steps.specs.Charger as charger
-use Rattle.operator_steps.specs.Charger.{ChargerLine, EndsBy, IsAbout, IsEnded, IsStarted, Shows, outcome}
-use Rattle.operator_steps.specs.Ends.{IsOfSite, ends_acts}
-use Rattle.operator_steps.specs.Moves.{Work, quiet}
-use Rattle.operator_steps.specs.Sessions.{HasNoStamp, IsBegun, IsMoved, numbered_sessions}
-use Rattle.operator_steps.specs.declared.ending.Ending.{Ending}
 use Rattle.session_tables.specs.Accepts.{Accepts}
-use Rattle.session_tables.specs.Moves.{IsSessionAt, Moves, charging_at}
-use Rattle.session_tables.specs.declared.beginning.Beginning.{Beginning}
-use Rattle.session_tables.specs.declared.shown.Shown.{Shown}
-use Rattle.session_tables.specs.declared.shown.Shown.TheVariants.{Asks, Begins, Nothing}
+use Rattle.session_tables.specs.{Asks, Beginning, Begins, IsSessionAt, Nothing, Shown, charging_at}
+use Rattle.session_tables.specs.Moves.{Moves}
 use Rattle.answer_laws.specs.Nodes.{SiteDiffers}
 use Rattle.answer_laws.proofs.Branching.{AtMostOne, Branch, one_branch, one_is}
 use Rattle.answer_laws.proofs.Listings.{one_of_key}

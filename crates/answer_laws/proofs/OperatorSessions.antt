@@ -1,31 +1,21 @@
 -- What an operator does where a session begins, goes on or ends is one thing.
-use Rattle.std.proofs.Common.{◌≡◌, ◌++◌, ◌+◌, ℕ, List, [], ◌∷◌, inl, inr, refl, sym, ap, subst, ◌∙◌}
-use Rattle.std.specs.Prelude.{Some}
+use Rattle.std.proofs.Common.{◌≡◌, ◌++◌, ◌+◌, ℕ, List, [], ◌∷◌, inl, inr, refl, sym, ap, subst, ◌∙◌, Some}
 use Rattle.std.specs.FinMap.{get}
-use Rattle.ocpi_text.specs.Text.{key}
-use Rattle.ocpi_types.specs.declared.events.ChargerEvent.{ChargerEvent}
-use Rattle.ocpi_types.specs.declared.rows.Change.TheVariants.{Put}
-use Rattle.ocpi_types.specs.declared.rows.Row.TheVariants as row
-use Rattle.ocpi_types.specs.declared.sessions.Session.{Session}
-use Rattle.ocpi_types.specs.declared.site.Connector.{Connector}
-use Rattle.ocpi_types.specs.declared.site.Evse.{Evse}
-use Rattle.ocpi_types.specs.declared.site.Location.{Location}
-use Rattle.ocpi_types.specs.declared.stored.Push.TheVariants as push
-use Rattle.ocpi_types.specs.declared.words.SessionStatus.TheVariants.{Completed}
-use Rattle.outbox.specs.Pushes.{subject}
-use Rattle.site_book.specs.declared.claim.Claim.{Claim}
-use Rattle.site_book.specs.declared.claim.Claim.TheVariants.{Live}
-use Rattle.node_steps.specs.Acts.{Act, changed, pushed}
-use Rattle.node_steps.specs.Peers.{IsPeer}
-use Rattle.operator_rows.specs.Sound.{IsConsistent}
+use Rattle.ocpi_text.specs.{key}
+use Rattle.ocpi_types.specs.{ChargerEvent, Completed, Connector, Evse, Location, Put, Session}
+use Rattle.ocpi_types.specs.row
+use Rattle.ocpi_types.specs.push
+use Rattle.outbox.specs.{subject}
+use Rattle.site_book.specs.{Claim, Live}
+use Rattle.node_steps.specs.{Act, IsPeer, changed, pushed}
+use Rattle.operator_rows.specs.{IsConsistent}
 use Rattle.operator_rows.specs.State.{State}
-use Rattle.operator_steps.specs.Acts.{used}
+use Rattle.operator_steps.specs.{IsBegun, IsBilled, IsMoved, IsVersioned, first_of, next_cdr, numbered_cdrs, used}
+use Rattle.operator_steps.specs.{versioned}
 use Rattle.operator_steps.specs.Sessions as sessions
-use Rattle.operator_steps.specs.Sessions.{IsBegun, IsBilled, IsMoved, IsVersioned, first_of, next_cdr, numbered_cdrs, versioned}
 use Rattle.session_tables.proofs.Following.{are_one}
-use Rattle.session_tables.specs.Moves.{IsSessionAt, Moves}
-use Rattle.session_tables.specs.Places.{IsConnectorAt}
-use Rattle.session_tables.specs.declared.beginning.Beginning.{Beginning}
+use Rattle.session_tables.specs.{Beginning, IsConnectorAt, IsSessionAt}
+use Rattle.session_tables.specs.Moves.{Moves}
 use Rattle.answer_laws.specs.Nodes.{SiteDiffers}
 use Rattle.answer_laws.proofs.Branching.{AtMostOne, Branch, one_branch, one_is}
 use Rattle.answer_laws.proofs.Listings.{one_replaced}

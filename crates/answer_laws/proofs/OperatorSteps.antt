@@ -1,24 +1,21 @@
 -- An operator has one step by an input that leaves it one EVSE at most to take.
 use Rattle.std.proofs.Common.{◌≡◌, ◌<◌, ◌+◌, ℕ, Bool, true, false, List, [], ◌∷◌, inl, inr, sym, ap, subst, ◌∙◌, arith}
-use Rattle.ocpi_text.specs.Moment.{last_moment}
-use Rattle.ocpi_types.specs.declared.cdrs.Cdr.{Cdr}
-use Rattle.ocpi_types.specs.declared.rows.Change.TheVariants.{Put, Drop}
-use Rattle.ocpi_types.specs.declared.rows.Row.TheVariants as row
-use Rattle.ocpi_types.specs.declared.rows.RowKey.TheVariants as keys
-use Rattle.ocpi_types.specs.declared.stored.Push.TheVariants as push
-use Rattle.site_book.specs.Sites.{IsEvse, works}
-use Rattle.node_steps.specs.Acts.{Act, changed, pushed}
-use Rattle.operator_rows.specs.Sound.{IsConsistent}
+use Rattle.ocpi_text.specs.{last_moment}
+use Rattle.ocpi_types.specs.{Cdr, Drop, Put}
+use Rattle.ocpi_types.specs.row
+use Rattle.ocpi_types.specs.keys
+use Rattle.ocpi_types.specs.push
+use Rattle.site_book.specs.{IsEvse, works}
+use Rattle.node_steps.specs.{Act, changed, pushed}
+use Rattle.operator_rows.specs.{IsConsistent}
 use Rattle.operator_rows.specs.State.{State}
 use Rattle.operator_steps.specs.Credits as credits
-use Rattle.operator_steps.specs.Credits.{CreditLine, CreditsTo, HasNoCreditStamp, next_credit}
-use Rattle.operator_steps.specs.Events.{Arrives, Asks, Credits, Event, Input, Reports, Restarts, Serves, Ticks, event_out}
-use Rattle.operator_steps.specs.Moves.{Quietly, Work, acted, quiet}
+use Rattle.operator_steps.specs.{Arrives, Asks, CreditLine, CreditsTo, Event, HasNoCreditStamp, Input, Quietly, Reports}
+use Rattle.operator_steps.specs.{Restarts, Serves, ServiceLine, Ticks, Work, acted, event_out, next_credit, quiet}
+use Rattle.operator_steps.specs.Events.{Credits}
 use Rattle.operator_steps.specs.Service as service
-use Rattle.operator_steps.specs.Service.{ServiceLine}
 use Rattle.world_steps.specs.Steps as steps
-use Rattle.world_steps.specs.Steps.{OperatorDoes}
-use Rattle.world_steps.specs.World.{Operates, Provides}
+use Rattle.world_steps.specs.{Operates, OperatorDoes, Provides}
 use Rattle.answer_laws.specs.Answers.{OperatorsHaveOneStep}
 use Rattle.answer_laws.specs.Nodes.{SiteDiffers}
 use Rattle.answer_laws.specs.Picks.{LeavesOnePick}

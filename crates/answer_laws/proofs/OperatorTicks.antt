@@ -1,33 +1,25 @@
 -- A moment comes to one thing at an operator.
-use Rattle.std.proofs.Common.{◌≡◌, ◌++◌, ◌+◌, ℕ, List, [], ◌∷◌, length, map, refl, sym, ap, subst, ◌∙◌}
-use Rattle.std.specs.Prelude.{None, Some, Contains}
+use Rattle.std.proofs.Common.{◌≡◌, ◌++◌, ◌+◌, ℕ, List, [], ◌∷◌, length, map, refl, sym, ap, subst, ◌∙◌, None, Some}
+use Rattle.std.proofs.Common.{Contains}
 use Rattle.std.specs.declared.cmp.Ordering.TheVariants.{Less}
 use Rattle.std.proofs.lemmas.List.Elements.{Contains-append_right}
-use Rattle.tables.specs.Keys.{text_number_cmp, text_number_total}
+use Rattle.tables.specs.{text_number_cmp, text_number_total}
 use Rattle.tables.proofs.Elements.{in_front, not_none}
-use Rattle.ocpi_text.specs.Text.{key}
+use Rattle.ocpi_text.specs.{key}
 use Rattle.authorization_book.specs.Waits as waits
-use Rattle.authorization_book.specs.declared.awaited.Awaited.{Awaited}
-use Rattle.authorization_book.specs.declared.waiting.Waiting.TheVariants.{Ends}
+use Rattle.authorization_book.specs.{Awaited, Ends}
 use Rattle.command_book.specs.Due as book
-use Rattle.reservation_book.specs.Calls.{HasExpired, expiry_at}
-use Rattle.reservation_book.specs.Places.{expiry_cmp}
-use Rattle.reservation_book.specs.declared.standing.Standing.{Standing}
+use Rattle.reservation_book.specs.{HasExpired, Standing, expiry_at, expiry_cmp}
 use Rattle.reservation_book.proofs.Orders.{expiry_total}
-use Rattle.node_steps.specs.Acts.{Act}
-use Rattle.operator_rows.specs.Sound.{IsConsistent}
+use Rattle.node_steps.specs.{Act}
+use Rattle.operator_rows.specs.{IsConsistent}
 use Rattle.operator_rows.specs.State.{State}
-use Rattle.operator_steps.specs.Moves.{Work}
-use Rattle.operator_steps.specs.Sessions.{IsBegun}
-use Rattle.operator_steps.specs.Tick.{IsTimeout, TickLine, request_of}
+use Rattle.operator_steps.specs.{AreLeftUnanswered, Ending, IsBegun, IsLeftUnanswered, IsStillDue, IsTickOf, IsTimeout}
+use Rattle.operator_steps.specs.{TickLine, Work, request_of, tick_acts}
 use Rattle.operator_steps.specs.TickFacts as left
-use Rattle.operator_steps.specs.TickFacts.{AreLeftUnanswered, IsLeftUnanswered, IsStillDue, IsTickOf, tick_acts}
-use Rattle.operator_steps.specs.declared.ending.Ending.{Ending}
 use Rattle.operator_laws.proofs.events.Facts.{stages_see}
-use Rattle.session_tables.specs.Answers.{BeginsWithoutAnswer, Decided}
-use Rattle.session_tables.specs.Places.{MayTakeAt}
-use Rattle.session_tables.specs.declared.beginning.Beginning.{Beginning}
-use Rattle.outbox.specs.Due.{AreExactly}
+use Rattle.session_tables.specs.{Beginning, BeginsWithoutAnswer, Decided, MayTakeAt}
+use Rattle.outbox.specs.{AreExactly}
 use Rattle.answer_laws.specs.Nodes.{SiteDiffers}
 use Rattle.answer_laws.proofs.Branching.{AtMostOne}
 use Rattle.answer_laws.proofs.Listings.{not_less_both, one_ascending, one_exactly, one_of_pairs}

@@ -1,31 +1,19 @@
 -- A packet comes to one thing at a provider.
-use Rattle.std.proofs.Common.{◌≡◌, ℕ, true, false, List, [], ◌∷◌, inl, inr, sym, ap, subst, ◌∙◌}
-use Rattle.std.specs.Prelude.{Option, Some, None}
+use Rattle.std.proofs.Common.{◌≡◌, ℕ, true, false, List, [], ◌∷◌, inl, inr, sym, ap, subst, ◌∙◌, Option, Some, None}
 use Rattle.std.specs.FinMap.{get}
-use Rattle.ocpi_text.specs.Text.{key}
-use Rattle.ocpi_types.specs.declared.authorizations.Authorize.{Authorize}
-use Rattle.ocpi_types.specs.declared.cdrs.Cdr.{Cdr}
-use Rattle.ocpi_types.specs.declared.packet.Body.{Body}
-use Rattle.ocpi_types.specs.declared.packet.Body.TheVariants as body
-use Rattle.ocpi_types.specs.declared.packet.Packet.{Packet}
-use Rattle.ocpi_types.specs.declared.replies.CommandResponse.{CommandResponse}
-use Rattle.ocpi_types.specs.declared.replies.CommandResult.{CommandResult}
-use Rattle.ocpi_types.specs.declared.sessions.Session.{Session}
-use Rattle.ocpi_types.specs.declared.stored.Reply.{Reply}
-use Rattle.ocpi_types.specs.declared.stored.SentCommand.{SentCommand}
-use Rattle.ocpi_types.specs.declared.token.Token.{Token}
-use Rattle.ocpi_types.specs.declared.words.CommandResultType.{CommandResultType}
-use Rattle.handover.specs.Cdrs.{cdr_key}
-use Rattle.handover.specs.Inbox.{IsInConflict, IsNews, session_key}
-use Rattle.token_desk.specs.Authorizing.{IsHeld}
-use Rattle.token_desk.specs.References.{reference_of}
-use Rattle.node_steps.specs.Acts.{Act, acknowledged, answered, repeated}
+use Rattle.ocpi_text.specs.{key}
+use Rattle.ocpi_types.specs.{Authorize, Body, Cdr, CommandResponse, CommandResult, CommandResultType, Packet, Reply}
+use Rattle.ocpi_types.specs.{SentCommand, Session, Token}
+use Rattle.ocpi_types.specs.body
+use Rattle.handover.specs.{IsInConflict, IsNews, cdr_key, session_key}
+use Rattle.token_desk.specs.{IsHeld, reference_of}
+use Rattle.node_steps.specs.{Act, acknowledged, answered, repeated}
 use Rattle.provider_rows.specs.State.{State}
-use Rattle.provider_rows.specs.Urls.{Fits}
-use Rattle.provider_steps.specs.Acts.{acknowledgement, allowed_reply, billed, blocked_reply, held, kept, referenced, unknown_reply, with_answer, with_result}
-use Rattle.provider_steps.specs.Orders.{next_reference}
+use Rattle.provider_rows.specs.{Fits}
+use Rattle.provider_steps.specs.{Acknowledges, Answers, Comes, FitsCommand, IsAwaited, IsRequest, IsRight, PacketLine}
+use Rattle.provider_steps.specs.{acknowledgement, allowed_reply, billed, blocked_reply, held, kept, next_reference}
+use Rattle.provider_steps.specs.{referenced, unknown_reply, with_answer, with_result}
 use Rattle.provider_steps.specs.Packets as packets
-use Rattle.provider_steps.specs.Packets.{Acknowledges, Answers, Comes, FitsCommand, IsAwaited, IsRequest, IsRight, PacketLine}
 use Rattle.tables.proofs.Options.{not_both}
 use Rattle.answer_laws.specs.Nodes.{UrlsDiffer}
 use Rattle.answer_laws.proofs.Branching.{AtMostOne, Branch, one_branch, one_is}

@@ -1,26 +1,17 @@
 -- A provider refuses an input for one reason.
-use Rattle.std.proofs.Common.{◌≡◌, ℕ, List, inl, inr, refl, sym, ◌∙◌, arith}
-use Rattle.std.specs.Prelude.{◌≢◌}
-use Rattle.ocpi_text.specs.Text.{key}
-use Rattle.ocpi_types.specs.declared.commands.Command.{Command}
-use Rattle.ocpi_types.specs.declared.events.Order.{Order}
-use Rattle.ocpi_types.specs.declared.packet.Packet.{Packet}
-use Rattle.ocpi_types.specs.declared.token.Token.{Token}
-use Rattle.token_desk.specs.Putting.{IsAtEnd}
+use Rattle.std.proofs.Common.{◌≡◌, ℕ, List, inl, inr, refl, sym, ◌∙◌, arith, ◌≢◌}
+use Rattle.ocpi_text.specs.{key}
+use Rattle.ocpi_types.specs.{Command, Order, Packet, Reply, Token}
+use Rattle.token_desk.specs.{IsAtEnd}
 use Rattle.tables.proofs.Options.{not_both}
-use Rattle.node_steps.specs.Acts.{Act}
-use Rattle.node_steps.specs.declared.fault.NodeFault.{NodeFault}
-use Rattle.node_steps.specs.declared.fault.NodeFault.TheVariants.{NotForMe, UnknownOperator, UnknownToken, StampEnd, NumbersUsedUp, Memory}
+use Rattle.node_steps.specs.{Act, Memory, NodeFault, NotForMe, NumbersUsedUp, StampEnd, UnknownOperator, UnknownToken}
 use Rattle.provider_rows.specs.State.{State}
-use Rattle.provider_steps.specs.Events.{Arrives, Gives, Input, Restarts, Submits, Ticks}
-use Rattle.provider_steps.specs.Faults.{IsOperator, IsOrderFault, IsPacketFault, IsTickFault, IsTokenFault}
+use Rattle.provider_steps.specs.{Answers, Arrives, Comes, Gives, Input, IsForMe, IsOperator, IsOrderFault}
+use Rattle.provider_steps.specs.{IsPacketFault, IsRequest, IsTaken, IsTickFault, IsTokenFault, LacksToken, Makes}
+use Rattle.provider_steps.specs.{OrderLine, PacketLine, Restarts, Submits, Ticks, TokenLine}
 use Rattle.provider_steps.specs.Orders as orders
-use Rattle.provider_steps.specs.Orders.{LacksToken, Makes, OrderLine}
 use Rattle.provider_steps.specs.Packets as packets
-use Rattle.provider_steps.specs.Packets.{Answers, Comes, IsForMe, IsRequest, IsTaken, PacketLine}
-use Rattle.provider_steps.specs.Tokens.{TokenLine}
-use Rattle.world_steps.specs.Steps.{ProviderRefuses}
-use Rattle.ocpi_types.specs.declared.stored.Reply.{Reply}
+use Rattle.world_steps.specs.{ProviderRefuses}
 use Rattle.answer_laws.proofs.Branching.{Branch, one_branch, one_is}
 
 -- what a provider does by an input it does not refuse for another reason than the numbers that it takes

@@ -1,34 +1,24 @@
 -- A provider has one step by an input.
-use Rattle.std.proofs.Common.{◌≡◌, ◌++◌, ℕ, List, [], ◌∷◌, map, refl, sym, ap, subst, ◌∙◌}
-use Rattle.std.specs.Prelude.{Option, Some, Contains}
+use Rattle.std.proofs.Common.{◌≡◌, ◌++◌, ℕ, List, [], ◌∷◌, map, refl, sym, ap, subst, ◌∙◌, Option, Some, Contains}
 use Rattle.std.proofs.lemmas.List.Elements.{Contains-append_right}
 use Rattle.tables.proofs.Elements.{in_front, not_none}
-use Rattle.ocpi_text.specs.Text.{key}
-use Rattle.ocpi_types.specs.declared.commands.Command.{Command}
-use Rattle.ocpi_types.specs.declared.commands.Command.TheVariants as command
-use Rattle.ocpi_types.specs.declared.events.Order.{Order}
-use Rattle.ocpi_types.specs.declared.events.Order.TheVariants as order
-use Rattle.ocpi_types.specs.declared.packet.Packet.{Packet}
-use Rattle.ocpi_types.specs.declared.stored.Push.TheVariants as push
-use Rattle.ocpi_types.specs.declared.token.Token.{Token}
-use Rattle.ocpi_types.specs.declared.words.TokenType.{TokenType}
-use Rattle.outbox.specs.Pushes.{IsReplaced, OneEach, Pushes, subject}
-use Rattle.token_desk.specs.References.{reference_of}
-use Rattle.node_steps.specs.Acts.{Act, commanded, in_turn}
-use Rattle.provider_rows.specs.Sound.{IsConsistent}
+use Rattle.ocpi_text.specs.{key}
+use Rattle.ocpi_types.specs.{Command, Order, Packet, Token, TokenType}
+use Rattle.ocpi_types.specs.command
+use Rattle.ocpi_types.specs.order
+use Rattle.ocpi_types.specs.push
+use Rattle.outbox.specs.{IsReplaced, OneEach, subject}
+use Rattle.outbox.specs.Pushes.{Pushes}
+use Rattle.token_desk.specs.{reference_of}
+use Rattle.node_steps.specs.{Act, commanded, in_turn}
+use Rattle.provider_rows.specs.{IsConsistent}
 use Rattle.provider_rows.specs.State.{State}
-use Rattle.provider_steps.specs.Acts.{own_url, referenced, stored, token_acts}
-use Rattle.provider_steps.specs.Events.{Arrives, Asks, Event, Gives, Input, Restarts, Submits, Ticks, event_out}
-use Rattle.provider_steps.specs.Moves.{acted}
+use Rattle.provider_steps.specs.{Arrives, Asks, Comes, Event, Gives, Input, IsOwnToken, Makes, OrderLine, PacketLine}
+use Rattle.provider_steps.specs.{Pushing, Restarts, Submits, TickLine, Ticks, TokenLine, acted, all_resent, event_out}
+use Rattle.provider_steps.specs.{next_reference, next_request, own_url, referenced, stored, token_acts}
 use Rattle.provider_steps.specs.Orders as orders
-use Rattle.provider_steps.specs.Orders.{IsOwnToken, Makes, OrderLine, next_reference, next_request}
-use Rattle.provider_steps.specs.Packets.{Comes, PacketLine}
-use Rattle.provider_steps.specs.Tick.{TickLine, all_resent}
-use Rattle.provider_steps.specs.Tokens.{TokenLine}
-use Rattle.provider_steps.specs.declared.pushing.Pushing.{Pushing}
 use Rattle.world_steps.specs.Steps as steps
-use Rattle.world_steps.specs.Steps.{ProviderDoes}
-use Rattle.world_steps.specs.World.{Operates, Provides}
+use Rattle.world_steps.specs.{Operates, ProviderDoes, Provides}
 use Rattle.answer_laws.specs.Answers.{ProvidersHaveOneStep}
 use Rattle.answer_laws.specs.Nodes.{UrlsDiffer}
 use Rattle.answer_laws.proofs.Branching.{AtMostOne}

@@ -1,15 +1,12 @@
 -- A node has one answer to what reaches it.
 use Rattle.std.specs.Prelude.{◌≡◌, ◌≢◌}
-use Rattle.node_steps.specs.declared.fault.NodeFault.{NodeFault}
-use Rattle.node_steps.specs.declared.fault.NodeFault.TheVariants.{Memory}
+use Rattle.node_steps.specs.{Memory, NodeFault}
 use Rattle.operator_rows.specs.State as operator
 use Rattle.operator_steps.specs.Events as operator_events
 use Rattle.provider_rows.specs.State as provider
 use Rattle.provider_steps.specs.Events as provider_events
-use Rattle.stored_laws.specs.Nodes.{IsSound}
-use Rattle.world_steps.specs.Network.{Input}
-use Rattle.world_steps.specs.Steps.{AtOperator, AtProvider, NodeRefuses, NodeStep}
-use Rattle.world_steps.specs.World.{NodeState, Operates, Provides}
+use Rattle.stored_laws.specs.{IsSound}
+use Rattle.world_steps.specs.{AtOperator, AtProvider, Input, NodeRefuses, NodeState, NodeStep, Operates, Provides}
 use Rattle.answer_laws.specs.Nodes.{IsApart, SiteDiffers, UrlsDiffer}
 use Rattle.answer_laws.specs.Picks.{LeavesOnePick}
 

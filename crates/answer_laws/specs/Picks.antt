@@ -1,18 +1,17 @@
 -- Which EVSE an operator takes for a command, where it may take several (OCPI 2.2.1, Commands: StartSession, ReserveNow).
 use Rattle.std.specs.Prelude.{◌≡◌, ◌⊎◌, ℕ, List, None, IsSome, ⊤}
 use Rattle.std.specs.FinMap.{get}
-use Rattle.ocpi_text.specs.Text.{key}
-use Rattle.ocpi_types.specs.declared.commands.Command.{Command}
-use Rattle.ocpi_types.specs.declared.commands.Command.TheVariants as command
-use Rattle.ocpi_types.specs.declared.packet.Body.TheVariants as body
-use Rattle.ocpi_types.specs.declared.packet.Packet.{Packet}
+use Rattle.ocpi_text.specs.{key}
+use Rattle.ocpi_types.specs.{Command, Packet}
+use Rattle.ocpi_types.specs.command
+use Rattle.ocpi_types.specs.body
 use Rattle.operator_rows.specs.State.{State}
-use Rattle.operator_steps.specs.Events.{Arrives, Input}
+use Rattle.operator_steps.specs.{Arrives, Input}
 use Rattle.operator_tables.specs.Decides.{Decides}
-use Rattle.operator_tables.specs.declared.decision.Decision.{Decision}
-use Rattle.operator_tables.specs.declared.decision.Decision.TheVariants as decision
-use Rattle.stored_laws.specs.Nodes.{IsSound}
-use Rattle.world_steps.specs.World.{Operates}
+use Rattle.operator_tables.specs.{Decision}
+use Rattle.operator_tables.specs.decision
+use Rattle.stored_laws.specs.{IsSound}
+use Rattle.world_steps.specs.{Operates}
 use Rattle.answer_laws.specs.Nodes.{SiteDiffers}
 
 -- an EVSE is taken: by a start, or by a reservation

@@ -1,34 +1,17 @@
 -- Which lists of changes may be made, and what they leave.
-use Rattle.std.proofs.Common.{◌≡◌, ◌⊎◌, ℕ, List, [], ◌∷◌, map, inl, inr, sym, ap, subst, ◌∙◌}
-use Rattle.std.specs.Prelude.{Some, Contains}
+use Rattle.std.proofs.Common.{◌≡◌, ◌⊎◌, ℕ, List, [], ◌∷◌, inl, inr, sym, ap, subst, ◌∙◌, Some, Contains}
 use Rattle.std.specs.Cmp.{nat_cmp_total}
 use Rattle.std.specs.FinMap.{nat_cmp-IsAntisymmetric, get, insert, remove}
 use Rattle.std.proofs.lemmas.List.Elements.{Contains-append_cases, Contains-append_right}
-use Rattle.tables.proofs.Elements.{in_front, in_none, in_single, of_map}
+use Rattle.tables.proofs.Elements.{in_front, in_none, in_single}
 use Rattle.tables.proofs.Maps.{get-insert_other, get-insert_same, get-remove_other, get-remove_same, of_insert, of_remove}
 use Rattle.tables.proofs.Options.{not_both}
 use Rattle.authorization_book.specs.declared.awaited.Awaited.{Awaited}
 use Rattle.authorization_book.specs.declared.waiting.Waiting.{Waiting}
 use Rattle.authorization_book.specs.declared.waiting.Waiting.TheVariants.{Begins, Ends}
-use Rattle.authorization_book.specs.Waits.{MayBegin, MayWait, Waits, waited}
+use Rattle.authorization_book.specs.Waits.{MayBegin, Waits}
 use Rattle.authorization_book.specs.Laws.{OneEachStays, WaitsChange}
 use Rattle.authorization_book.proofs.Indexing.{one_more, still}
-
-ends_only : (n : ℕ) (a : Awaited) (ns : List ℕ) → ¬ Contains (map Ends ns) (Begins n a)
-ends_only n a ns i =
-    let from = of_map Ends ns (Begins n a) i in
-    let same : Ends from.0 ≡ Begins n a = from.2 in cc
-
--- no change, one that begins, and any that end may be made
-pub no_changes : (waits : Waits) → MayWait waits []
-no_changes waits = tt
-
-pub one_begins : (waits : Waits) (n : ℕ) (a : Awaited) → MayBegin waits n a → MayWait waits (Begins n a ∷ [])
-one_begins waits n a may = (may, tt, tt)
-
-pub any_end : (waits : Waits) (ns : List ℕ) → MayWait waits (map Ends ns)
-any_end waits [] = tt
-any_end waits (n ∷ ns) = (tt, λ a. ends_only n a ns, any_end (waited (Ends n) waits) ns)
 
 pub one_each_stays : OneEachStays
 one_each_stays waits [] may each = each

@@ -1,6 +1,5 @@
 -- The front of the queue, in order, is what is due.
-use Rattle.std.proofs.Common.{◌≡◌, ◌≤◌, ◌<◌, ℕ, List, [], ◌++◌, arith, sym, ap, subst, ◌∙◌}
-use Rattle.std.specs.Prelude.{Some}
+use Rattle.std.proofs.Common.{◌≡◌, ◌≤◌, ◌<◌, ℕ, List, [], ◌++◌, arith, sym, ap, subst, ◌∙◌, Some}
 use Rattle.std.specs.List.Sorted.{IsSorted, IsPermutation}
 use Rattle.std.specs.Ordering.{nat_cmp}
 use Rattle.std.specs.declared.cmp.Ordering.TheVariants.{Less}
@@ -10,8 +9,7 @@ use Rattle.std.proofs.lemmas.Bool.Decides.{nat_tests}
 use Rattle.std.proofs.lemmas.List.Sorted.{Contains-permutation, IsPermutation-sym}
 use Rattle.std.proofs.lemmas.Option.{same_Some}
 use Rattle.tables.specs.Indexes.{Indexes}
-use Rattle.tables.specs.Queues.{due_front}
-use Rattle.tables.specs.Tables.{HasNone}
+use Rattle.tables.specs.{HasNone, due_front}
 use Rattle.tables.proofs.Options.{none_else}
 use Rattle.tables.proofs.Entries.{listed, listed_only}
 use Rattle.tables.proofs.DueFront.{OneMoment, taken, is_taken, taken_once, rise}

@@ -1,12 +1,10 @@
 -- What finds authorizations by their EVSEs and by their deadlines, as they begin and end to be awaited.
-use Rattle.std.proofs.Common.{◌≡◌, ℕ, List, false, inl, inr, refl, sym, ap, ◌∙◌, arith}
-use Rattle.std.specs.Prelude.{Some}
+use Rattle.std.proofs.Common.{◌≡◌, ℕ, List, false, inl, inr, refl, sym, ap, ◌∙◌, arith, Some}
 use Rattle.std.specs.Ordering.{is_gt, nat_cmp}
 use Rattle.std.specs.Cmp.{IsTotalOrder, nat_cmp_total}
 use Rattle.std.specs.FinMap.{FinMap, IsAntisymmetric, nat_cmp-IsAntisymmetric, get, insert, remove, empty, get-empty}
 use Rattle.std.proofs.lemmas.Bool.Decides.{nat_tests}
-use Rattle.tables.specs.Keys.{text_number_total, text_number_exact}
-use Rattle.tables.specs.Tables.{HasNone}
+use Rattle.tables.specs.{HasNone, text_number_exact, text_number_total}
 use Rattle.tables.proofs.DueFront.{queue_total, queue_exact}
 use Rattle.tables.proofs.Indexing.{listed, nothing_listed, unlisted}
 use Rattle.tables.proofs.Maps.{of_insert, of_remove}

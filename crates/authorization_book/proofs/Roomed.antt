@@ -1,11 +1,11 @@
 -- The room of changes, as it is taken and as changes are made.
-use Rattle.std.proofs.Common.{◌≡◌, ◌≢◌, ◌+◌, ◌<◌, ℕ, List, [], ◌∷◌, ◌++◌, inl, inr, take, length, get_or, sym, ap, subst, ◌∙◌, add-one}
+use Rattle.std.proofs.Common.{◌≡◌, ◌≢◌, ◌+◌, ◌<◌, ℕ, List, [], ◌∷◌, ◌++◌, inl, inr, take, length, get_or, sym, ap}
+use Rattle.std.proofs.Common.{subst, ◌∙◌, add-one, Option, Some, None, Result, Ok, Err, OnOk, IsTrue, Contains}
 use Rattle.std.proofs.Math.Seq.{take-suc}
-use Rattle.std.specs.Prelude.{Option, Some, None, Result, Ok, Err, OnOk, IsTrue, Contains}
 use Rattle.std.specs.Cmp.{nat_cmp_total}
 use Rattle.std.specs.FinMap.{nat_cmp-IsAntisymmetric, contains_key, get}
 use Rattle.std.proofs.lemmas.List.Elements.{Contains-append_right, Contains-push_cases}
-use Rattle.tables.specs.Keys.{text_number_total, text_number_exact}
+use Rattle.tables.specs.{text_number_exact, text_number_total}
 use Rattle.tables.proofs.Elements.{in_front}
 use Rattle.tables.proofs.Maps.{others_keep}
 use Rattle.authorization_book.specs.declared.awaited.Awaited.{Awaited}

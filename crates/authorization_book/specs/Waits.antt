@@ -4,8 +4,8 @@ use Rattle.std.specs.Prelude.{◌≡◌, ◌≤◌, ℕ, List, [], ◌∷◌, Op
 use Rattle.std.specs.declared.cmp.Ordering.{Ordering}
 use Rattle.std.specs.Ordering.{nat_cmp}
 use Rattle.std.specs.FinMap.{FinMap, get, insert, remove, empty, contains_key}
-use Rattle.ocpi_text.specs.Text.{key}
-use Rattle.tables.specs.Keys.{pair_cmp, text_number_cmp}
+use Rattle.ocpi_text.specs.{key}
+use Rattle.tables.specs.{pair_cmp, text_number_cmp}
 use Rattle.authorization_book.specs.declared.awaited.Awaited.{Awaited}
 use Rattle.authorization_book.specs.declared.waiting.Waiting.{Waiting}
 use Rattle.authorization_book.specs.declared.waiting.Waiting.TheVariants.{Begins, Ends}

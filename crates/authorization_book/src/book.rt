@@ -25,7 +25,7 @@ impl Model for AuthorizationBook {
     ghost use Rattle.std.specs.FinMap as map;
     ghost use Rattle.std.specs.Coded.{codes};
     ghost use Rattle.std.specs.Ordering.{nat_cmp};
-    ghost use Rattle.tables.specs.Tables.{shown_of, rooms_of};
+    ghost use Rattle.tables.specs.{rooms_of, shown_of};
     ghost use Rattle.authorization_book.specs.Waits.{Held, deadline_cmp, evse_cmp};
     ghost use Rattle.authorization_book.specs.Indexed.{AreIndexed};
 

@@ -1,24 +1,20 @@
 -- The histories of cells of a setup are replayed from its opening, and numbered.
-use Rattle.std.proofs.Common.{◌≡◌, ◌∙◌, ℕ, ◌+◌, List, [], ◌∷◌, ◌++◌, length, take, map, sym, ap, subst, option_map, arith, Result, Ok, Err, IfOk, IfErr}
+use Rattle.std.proofs.Common.{◌≡◌, ◌∙◌, ℕ, ◌+◌, List, [], ◌∷◌, ◌++◌, length, take, map, sym, ap, subst, option_map}
+use Rattle.std.proofs.Common.{arith, Result, Ok, Err, IfOk, IfErr, ◌≢◌, All, Contains, Some, slice_get}
 use Rattle.std.proofs.lemmas.List.{length-map, map-append}
 use Rattle.std.proofs.lemmas.List.Elements.{All-contains, All-push}
-use Rattle.std.specs.Prelude.{◌≢◌, All, Contains, Some, slice_get}
 use Rattle.std.proofs.lemmas.Option.{slice_get-map, slice_get_within}
-use Rattle.ocpi_text.specs.Text.{key}
-use Rattle.ocpi_types.specs.declared.events.Event.{Event}
-use Rattle.ocpi_types.specs.declared.setup.Node.{Node}
-use Rattle.histories.specs.declared.entry.Entry.{Entry}
-use Rattle.histories.specs.declared.history.NodeHistory.{NodeHistory}
-use Rattle.histories.specs.Weaving.{AreApart, AreNumbered, CanInterleave, IsInterleaving}
+use Rattle.ocpi_text.specs.{key}
+use Rattle.ocpi_types.specs.{Event, Node}
+use Rattle.histories.specs.{AreApart, AreNumbered, CanInterleave, Entry, IsInterleaving, NodeHistory}
 use Rattle.histories.proofs.Lists.{is_in, place_in, some_same, stands, take_one}
 use Rattle.history_laws.specs.Laws.{AreReplayed, InterleavingsAreRuns, IsReplayed, ReplaysAreNumbered}
 use Rattle.history_laws.specs.Replays.{Replays}
-use Rattle.node_cell.specs.Keepers.{Keeper}
-use Rattle.node_history.specs.Cells.{Cell, IsCell}
-use Rattle.weave.specs.Faults.{Explains}
-use Rattle.weave.specs.declared.fault.WeaveFault.{WeaveFault}
+use Rattle.node_cell.specs.{Keeper}
+use Rattle.node_history.specs.{Cell, IsCell}
+use Rattle.weave.specs.{Explains, WeaveFault}
 use Rattle.weave.specs.declared.fault.WeaveFault.TheVariants as fault
-use Rattle.world_steps.specs.World.{NodeState, opening_of}
+use Rattle.world_steps.specs.{NodeState, opening_of}
 use Rattle.cell_weaving.specs.Cells.{AreCellsOf, AreTold, IsCellOf, IsNotWoven, IsRunOfCells, Told, state_in, told_of, told_of_cell}
 
 -- one cell more, and its history

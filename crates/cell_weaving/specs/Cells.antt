@@ -1,19 +1,14 @@
 -- Cells of the nodes of a setup, and the run of its world that their histories are.
 use Rattle.std.specs.Prelude.{◌≡◌, ℕ, List, Some, Contains, map, slice_get, ⊤}
-use Rattle.ocpi_text.specs.Text.{key}
-use Rattle.ocpi_types.specs.Setups.{party_of}
-use Rattle.ocpi_types.specs.declared.events.Event.{Event}
-use Rattle.ocpi_types.specs.declared.setup.Node.{Node}
-use Rattle.histories.specs.declared.entry.Entry.{Entry}
-use Rattle.histories.specs.declared.history.NodeHistory.{NodeHistory}
-use Rattle.histories.specs.Weaving.{CanInterleave, IsInterleaving}
+use Rattle.ocpi_text.specs.{key}
+use Rattle.ocpi_types.specs.{Event, Node, party_of}
+use Rattle.histories.specs.{CanInterleave, Entry, IsInterleaving, NodeHistory}
 use Rattle.history_laws.specs.Laws.{IsRunOf}
-use Rattle.node_history.specs.Cells.{Cell}
-use Rattle.weave.specs.Faults.{Explains}
-use Rattle.weave.specs.declared.fault.WeaveFault.{WeaveFault}
-use Rattle.weave.specs.declared.fault.WeaveFault.TheVariants.{Differs, Memory, NeverSent, NoOrder}
-use Rattle.world_laws.specs.Laws.{IsSetup}
-use Rattle.world_steps.specs.World.{NodeState, opening_of}
+use Rattle.node_history.specs.{Cell}
+use Rattle.weave.specs.{Explains, Memory, NoOrder, WeaveFault}
+use Rattle.weave.specs.declared.fault.WeaveFault.TheVariants.{Differs, NeverSent}
+use Rattle.world_laws.specs.{IsSetup}
+use Rattle.world_steps.specs.{NodeState, opening_of}
 
 -- ---- which cells are woven
 

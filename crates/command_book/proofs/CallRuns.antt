@@ -1,13 +1,10 @@
 -- What holds over every list of calls.
-use Rattle.std.proofs.Common.{◌≡◌, inl, inr, [], ◌∷◌, sym, ap, subst, ◌∙◌}
-use Rattle.std.specs.Prelude.{Some, None}
+use Rattle.std.proofs.Common.{◌≡◌, inl, inr, [], ◌∷◌, sym, ap, subst, ◌∙◌, Some, None}
 use Rattle.std.specs.FinMap.{FinMap, get, insert, remove}
-use Rattle.tables.specs.Keys.{text_number_cmp, text_number_total, text_number_exact}
+use Rattle.tables.specs.{text_number_cmp, text_number_exact, text_number_total}
 use Rattle.tables.proofs.Options.{none_some}
 use Rattle.tables.proofs.Maps.{of_insert, of_remove, get-insert_other}
-use Rattle.ocpi_types.specs.declared.stored.OpenCommand.{OpenCommand}
-use Rattle.ocpi_types.specs.declared.stored.Reply.{Reply}
-use Rattle.ocpi_types.specs.declared.words.CommandResultType.{CommandResultType}
+use Rattle.ocpi_types.specs.{CommandResultType, OpenCommand, Reply}
 use Rattle.command_book.specs.Stored.{Request, Rows}
 use Rattle.command_book.specs.Calls.{Call, KeepReply, Open, Settle, Leaves, IsConsistent, IsPlaced, RepliesStay, ResultsStay, StaysConsistent}
 

@@ -1,6 +1,5 @@
 -- What the answers of tests and of calls exclude.
-use Rattle.std.proofs.Common.{◌≡◌, true, false}
-use Rattle.std.specs.Prelude.{Result, Ok, Err, IsOk}
+use Rattle.std.proofs.Common.{◌≡◌, true, false, Result, Ok, Err, IsOk}
 
 pub not_true : {A : Type 0} → false ≡ true → A
 not_true e = absurd (let f : false ≡ true = e in cc)

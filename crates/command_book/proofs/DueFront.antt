@@ -1,17 +1,14 @@
 -- The front of the queue, in order, is what is due.
-use Rattle.std.proofs.Common.{◌≡◌, ◌≤◌, ℕ, List, [], ◌++◌, refl, sym, ap, subst, ◌∙◌}
-use Rattle.std.specs.Prelude.{Option, Some, None, Contains}
+use Rattle.std.proofs.Common.{◌≡◌, ◌≤◌, ℕ, List, [], ◌++◌, refl, sym, ap, subst, ◌∙◌, Option, Some, None, Contains}
 use Rattle.std.specs.Option.{option_map}
 use Rattle.std.specs.List.Sorted.{IsSorted, IsPermutation}
 use Rattle.std.specs.FinMap.{get, entries, entries_sorted}
 use Rattle.std.proofs.lemmas.List.Sorted.{Contains-permutation, IsPermutation-sym}
-use Rattle.tables.specs.Keys.{text_number_cmp, text_number_total, text_number_exact}
-use Rattle.tables.specs.Queues.{due_front}
-use Rattle.tables.specs.Tables.{HasNone}
+use Rattle.tables.specs.{HasNone, due_front, text_number_cmp, text_number_exact, text_number_total}
 use Rattle.tables.proofs.Options.{none_some, none_else}
 use Rattle.tables.proofs.Entries.{listed, listed_only}
 use Rattle.tables.proofs.DueFront.{OneMoment, taken, is_taken, taken_once, rise}
-use Rattle.ocpi_types.specs.declared.stored.OpenCommand.{OpenCommand}
+use Rattle.ocpi_types.specs.{OpenCommand}
 use Rattle.command_book.specs.Stored.{Request, OpenCommands}
 use Rattle.command_book.specs.Queue.{deadline_cmp, Queue, IsQueue}
 use Rattle.command_book.specs.Due.{AreDue, IsDue}

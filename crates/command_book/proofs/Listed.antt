@@ -1,16 +1,15 @@
 -- The rows of a command book as a list, and the command book of a list.
 use Rattle.std.proofs.Common.{◌≡◌, ◌≢◌, ◌↔◌, List, [], ◌∷◌, ◌++◌, map, ◌⊎◌, inl, inr, refl, sym, ap, subst, ◌∙◌}
-use Rattle.std.specs.Prelude.{Contains}
+use Rattle.std.proofs.Common.{Contains}
 use Rattle.std.specs.List.{AllPairs}
 use Rattle.std.specs.FinMap.{FinMap, entries, get, empty, get-empty}
 use Rattle.std.proofs.lemmas.List.Elements.{Contains-append_left, Contains-append_right, Contains-append_cases}
-use Rattle.tables.specs.Keys.{text_number_cmp, text_number_total, text_number_exact}
+use Rattle.tables.specs.{text_number_cmp, text_number_exact, text_number_total}
 use Rattle.tables.proofs.Options.{not_both}
 use Rattle.tables.proofs.Elements.{in_none, in_single, in_front, of_map, first_pairs, later_pairs, joined}
 use Rattle.tables.proofs.Entries.{found_in, each_in, all_apart, listed_only}
-use Rattle.ocpi_types.specs.Rows.{key_of}
-use Rattle.ocpi_types.specs.declared.rows.Row.{Row}
-use Rattle.ocpi_types.specs.declared.rows.Row.TheVariants as row
+use Rattle.ocpi_types.specs.{Row, key_of}
+use Rattle.ocpi_types.specs.row
 use Rattle.command_book.specs.Stored.{Request, Rows, no_rows, HasRow, put_row}
 use Rattle.command_book.specs.Listing.{AreRowsOf, put_rows, reply_row, pending_row, result_row, rows_of}
 use Rattle.command_book.proofs.RowChanges.{IsKept, is_kept, no_row, same_rows, same_key, other_key, put_stands, put_alone}

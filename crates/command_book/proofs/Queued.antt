@@ -1,15 +1,14 @@
 -- The queue of open commands, as they come and go.
-use Rattle.std.proofs.Common.{◌≡◌, ◌≢◌, ◌↔◌, ℕ, inl, inr, sym, ap, ◌∙◌}
-use Rattle.std.specs.Prelude.{Option, Some, None, IfSome, IfNone}
+use Rattle.std.proofs.Common.{◌≡◌, ◌≢◌, ◌↔◌, ℕ, inl, inr, sym, ap, ◌∙◌, Option, Some, None, IfSome, IfNone}
 use Rattle.std.specs.Option.{option_map}
 use Rattle.std.specs.Cmp.{IsTotalOrder}
 use Rattle.std.proofs.lemmas.Option.{same_Some}
 use Rattle.std.specs.FinMap.{IsAntisymmetric, empty, get, insert, remove, get-empty}
-use Rattle.tables.specs.Keys.{text_number_cmp, text_number_total, text_number_exact}
+use Rattle.tables.specs.{text_number_cmp, text_number_exact, text_number_total}
 use Rattle.tables.proofs.DueFront.{queue_total, queue_exact}
 use Rattle.tables.proofs.Options.{none_some}
 use Rattle.tables.proofs.Maps.{told, of_insert, of_remove, get-insert_same, get-insert_other, get-remove_same, get-remove_other}
-use Rattle.ocpi_types.specs.declared.stored.OpenCommand.{OpenCommand}
+use Rattle.ocpi_types.specs.{OpenCommand}
 use Rattle.command_book.specs.Stored.{Request, OpenCommands}
 use Rattle.command_book.specs.Queue.{deadline_cmp, Queue, deadline_of, IsQueue, unqueued}
 

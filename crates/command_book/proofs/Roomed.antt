@@ -1,14 +1,12 @@
 -- The room that rows of a command book have.
-use Rattle.std.proofs.Common.{◌≡◌, ◌≢◌, ℕ, false, inl, inr, refl, sym, ap, subst, ◌∙◌}
-use Rattle.std.specs.Prelude.{Option, Some, None, IsTrue, is_some}
+use Rattle.std.proofs.Common.{◌≡◌, ◌≢◌, ℕ, false, inl, inr, refl, sym, ap, subst, ◌∙◌, Option, Some, None, IsTrue}
+use Rattle.std.proofs.Common.{is_some}
 use Rattle.std.specs.FinMap.{FinMap, contains_key, insert}
-use Rattle.tables.specs.Keys.{text_number_cmp, text_number_total, text_number_exact}
+use Rattle.tables.specs.{text_number_cmp, text_number_exact, text_number_total}
 use Rattle.tables.proofs.Maps.{told, others_keep, key_gone, get-insert_same, get-insert_other}
-use Rattle.ocpi_types.specs.Rows.{key_of}
-use Rattle.ocpi_types.specs.declared.rows.Row.{Row}
-use Rattle.ocpi_types.specs.declared.rows.Row.TheVariants as row
-use Rattle.ocpi_types.specs.declared.rows.RowKey.{RowKey}
-use Rattle.ocpi_types.specs.declared.rows.RowKey.TheVariants as keys
+use Rattle.ocpi_types.specs.{Row, RowKey, key_of}
+use Rattle.ocpi_types.specs.row
+use Rattle.ocpi_types.specs.keys
 use Rattle.command_book.specs.Stored.{Request}
 use Rattle.command_book.specs.Queue.{Queue, unqueued}
 use Rattle.command_book.proofs.Queued.{deadline_total, deadline_exact}

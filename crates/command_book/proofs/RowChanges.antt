@@ -1,14 +1,12 @@
 -- What stands after a row is put, and after rows are put one after the other.
-use Rattle.std.proofs.Common.{◌≡◌, ◌≢◌, ◌↔◌, ◌⊎◌, inl, inr, sym, ap, ◌∙◌}
-use Rattle.std.specs.Prelude.{Some}
+use Rattle.std.proofs.Common.{◌≡◌, ◌≢◌, ◌↔◌, ◌⊎◌, inl, inr, sym, ap, ◌∙◌, Some}
 use Rattle.std.specs.FinMap.{FinMap, get, insert, same_map, get-empty}
-use Rattle.tables.specs.Keys.{text_number_cmp, text_number_total, text_number_exact}
+use Rattle.tables.specs.{text_number_cmp, text_number_exact, text_number_total}
 use Rattle.tables.proofs.Options.{none_some, same_option}
 use Rattle.tables.proofs.Maps.{told, get-insert_same, get-insert_other}
-use Rattle.ocpi_types.specs.Rows.{key_of}
-use Rattle.ocpi_types.specs.declared.rows.Row.{Row}
-use Rattle.ocpi_types.specs.declared.rows.Row.TheVariants as row
-use Rattle.ocpi_types.specs.declared.rows.RowKey.TheVariants as keys
+use Rattle.ocpi_types.specs.{Row, key_of}
+use Rattle.ocpi_types.specs.row
+use Rattle.ocpi_types.specs.keys
 use Rattle.command_book.specs.Stored.{Request, Rows, no_rows, HasRow, put_row}
 use Rattle.command_book.specs.Listing.{HaveSameRows}
 

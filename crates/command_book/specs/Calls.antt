@@ -1,11 +1,8 @@
 -- What the calls of a command book leave, one by one and over every list of calls.
 use Rattle.std.specs.Prelude.{◌≡◌, ◌⊎◌, List, [], ◌∷◌, Some, None, IsSome}
 use Rattle.std.specs.FinMap.{get, insert, remove}
-use Rattle.ocpi_types.specs.declared.commands.Command.{Command}
-use Rattle.ocpi_types.specs.declared.commands.Command.TheVariants as command
-use Rattle.ocpi_types.specs.declared.stored.OpenCommand.{OpenCommand}
-use Rattle.ocpi_types.specs.declared.stored.Reply.{Reply}
-use Rattle.ocpi_types.specs.declared.words.CommandResultType.{CommandResultType}
+use Rattle.ocpi_types.specs.{Command, CommandResultType, OpenCommand, Reply}
+use Rattle.ocpi_types.specs.command
 use Rattle.command_book.specs.declared.fault.CommandFault.{CommandFault}
 use Rattle.command_book.specs.declared.fault.CommandFault.TheVariants.{AlreadyOpen, Settled, Memory}
 use Rattle.command_book.specs.Stored.{Request, Rows}

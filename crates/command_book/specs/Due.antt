@@ -3,8 +3,8 @@ use Rattle.std.specs.Prelude.{◌≡◌, ◌↔◌, ℕ, ◌≤◌, List, Some, 
 use Rattle.std.specs.List.{AllPairs}
 use Rattle.std.specs.declared.cmp.Ordering.TheVariants.{Less}
 use Rattle.std.specs.FinMap.{get}
-use Rattle.tables.specs.Keys.{text_number_cmp}
-use Rattle.ocpi_types.specs.declared.stored.OpenCommand.{OpenCommand}
+use Rattle.tables.specs.{text_number_cmp}
+use Rattle.ocpi_types.specs.{OpenCommand}
 use Rattle.command_book.specs.Stored.{Request, OpenCommands}
 
 -- the request's command is open, and its deadline is at or before the moment

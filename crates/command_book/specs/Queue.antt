@@ -4,8 +4,8 @@ use Rattle.std.specs.Option.{option_map}
 use Rattle.std.specs.declared.cmp.Ordering.{Ordering}
 use Rattle.std.specs.Ordering.{nat_cmp}
 use Rattle.std.specs.FinMap.{FinMap, get, remove}
-use Rattle.tables.specs.Keys.{pair_cmp, text_number_cmp}
-use Rattle.ocpi_types.specs.declared.stored.OpenCommand.{OpenCommand}
+use Rattle.tables.specs.{pair_cmp, text_number_cmp}
+use Rattle.ocpi_types.specs.{OpenCommand}
 use Rattle.command_book.specs.Stored.{Request, OpenCommands}
 
 -- by deadline, and then by request

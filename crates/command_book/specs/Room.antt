@@ -1,13 +1,10 @@
 -- The room that is taken beside the rows of a command book.
 use Rattle.std.specs.Prelude.{◌≡◌, ◌≢◌, ℕ, Some, false, IsTrue, ⊤}
 use Rattle.std.specs.FinMap.{FinMap, get, contains_key}
-use Rattle.tables.specs.Keys.{text_number_cmp}
-use Rattle.ocpi_types.specs.Rows.{key_of}
-use Rattle.ocpi_types.specs.declared.rows.Row.{Row}
-use Rattle.ocpi_types.specs.declared.rows.Row.TheVariants as row
-use Rattle.ocpi_types.specs.declared.rows.RowKey.{RowKey}
-use Rattle.ocpi_types.specs.declared.rows.RowKey.TheVariants as keys
-use Rattle.ocpi_types.specs.declared.stored.OpenCommand.{OpenCommand}
+use Rattle.tables.specs.{text_number_cmp}
+use Rattle.ocpi_types.specs.{OpenCommand, Row, RowKey, key_of}
+use Rattle.ocpi_types.specs.row
+use Rattle.ocpi_types.specs.keys
 use Rattle.command_book.specs.Stored.{Request, Rows}
 use Rattle.command_book.specs.Queue.{Queue}
 

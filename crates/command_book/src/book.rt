@@ -2,8 +2,8 @@
 
 ghost use Rattle.std.specs.Prelude.{◌≡◌, ◌↔◌, ◌≢◌, ℕ, IfErr, IfNone, IfSome, IsOk, IsSome, OnErr, OnOk, option_copied};
 ghost use Rattle.std.specs.FinMap as map;
-ghost use Rattle.tables.specs.Tables.{shown_of, rooms_of};
-ghost use Rattle.ocpi_types.specs.Rows.{key_of};
+ghost use Rattle.tables.specs.{rooms_of, shown_of};
+ghost use Rattle.ocpi_types.specs.{key_of};
 ghost use Rattle.command_book.specs.Calls.{
   BarsOpening,
   BarsSettling,
@@ -44,8 +44,7 @@ pub struct CommandBook {
 impl Model for CommandBook {
     ghost use Rattle.std.specs.FinMap as map;
     ghost use Rattle.std.specs.Coded.{codes};
-    ghost use Rattle.tables.specs.Keys.{text_number_cmp};
-    ghost use Rattle.tables.specs.Tables.{shown_of, rooms_of};
+    ghost use Rattle.tables.specs.{rooms_of, shown_of, text_number_cmp};
     ghost use Rattle.command_book.specs.Room.{Held};
     ghost use Rattle.command_book.specs.Queue.{deadline_cmp, IsQueue};
 

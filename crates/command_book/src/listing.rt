@@ -2,8 +2,7 @@
 
 ghost use Rattle.std.specs.Prelude.{◌≡◌, ◌++◌, [], IfOk, IsOk, OnErr, OnOk, map};
 ghost use Rattle.std.specs.FinMap.{entries};
-ghost use Rattle.tables.specs.Keys.{text_number_cmp};
-ghost use Rattle.tables.specs.Tables.{shown_of};
+ghost use Rattle.tables.specs.{shown_of, text_number_cmp};
 ghost use Rattle.command_book.specs.Stored.{no_rows};
 ghost use Rattle.command_book.specs.Listing.{AreRowsOf, put_rows, rows_of, reply_row, pending_row, result_row};
 

@@ -1,28 +1,21 @@
 -- An order that is carried out takes the bill of a COMPLETED session back that has no credit.
-use Rattle.std.proofs.Common.{◌≡◌, ◌<◌, ◌+◌, ℕ, List, [], ◌∷◌, inl, sym, ap, subst, ◌∙◌}
-use Rattle.std.specs.Prelude.{false, true, is_some, Contains}
+use Rattle.std.proofs.Common.{◌≡◌, ◌<◌, ◌+◌, ℕ, List, [], ◌∷◌, inl, sym, ap, subst, ◌∙◌, false, true, is_some, Contains}
 use Rattle.std.proofs.lemmas.List.Elements.{Contains-append_right}
 use Rattle.tables.proofs.Elements.{in_front}
-use Rattle.ocpi_text.specs.Moment.{last_moment}
-use Rattle.ocpi_text.specs.Text.{key}
-use Rattle.ocpi_types.specs.declared.cdrs.Cdr.{Cdr}
-use Rattle.ocpi_types.specs.declared.rows.Change.{Change}
-use Rattle.ocpi_types.specs.declared.rows.Change.TheVariants.{Put}
-use Rattle.ocpi_types.specs.declared.rows.Row.TheVariants as row
-use Rattle.ocpi_types.specs.declared.stored.Push.TheVariants as push
+use Rattle.ocpi_text.specs.{key, last_moment}
+use Rattle.ocpi_types.specs.{Cdr, Change, Put}
+use Rattle.ocpi_types.specs.row
+use Rattle.ocpi_types.specs.push
 use Rattle.session_book.specs.Records.{HasCredit, HasRecord}
-use Rattle.node_steps.specs.Acts.{Act, all_changes, changed, pushed}
-use Rattle.node_steps.specs.Drafts.{count_changes, counted}
-use Rattle.node_steps.specs.Peers.{HasPeer, IsPeer}
+use Rattle.node_steps.specs.{Act, HasPeer, IsPeer, all_changes, changed, count_changes, counted, pushed}
 use Rattle.operator_rows.specs.State.{State}
-use Rattle.operator_steps.specs.Credits.{CreditLine, Credited, CreditsTo, IsToCredit, NothingToCredit}
-use Rattle.operator_steps.specs.Events.{Asks, Done, Event, event_out}
-use Rattle.operator_steps.specs.Moves.{Out, Quietly, acted, counters_of, quiet, step_of_acts}
+use Rattle.operator_steps.specs.{Asks, CreditLine, Credited, CreditsTo, Done, Event, IsToCredit, NothingToCredit, Out}
+use Rattle.operator_steps.specs.{Quietly, acted, counters_of, event_out, quiet, step_of_acts}
 use Rattle.operator_laws.specs.Sessions.{Puts}
 use Rattle.operator_laws.proofs.events.Doing.{does}
-use Rattle.stored_laws.specs.Nodes.{CanStartAgain}
+use Rattle.stored_laws.specs.{CanStartAgain}
 use Rattle.stored_laws.proofs.TakingBack.{bills_may_be_taken_back}
-use Rattle.world_steps.specs.World.{Operates}
+use Rattle.world_steps.specs.{Operates}
 use Rattle.credit_laws.specs.Laws.{IsCarriedOut, IsUntaken, OrdersTakeBillsBack, TakesBack, taken_back}
 
 -- the rows of the credit and of its push, and the acts that make them

@@ -2,22 +2,18 @@
 -- interface). It is said of the members of the records themselves: a record that names no other is a bill.
 use Rattle.std.specs.Prelude.{◌≡◌, ◌<◌, ◌+◌, ◌++◌, ℕ, List, [], ◌∷◌, Some, None, codes, max, neg_ℤ}
 use Rattle.std.specs.FinMap.{get}
-use Rattle.ocpi_text.specs.Moment.{last_moment}
-use Rattle.ocpi_text.specs.Text.{key}
-use Rattle.ocpi_types.specs.declared.cdrs.Cdr.{Cdr}
-use Rattle.ocpi_types.specs.declared.packet.Body.TheVariants as body
-use Rattle.ocpi_types.specs.declared.packet.Packet.{Packet}
-use Rattle.ocpi_types.specs.declared.rows.Row.TheVariants as row
-use Rattle.ocpi_types.specs.declared.sessions.Session.{Session}
-use Rattle.ocpi_types.specs.declared.stored.Push.TheVariants as push
-use Rattle.ocpi_types.specs.declared.words.SessionStatus.TheVariants.{Completed}
-use Rattle.node_steps.specs.Peers.{HasPeer, IsPeer}
+use Rattle.ocpi_text.specs.{key, last_moment}
+use Rattle.ocpi_types.specs.{Cdr, Completed, Packet, Session}
+use Rattle.ocpi_types.specs.body
+use Rattle.ocpi_types.specs.row
+use Rattle.ocpi_types.specs.push
+use Rattle.node_steps.specs.{HasPeer, IsPeer}
 use Rattle.operator_rows.specs.State.{State}
-use Rattle.operator_steps.specs.Events.{Asks, Credits, Event, event_out}
-use Rattle.operator_steps.specs.Moves.{StepBy}
+use Rattle.operator_steps.specs.{Asks, Event, StepBy, event_out}
+use Rattle.operator_steps.specs.Events.{Credits}
 use Rattle.operator_laws.specs.Sessions.{Puts}
-use Rattle.stored_laws.specs.Nodes.{CanStartAgain}
-use Rattle.world_steps.specs.World.{Operates}
+use Rattle.stored_laws.specs.{CanStartAgain}
+use Rattle.world_steps.specs.{Operates}
 
 -- the event is carried out, and not refused: the operator does what its input asks for
 abbrev pub IsCarriedOut : State → Event → State → Type 0

@@ -1,6 +1,7 @@
 -- The members of each line that tells what became of a line, and what is read of it.
-use Rattle.std.proofs.Common.{◌≡◌, ◌≢◌, ℕ, zero, suc, ◌*◌, ◌<◌, ◌≤◌, Bool, true, false, List, [], ◌∷◌, ◌++◌, Option, None, Some, option_map, Result, Ok, Err, refl, sym, ap, subst, ◌∙◌, arith, append-nil, inl, inr, length-append}
-use Rattle.std.specs.Prelude.{codes, decimal, length, nat_le, ◌&&◌}
+use Rattle.std.proofs.Common.{◌≡◌, ◌≢◌, ℕ, zero, suc, ◌*◌, ◌<◌, ◌≤◌, Bool, true, false, List, [], ◌∷◌, ◌++◌, Option}
+use Rattle.std.proofs.Common.{None, Some, option_map, Result, Ok, Err, refl, sym, ap, subst, ◌∙◌, arith, append-nil}
+use Rattle.std.proofs.Common.{inl, inr, length-append, codes, decimal, length, nat_le, ◌&&◌}
 use Rattle.std.specs.List.{list_all}
 use Rattle.std.proofs.lemmas.Bool.{and_parts, cases_eq}
 use Rattle.std.proofs.lemmas.Bool.Decides.{nat_tests}
@@ -9,31 +10,22 @@ use Rattle.std.proofs.lemmas.List.{append_assoc}
 use Rattle.json.specs.Print.{escape, escape_byte, print_from, quoted}
 use Rattle.serde_json.specs.Data.{Data, string}
 use Rattle.serde_json.specs.Find.{get}
-use Rattle.json_text.specs.Fault.{Read}
-use Rattle.json_text.specs.Line.{tree_at}
-use Rattle.json_text.specs.Tag.{is_tagged}
-use Rattle.json_text.specs.declared.fault.JsonFault.{JsonFault}
-use Rattle.json_text.specs.declared.fault.JsonFault.TheVariants as line
+use Rattle.json_text.specs.{JsonFault, Read, is_tagged, tree_at}
+use Rattle.json_text.specs.line
 use Rattle.json_text.proofs.MemberForms.{party_begins}
 use Rattle.json_text.proofs.Tagged.{tagged}
-use Rattle.node_runs.specs.DoneLines.{all_line, fault_line, idle_line, line_of_refusal, malformed_line, opened_as, opened_line, refused_line, skipped_line, stepped_line, text_json}
-use Rattle.node_runs.specs.Names.{event_fault_name, event_fault_number, line_fault_field, line_fault_name, line_fault_number}
-use Rattle.node_steps.specs.declared.fault.NodeFault.{NodeFault}
-use Rattle.node_steps.specs.declared.fault.NodeFault.TheVariants as event
-use Rattle.ocpi_text.specs.Party.{party_at}
-use Rattle.ocpi_text.specs.Text.{is_ascii_text, is_printable}
-use Rattle.ocpi_text.specs.Whole.{max_whole}
+use Rattle.node_runs.specs.{all_line, event_fault_name, event_fault_number, fault_line, idle_line, line_fault_field}
+use Rattle.node_runs.specs.{line_fault_name, line_fault_number, line_of_refusal, malformed_line, opened_as, opened_line}
+use Rattle.node_runs.specs.{refused_line, skipped_line, stepped_line, text_json}
+use Rattle.node_steps.specs.{NodeFault}
+use Rattle.node_steps.specs.node_fault as event
+use Rattle.ocpi_text.specs.{is_ascii_text, is_printable, max_whole, party_at}
 use Rattle.ocpi_text.proofs.Again.{whole_again}
 use Rattle.ocpi_text.proofs.Parties.{party_parts}
-use Rattle.ocpi_types.specs.Fields.{name_of}
-use Rattle.ocpi_types.specs.declared.field.Field.{Field}
-use Rattle.ocpi_types.specs.declared.field.Field.TheVariants.{Line}
-use Rattle.transcript_lines.specs.Dones.{all_at, done_at, done_by, done_in, done_of, malformed_at, opened_at, refused_at, run_without_lines, stepped_at}
-use Rattle.transcript_lines.specs.Faults.{event_fault, line_fault}
-use Rattle.transcript_lines.specs.declared.done.Done.{Done}
-use Rattle.transcript_lines.specs.declared.done.Done.TheVariants as done
-use Rattle.transcript_lines.specs.declared.done.DoneFault.{DoneFault}
-use Rattle.transcript_lines.specs.declared.done.DoneLine.{DoneLine}
+use Rattle.ocpi_types.specs.{Field, Line, name_of}
+use Rattle.transcript_lines.specs.{Done, DoneFault, DoneLine, all_at, done_at, done_by, done_in, done_of, event_fault}
+use Rattle.transcript_lines.specs.{line_fault, malformed_at, opened_at, refused_at, run_without_lines, stepped_at}
+use Rattle.transcript_lines.specs.done
 use Rattle.transcript_lines.proofs.FoundMembers.{found}
 use Rattle.done_laws.specs.Laws.{DoneLinesAreRead, IsLineNumber, IsPlace, IsRead, IsWhole}
 use Rattle.done_laws.proofs.NamedMembers.{AreMembers, AreNamed, IsText, Named, Number, Word, object_json, object_on, object_reads, object_then}

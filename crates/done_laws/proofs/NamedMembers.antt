@@ -1,6 +1,6 @@
 -- Objects whose members are numbers and texts under any names: their text, and that it is read as their tree.
-use Rattle.std.proofs.Common.{◌≡◌, ◌≢◌, ℕ, ◌+◌, ◌*◌, ◌≤◌, Bool, true, false, cond, List, [], ◌∷◌, ◌++◌, All, Ok, length, decimal, refl, sym, ap, subst, ◌∙◌, arith, append_assoc, length-append}
-use Rattle.std.specs.Prelude.{◌&&◌}
+use Rattle.std.proofs.Common.{◌≡◌, ◌≢◌, ℕ, ◌+◌, ◌*◌, ◌≤◌, Bool, true, false, cond, List, [], ◌∷◌, ◌++◌, All, Ok, length}
+use Rattle.std.proofs.Common.{decimal, refl, sym, ap, subst, ◌∙◌, arith, append_assoc, length-append, ◌&&◌}
 use Rattle.std.specs.Str.{IsUtf8}
 use Rattle.std.proofs.lemmas.Bool.{and_parts}
 use Rattle.json.specs.Json as json
@@ -11,14 +11,12 @@ use Rattle.json.specs.Tree.{depth, json_tokens, members_depth, members_tokens}
 use Rattle.json.proofs.Printed.Decimals.{IsNumber-decimal}
 use Rattle.json.proofs.Printed.Tokens.{tokens-print}
 use Rattle.serde_json.specs.Data.{Data}
-use Rattle.json_text.specs.Line.{tree_at}
-use Rattle.json_text.specs.Members.{json_text}
-use Rattle.json_text.specs.Tag.{is_tagged}
+use Rattle.json_text.specs.{is_tagged, json_text, tree_at}
 use Rattle.json_text.proofs.Digits.{whole_number}
 use Rattle.json_text.proofs.ReadAgain.{line_again}
 use Rattle.json_text.proofs.Tagged.{cmp, greater_is, is_greater, tagged}
 use Rattle.json_text.proofs.WellFormed.{AreSoundMembers, Follow, IsSound}
-use Rattle.ocpi_text.specs.Whole.{max_whole}
+use Rattle.ocpi_text.specs.{max_whole}
 use Rattle.done_laws.proofs.PlainTexts.{IsPiece, are_plain, number_piece, plain_no_feed, plain_on, plain_utf8}
 
 -- ---- the JSON

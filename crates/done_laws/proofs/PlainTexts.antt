@@ -1,6 +1,6 @@
 -- Texts of ASCII that are within one line, and such texts joined.
-use Rattle.std.proofs.Common.{◌≡◌, ◌≢◌, ℕ, ◌^◌, ◌<◌, ◌≤◌, Bool, true, not, List, [], ◌∷◌, ◌++◌, All, length, decimal, refl, arith}
-use Rattle.std.specs.Prelude.{◌&&◌, ◌==◌, nat_lt}
+use Rattle.std.proofs.Common.{◌≡◌, ◌≢◌, ℕ, ◌^◌, ◌<◌, ◌≤◌, Bool, true, not, List, [], ◌∷◌, ◌++◌, All, length, decimal}
+use Rattle.std.proofs.Common.{refl, arith, ◌&&◌, ◌==◌, nat_lt}
 use Rattle.std.specs.Char.{is_ascii_digit}
 use Rattle.std.specs.List.{list_all}
 use Rattle.std.specs.Str.{IsUtf8}
@@ -10,8 +10,7 @@ use Rattle.std.proofs.lemmas.Fmt.{length-decimal-le}
 use Rattle.std.proofs.lemmas.List.Elements.{All-nil, All-cons}
 use Rattle.json.proofs.Printed.Utf8.{IsUtf8-are_ascii, are_ascii}
 use Rattle.json_text.proofs.Digits.{decimal_digits}
-use Rattle.ocpi_text.specs.Text.{is_printable}
-use Rattle.ocpi_text.specs.Whole.{max_whole}
+use Rattle.ocpi_text.specs.{max_whole}
 
 -- ASCII, and no line feed
 abbrev pub is_plain : ℕ → Bool
@@ -49,13 +48,6 @@ digits_plain (x ∷ xs) h =
     let parts = and_parts (is_ascii_digit x) (list_all is_ascii_digit xs) h in
     let one : is_plain x ≡ true = let p = parts.0 in grind (arith, nat_tests) in
     rw (one, digits_plain xs parts.1) refl
-
-pub printable_plain : (s : List ℕ) → list_all is_printable s ≡ true → are_plain s ≡ true
-printable_plain [] h = refl
-printable_plain (x ∷ xs) h =
-    let parts = and_parts (is_printable x) (list_all is_printable xs) h in
-    let one : is_plain x ≡ true = let p = parts.0 in grind (arith, nat_tests) in
-    rw (one, printable_plain xs parts.1) refl
 
 -- ---- pieces of a line
 

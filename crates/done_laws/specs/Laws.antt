@@ -1,13 +1,11 @@
 -- How the lines are read that tell what became of a line, or of an event of one.
 use Rattle.std.specs.Prelude.{◌≡◌, ◌≢◌, ◌≤◌, ◌<◌, ℕ, List, [], ◌∷◌, ◌++◌, Option, None, Some, Ok, IfSome, All, length}
-use Rattle.json_text.specs.declared.fault.JsonFault.{JsonFault}
-use Rattle.node_steps.specs.declared.fault.NodeFault.{NodeFault}
-use Rattle.ocpi_text.specs.Party.{party_at}
-use Rattle.ocpi_text.specs.Whole.{max_whole}
-use Rattle.node_runs.specs.DoneLines.{all_line, idle_line, malformed_line, opened_line, refused_line, skipped_line, stepped_line}
-use Rattle.transcript_lines.specs.Dones.{done_in, run_without_lines}
-use Rattle.transcript_lines.specs.declared.done.Done.{Done}
-use Rattle.transcript_lines.specs.declared.done.Done.TheVariants as done
+use Rattle.json_text.specs.{JsonFault}
+use Rattle.node_steps.specs.{NodeFault}
+use Rattle.ocpi_text.specs.{max_whole, party_at}
+use Rattle.node_runs.specs.{all_line, idle_line, malformed_line, opened_line, refused_line, skipped_line, stepped_line}
+use Rattle.transcript_lines.specs.{Done, done_in, run_without_lines}
+use Rattle.transcript_lines.specs.done
 
 -- the text is one line and its line feed; the line is not empty, is read as that, at that place, and is not what a run
 -- without lines writes

@@ -1,7 +1,6 @@
 -- The line that explains why a line of the input, or an event of one, was refused.
 use Rattle.std.specs.Prelude.{ℕ, List, [], ◌∷◌, ◌++◌, Option, None, Some, codes, decimal}
-use Rattle.json_text.specs.Fault.{fault_text}
-use Rattle.json_text.specs.declared.fault.JsonFault.{JsonFault}
+use Rattle.json_text.specs.{JsonFault, fault_text}
 
 -- the place of an event in its line, from 0; where the line is one event, it is left out
 abbrev pub event_part : Option ℕ → List ℕ

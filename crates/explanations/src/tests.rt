@@ -1,9 +1,6 @@
 //! Explanations of whole runs.
 
-use crate::{
-    LineText, Place, Program, Shape, Telling, Watch, WatchedReader, WatchedWriter,
-    explain_malformed,
-};
+use crate::{LineText, Place, Program, Shape, Telling, Watch, WatchedReader, WatchedWriter, explain_malformed};
 use ocpi_json::JsonFault;
 use std::cell::RefCell;
 use std::test::Fail;

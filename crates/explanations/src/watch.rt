@@ -7,9 +7,7 @@ use crate::output_lines::{Outcome, Said, refusal_of, said_by};
 use json::{Scratch as JsonScratch, Value};
 use line_runs::{KEPT_BYTES, write_whole};
 use node_lines::{element_texts, read_node_line};
-use ocpi_json::{
-    JsonFault, Scratch, read_event, read_node_event, read_packet, read_setup, read_site,
-};
+use ocpi_json::{JsonFault, Scratch, read_event, read_node_event, read_packet, read_setup, read_site};
 use std::alloc::{AllocError, Global};
 use std::io::Write;
 use std::str;

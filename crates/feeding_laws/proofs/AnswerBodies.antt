@@ -1,7 +1,7 @@
 -- The bodies of packets that are answers.
 use Rattle.std.proofs.Common.{◌⊎◌, inl, inr, refl, sym, subst}
-use Rattle.ocpi_types.specs.declared.packet.Body.{Body}
-use Rattle.ocpi_types.specs.declared.packet.Body.TheVariants as body
+use Rattle.ocpi_types.specs.{Body}
+use Rattle.ocpi_types.specs.body
 use Rattle.feeding_laws.specs.Lines.{IsAnswer}
 
 -- the bodies of answers

@@ -1,8 +1,7 @@
 -- An event that reaches a node once more after a stop.
-use Rattle.std.proofs.Common.{◌≡◌, ◌+◌, ℕ, List, [], ◌∷◌, length, refl, ap, ◌∙◌, arith}
-use Rattle.std.specs.Prelude.{◌↔◌}
+use Rattle.std.proofs.Common.{◌≡◌, ◌+◌, ℕ, List, [], ◌∷◌, length, refl, ap, ◌∙◌, arith, ◌↔◌}
 use Rattle.tables.proofs.Elements.{not_none}
-use Rattle.ocpi_types.specs.declared.packet.Packet.{Packet}
+use Rattle.ocpi_types.specs.{Packet}
 use Rattle.operator_rows.specs.State as operator_state
 use Rattle.operator_rows.specs.Steps as operator_rows
 use Rattle.operator_steps.specs.Events as operator
@@ -11,11 +10,10 @@ use Rattle.provider_rows.specs.State as provider_state
 use Rattle.provider_rows.specs.Steps as provider_rows
 use Rattle.provider_steps.specs.Events as provider
 use Rattle.provider_laws.proofs.nodes.NodeSteps as provider_nodes
-use Rattle.stored_laws.specs.Nodes.{IsSound, last_serial, restarted}
-use Rattle.world_steps.specs.Network.{OfOperator, OfProvider}
+use Rattle.stored_laws.specs.{IsSound, last_serial, restarted}
+use Rattle.world_steps.specs.{AtOperator, AtProvider, NodeEvent, NodeRefuses, NodeState, NodeStep, OfOperator}
+use Rattle.world_steps.specs.{OfProvider, Operates, OperatorDoes, ProviderDoes, Provides, input_of, packets_of}
 use Rattle.world_steps.specs.Steps as steps
-use Rattle.world_steps.specs.Steps.{AtOperator, AtProvider, NodeEvent, NodeRefuses, NodeStep, OperatorDoes, ProviderDoes, input_of, packets_of}
-use Rattle.world_steps.specs.World.{NodeState, Operates, Provides}
 use Rattle.feeding_laws.specs.Feeding.{FeedingAgainDoesTheSame, FeedingAgainRefusesTheSame, IsTokenForNone, Leads, SendsNothing, SerialTellsOfSending}
 use Rattle.feeding_laws.proofs.OperatorEvents as operators
 use Rattle.feeding_laws.proofs.ProviderEvents as providers

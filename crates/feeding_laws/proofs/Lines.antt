@@ -1,21 +1,20 @@
 -- A line of several events that reaches a node once more after a stop.
 use Rattle.std.proofs.Common.{◌≡◌, ◌+◌, List, [], ◌∷◌, map, length, refl, sym, ap, subst, ◌∙◌, arith, length-append}
 use Rattle.tables.proofs.Elements.{in_map, not_none}
-use Rattle.ocpi_types.specs.declared.packet.Packet.{Packet}
+use Rattle.ocpi_types.specs.{Packet}
 use Rattle.node_laws.specs.Runs.{Run}
 use Rattle.node_laws.proofs.Runs.{run_of_part}
-use Rattle.operator_rows.specs.Sound.{IsConsistent}
+use Rattle.operator_rows.specs.{IsConsistent}
 use Rattle.operator_rows.specs.State as operator_state
 use Rattle.operator_rows.specs.Steps as operator_rows
 use Rattle.operator_steps.specs.Events as operator
 use Rattle.provider_rows.specs.State as provider_state
 use Rattle.provider_rows.specs.Steps as provider_rows
 use Rattle.provider_steps.specs.Events as provider
-use Rattle.stored_laws.specs.Nodes.{CanStartAgain, last_serial, restarted}
+use Rattle.stored_laws.specs.{CanStartAgain, last_serial, restarted}
 use Rattle.stored_laws.proofs.Starting.{nodes_can_start_again}
-use Rattle.world_steps.specs.Network.{Input, OfOperator, OfProvider}
-use Rattle.world_steps.specs.Steps.{AtOperator, AtProvider, NodeEvent, NodeStep, input_of, packets_of}
-use Rattle.world_steps.specs.World.{NodeState, Operates, Provides}
+use Rattle.world_steps.specs.{AtOperator, AtProvider, Input, NodeEvent, NodeState, NodeStep, OfOperator, OfProvider}
+use Rattle.world_steps.specs.{Operates, Provides, input_of, packets_of}
 use Rattle.feeding_laws.specs.Lines.{Answer, Answers, IsAble, IsInOrder, LinesMayBeFedAgain, Refused, Sent, SerialTellsOfLines, Takes, TakesAble, TakesSilently, Turn, sent_by, sent_in}
 use Rattle.feeding_laws.proofs.Feeding.{for_none, no_packets, same_operator_input, same_provider_input, serial_rises}
 use Rattle.feeding_laws.proofs.OperatorLines as operator_lines

@@ -1,19 +1,17 @@
 -- An event of an operator that sent nothing, once more.
 use Rattle.std.proofs.Common.{◌≡◌, ℕ, List, [], refl, sym, ap, subst, ◌∙◌}
-use Rattle.ocpi_text.specs.Text.{key}
-use Rattle.ocpi_types.specs.declared.packet.Packet.{Packet}
-use Rattle.node_steps.specs.Acts.{all_messages}
-use Rattle.node_steps.specs.Peers.{IsPeer}
-use Rattle.node_steps.specs.declared.fault.NodeFault.{NodeFault}
-use Rattle.node_steps.specs.declared.fault.NodeFault.TheVariants.{NotForMe, UnknownOperator, UnknownToken, StampEnd, NumbersUsedUp, Memory}
+use Rattle.ocpi_text.specs.{key}
+use Rattle.ocpi_types.specs.{Packet}
+use Rattle.node_steps.specs.{IsPeer, Memory, NodeFault, NotForMe, NumbersUsedUp, StampEnd, UnknownOperator}
+use Rattle.node_steps.specs.{UnknownToken, all_messages}
 use Rattle.operator_rows.specs.State.{State}
-use Rattle.operator_rows.specs.Sound.{IsConsistent}
-use Rattle.operator_rows.specs.Steps.{restarted}
+use Rattle.operator_rows.specs.{IsConsistent, restarted}
 use Rattle.operator_steps.specs.Events as events
-use Rattle.operator_steps.specs.Events.{Arrives, Asks, Credits, Event, Input, Reports, Restarts, Serves, Ticks, event_out}
-use Rattle.operator_steps.specs.Moves.{AreInRange, Out, StepBy, Work, acted}
+use Rattle.operator_steps.specs.{AreInRange, Arrives, Asks, Event, Input, Out, Reports, Restarts, Serves, StepBy, Ticks}
+use Rattle.operator_steps.specs.{Work, acted, event_out}
+use Rattle.operator_steps.specs.Events.{Credits}
 use Rattle.operator_laws.proofs.events.Standing.{consistent_stays}
-use Rattle.world_steps.specs.Steps.{Done, OperatorDoes, OperatorRefuses, Restarted}
+use Rattle.world_steps.specs.{Done, OperatorDoes, OperatorRefuses, Restarted}
 use Rattle.feeding_laws.proofs.OperatorFeeding.{IsSafe, credit_silent, packet_safe, report_silent, safe_same, service_safe, unchanged}
 use Rattle.feeding_laws.proofs.OperatorTicks.{tick_safe}
 use Rattle.feeding_laws.proofs.Sending.{silent}

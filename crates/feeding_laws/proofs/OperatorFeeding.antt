@@ -1,52 +1,35 @@
 -- An event that reaches an operator once more, where it sent nothing and no time passed.
-use Rattle.std.proofs.Common.{◌≡◌, ◌+◌, ℕ, Bool, true, false, not, List, [], ◌∷◌, length, inl, inr, refl, sym, ap, subst, ◌∙◌, arith}
-use Rattle.std.specs.Prelude.{◌↔◌, None, Some, Option, is_some}
+use Rattle.std.proofs.Common.{◌≡◌, ◌+◌, ℕ, Bool, true, false, not, List, [], ◌∷◌, length, inl, inr, refl, sym, ap}
+use Rattle.std.proofs.Common.{subst, ◌∙◌, arith, ◌↔◌, None, Some, Option, is_some}
 use Rattle.std.specs.Cmp.{nat_cmp_total}
 use Rattle.std.specs.Ordering.{nat_cmp}
 use Rattle.std.specs.FinMap.{empty, get, get-empty, insert, nat_cmp-IsAntisymmetric, remove}
-use Rattle.tables.specs.Keys.{text_exact, text_total}
+use Rattle.tables.specs.{text_exact, text_total}
 use Rattle.tables.proofs.Elements.{in_none}
 use Rattle.tables.proofs.Maps.{get-insert_same, get-remove_same, remove_absent}
 use Rattle.tables.proofs.Options.{not_both}
-use Rattle.ocpi_text.specs.Text.{key}
-use Rattle.ocpi_types.specs.declared.events.ChargerEvent.{ChargerEvent}
-use Rattle.ocpi_types.specs.declared.packet.Body.{Body}
-use Rattle.ocpi_types.specs.declared.packet.Body.TheVariants as body
-use Rattle.ocpi_types.specs.declared.packet.Packet.{Packet}
-use Rattle.ocpi_types.specs.declared.replies.Ack.{Ack}
-use Rattle.ocpi_types.specs.declared.rows.Change.{Change}
-use Rattle.ocpi_types.specs.declared.rows.Change.TheVariants.{Drop, Put}
-use Rattle.ocpi_types.specs.declared.rows.Row.TheVariants as row
-use Rattle.ocpi_types.specs.declared.rows.RowKey.TheVariants as keys
-use Rattle.ocpi_types.specs.declared.sessions.Session.{Session}
-use Rattle.ocpi_types.specs.declared.commands.Command.{Command}
-use Rattle.ocpi_types.specs.declared.token.Token.{Token}
-use Rattle.outbox.specs.Outbox.{request_of, without}
+use Rattle.ocpi_text.specs.{key}
+use Rattle.ocpi_types.specs.{Ack, Body, Change, ChargerEvent, Command, Drop, Packet, Put, Session, Token}
+use Rattle.ocpi_types.specs.body
+use Rattle.ocpi_types.specs.row
+use Rattle.ocpi_types.specs.keys
+use Rattle.outbox.specs.{request_of, without}
 use Rattle.outbox.specs.Resend.{Resend}
-use Rattle.session_tables.specs.Moves.{MovesNone}
-use Rattle.session_tables.specs.declared.beginning.Beginning.{Beginning}
-use Rattle.site_book.specs.Sites.{OutOfService, works}
+use Rattle.session_tables.specs.{Beginning, MovesNone}
+use Rattle.site_book.specs.{OutOfService, works}
 use Rattle.node_steps.specs.Acts as act
-use Rattle.node_steps.specs.Acts.{Act, acknowledged, all_messages}
-use Rattle.node_steps.specs.Drafts.{Counters, IsInRange, Step, counted}
+use Rattle.node_steps.specs.{Act, Counters, IsInRange, Step, acknowledged, all_messages, counted}
 use Rattle.node_steps.proofs.Gathering.{step_of_change, step_of_none}
 use Rattle.operator_rows.specs.State.{State}
-use Rattle.operator_rows.specs.Steps.{after, after_full, restarted, untimed, untimed_all}
-use Rattle.operator_rows.specs.Stored.{change_key, changed}
-use Rattle.operator_steps.specs.Acts.{spent, used}
-use Rattle.operator_steps.specs.Asking.{AnswerActs}
+use Rattle.operator_rows.specs.{after, after_full, change_key, changed, restarted, untimed, untimed_all}
+use Rattle.operator_steps.specs.{Acknowledges, AnswerActs, AreInRange, Arrives, Asks, ChargerLine, Comes, CreditLine}
+use Rattle.operator_steps.specs.{EndsNone, Input, IsBegun, IsVersioned, PacketLine, Quietly, Serves, ServiceLine}
+use Rattle.operator_steps.specs.{ShowsNone, StartsNone, TokenLine, Work, acted, counters_of, ends_acts}
+use Rattle.operator_steps.specs.{numbered_sessions, quiet, replaced, spent, step_of_acts, used}
 use Rattle.operator_steps.specs.Charger as charger
-use Rattle.operator_steps.specs.Charger.{ChargerLine, EndsNone, ShowsNone, StartsNone}
 use Rattle.operator_steps.specs.Credits as credits
-use Rattle.operator_steps.specs.Credits.{CreditLine}
-use Rattle.operator_steps.specs.Ends.{ends_acts}
-use Rattle.operator_steps.specs.Events.{Arrives, Asks, Input, Serves}
-use Rattle.operator_steps.specs.Moves.{AreInRange, Quietly, Work, acted, counters_of, quiet, step_of_acts}
 use Rattle.operator_steps.specs.Service as service
-use Rattle.operator_steps.specs.Service.{ServiceLine}
-use Rattle.operator_steps.specs.Sessions.{IsBegun, IsVersioned, numbered_sessions, replaced}
 use Rattle.operator_steps.specs.Steps as packets
-use Rattle.operator_steps.specs.Steps.{Acknowledges, Comes, PacketLine, TokenLine}
 use Rattle.operator_steps.proofs.Ends.{ends_send}
 use Rattle.feeding_laws.proofs.Sending.{Send, not_silent, send_first, send_left, send_right}
 

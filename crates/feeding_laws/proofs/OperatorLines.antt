@@ -1,26 +1,23 @@
 -- A line of several events that reaches an operator once more, where none of them sent anything.
 use Rattle.std.proofs.Common.{◌≡◌, ◌⊎◌, ℕ, Bool, true, false, not, List, [], ◌∷◌, inl, inr, refl, sym, ap, subst, ◌∙◌}
-use Rattle.std.specs.Prelude.{Contains, None, Some, Option, is_some, ⊤}
+use Rattle.std.proofs.Common.{Contains, None, Some, Option, is_some}
+use Rattle.std.specs.Prelude.{⊤}
 use Rattle.std.specs.FinMap.{get, same_map}
-use Rattle.tables.specs.Keys.{text_exact, text_total}
+use Rattle.tables.specs.{text_exact, text_total}
 use Rattle.tables.proofs.Elements.{in_front, in_none}
 use Rattle.tables.proofs.Maps.{told}
-use Rattle.ocpi_types.specs.declared.events.ChargerEvent.{ChargerEvent}
-use Rattle.ocpi_types.specs.declared.events.ChargerEvent.TheVariants as event
-use Rattle.ocpi_types.specs.declared.packet.Packet.{Packet}
-use Rattle.site_book.specs.Sites.{IsEvse, OutOfService}
+use Rattle.ocpi_types.specs.{ChargerEvent, Packet}
+use Rattle.ocpi_types.specs.event
+use Rattle.site_book.specs.{IsEvse, OutOfService}
 use Rattle.node_laws.specs.Runs.{Run}
-use Rattle.node_steps.specs.declared.fault.NodeFault.{NodeFault}
-use Rattle.node_steps.specs.declared.fault.NodeFault.TheVariants.{NotForMe, UnknownOperator, UnknownToken, StampEnd, NumbersUsedUp, Memory}
-use Rattle.operator_rows.specs.Sound.{IsConsistent}
+use Rattle.node_steps.specs.{Memory, NodeFault, NotForMe, NumbersUsedUp, StampEnd, UnknownOperator, UnknownToken}
+use Rattle.operator_rows.specs.{IsConsistent, restarted}
 use Rattle.operator_rows.specs.State.{State}
-use Rattle.operator_rows.specs.Steps.{restarted}
-use Rattle.operator_steps.specs.Events.{Arrives, Credits, Input, Reports, Restarts, Serves, Ticks}
-use Rattle.operator_steps.specs.Moves.{AreInRange, Out, Work, acted}
-use Rattle.operator_steps.specs.Steps.{IsForMe}
+use Rattle.operator_steps.specs.{AreInRange, Arrives, Input, IsForMe, Out, Reports, Restarts, Serves, Ticks, Work}
+use Rattle.operator_steps.specs.{acted}
+use Rattle.operator_steps.specs.Events.{Credits}
 use Rattle.operator_steps.proofs.Orderly.{in_later, of_cons}
-use Rattle.world_steps.specs.Network.{OfOperator}
-use Rattle.world_steps.specs.Steps.{OperatorRefuses}
+use Rattle.world_steps.specs.{OfOperator, OperatorRefuses}
 use Rattle.feeding_laws.specs.Lines.{ActsAnew, Answer, IsAnswer, IsOfEvent, MayChangeRows, Refused, Sent, sent_by}
 use Rattle.feeding_laws.proofs.AnswerBodies.{Answering, answer_or_not, answering}
 use Rattle.feeding_laws.proofs.OperatorEvents as one_event

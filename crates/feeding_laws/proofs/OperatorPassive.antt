@@ -3,35 +3,26 @@ use Rattle.std.proofs.Common.{◌≡◌, ℕ, List, [], inl, inr, refl, sym, ap,
 use Rattle.std.specs.Ordering.{nat_cmp}
 use Rattle.std.specs.FinMap.{get-empty}
 use Rattle.tables.proofs.Options.{not_both}
-use Rattle.ocpi_types.specs.declared.authorizations.Authorization.{Authorization}
-use Rattle.ocpi_types.specs.declared.cdrs.Cdr.{Cdr}
-use Rattle.ocpi_types.specs.declared.events.ChargerEvent.{ChargerEvent}
-use Rattle.ocpi_types.specs.declared.events.ChargerEvent.TheVariants as event
-use Rattle.ocpi_types.specs.declared.packet.Body.TheVariants as body
-use Rattle.ocpi_types.specs.declared.packet.Packet.{Packet}
-use Rattle.ocpi_types.specs.declared.sessions.Session.{Session}
-use Rattle.authorization_book.specs.declared.awaited.Awaited.{Awaited}
+use Rattle.ocpi_types.specs.{Authorization, Cdr, ChargerEvent, Packet, Session}
+use Rattle.ocpi_types.specs.event
+use Rattle.ocpi_types.specs.body
+use Rattle.authorization_book.specs.{Awaited}
 use Rattle.outbox.specs.Pushes.{Pushes}
 use Rattle.reservation_book.specs.Rows as booked
 use Rattle.session_tables.specs.Moves.{Moves}
-use Rattle.session_tables.specs.declared.shown.Shown.{Shown}
-use Rattle.site_book.specs.Sites.{OutOfService}
-use Rattle.node_steps.specs.Acts.{Act, all_messages}
-use Rattle.node_steps.specs.declared.fault.NodeFault.{NodeFault}
-use Rattle.node_steps.specs.declared.fault.NodeFault.TheVariants.{NotForMe, UnknownOperator, UnknownToken, StampEnd, NumbersUsedUp, Memory}
+use Rattle.session_tables.specs.{Shown}
+use Rattle.site_book.specs.{OutOfService}
+use Rattle.node_steps.specs.{Act, Memory, NodeFault, NotForMe, NumbersUsedUp, StampEnd, UnknownOperator, UnknownToken}
+use Rattle.node_steps.specs.{all_messages}
 use Rattle.operator_rows.specs.State.{State}
-use Rattle.operator_rows.specs.Steps.{restarted}
-use Rattle.operator_steps.specs.Asking.{IsAwaited}
+use Rattle.operator_rows.specs.{restarted}
+use Rattle.operator_steps.specs.{Arrives, Asks, ChargerLine, CreditLine, CreditsTo, Input, IsAbout, IsAwaited, Out}
+use Rattle.operator_steps.specs.{PacketLine, Reports, Restarts, Serves, Shows, Ticks, Work, idle, quiet}
 use Rattle.operator_steps.specs.Charger as charger
-use Rattle.operator_steps.specs.Charger.{ChargerLine, IsAbout, Shows}
 use Rattle.operator_steps.specs.Credits as credits
-use Rattle.operator_steps.specs.Credits.{CreditLine, CreditsTo}
-use Rattle.operator_steps.specs.Events.{Arrives, Asks, Credits, Input, Reports, Restarts, Serves, Ticks}
-use Rattle.operator_steps.specs.Moves.{Out, Work, idle, quiet}
+use Rattle.operator_steps.specs.Events.{Credits}
 use Rattle.operator_steps.specs.Steps as lines
-use Rattle.operator_steps.specs.Steps.{PacketLine}
-use Rattle.world_steps.specs.Network.{OfOperator}
-use Rattle.world_steps.specs.Steps.{Done, OperatorDoes, OperatorRefuses, Restarted}
+use Rattle.world_steps.specs.{Done, OfOperator, OperatorDoes, OperatorRefuses, Restarted}
 use Rattle.feeding_laws.specs.Lines.{ActsAnew, Answer, IsAnswer, IsOfEvent, IsSwipe, MayChangeRows, Refused, Sent, sent_by}
 use Rattle.feeding_laws.proofs.AnswerBodies.{Authorizing}
 use Rattle.feeding_laws.proofs.OperatorEvents.{Steps}

@@ -2,37 +2,27 @@
 use Rattle.std.proofs.Common.{◌≡◌, ◌⊎◌, ◌+◌, ◌≤◌, ℕ, Bool, List, [], ◌∷◌, length, inl, inr, refl, sym, ap, subst, ◌∙◌, arith}
 use Rattle.std.specs.Cmp.{nat_cmp_total}
 use Rattle.std.specs.FinMap.{get, insert, nat_cmp-IsAntisymmetric, remove}
-use Rattle.tables.specs.Keys.{text_exact, text_total}
+use Rattle.tables.specs.{text_exact, text_total}
 use Rattle.tables.proofs.Elements.{in_none}
 use Rattle.tables.proofs.Maps.{get-insert_other, get-remove_other, get-remove_same}
 use Rattle.tables.proofs.Options.{not_both}
-use Rattle.ocpi_text.specs.Text.{key}
-use Rattle.ocpi_text.specs.Whole.{max_whole}
-use Rattle.ocpi_types.specs.declared.packet.Body.TheVariants as body
-use Rattle.ocpi_types.specs.declared.packet.Packet.{Packet}
-use Rattle.ocpi_types.specs.declared.replies.Ack.{Ack}
-use Rattle.ocpi_types.specs.declared.rows.Change.{Change}
-use Rattle.ocpi_types.specs.declared.rows.Change.TheVariants.{Drop, Put}
-use Rattle.ocpi_types.specs.declared.rows.Row.TheVariants as row
-use Rattle.ocpi_types.specs.declared.rows.RowKey.TheVariants as keys
-use Rattle.site_book.specs.Sites.{IsEvse, OutOfService, works}
+use Rattle.ocpi_text.specs.{key, max_whole}
+use Rattle.ocpi_types.specs.body
+use Rattle.ocpi_types.specs.{Ack, Change, Drop, Packet, Put}
+use Rattle.ocpi_types.specs.row
+use Rattle.ocpi_types.specs.keys
+use Rattle.site_book.specs.{IsEvse, OutOfService, works}
 use Rattle.node_steps.specs.Acts as act
-use Rattle.node_steps.specs.Acts.{Act, acknowledged, all_messages, all_requests}
-use Rattle.node_steps.specs.Drafts.{IsInRange, Step, counted}
-use Rattle.node_steps.specs.Peers.{IsPeer}
-use Rattle.node_steps.specs.declared.fault.NodeFault.{NodeFault}
-use Rattle.node_steps.specs.declared.fault.NodeFault.TheVariants.{NotForMe, UnknownOperator, UnknownToken, StampEnd, NumbersUsedUp, Memory}
+use Rattle.node_steps.specs.{Act, IsInRange, IsPeer, Memory, NodeFault, NotForMe, NumbersUsedUp, StampEnd, Step}
+use Rattle.node_steps.specs.{UnknownOperator, UnknownToken, acknowledged, all_messages, all_requests, counted}
 use Rattle.node_steps.proofs.Gathering.{step_of_change, step_of_none}
 use Rattle.operator_rows.specs.State.{State}
-use Rattle.operator_rows.specs.Steps.{after_full, restarted}
-use Rattle.operator_rows.specs.Stored.{changed}
-use Rattle.operator_steps.specs.Events.{Arrives, Asks, Input, Restarts, Serves}
-use Rattle.operator_steps.specs.Moves.{AreInRange, Out, Work, acted, counters_of, idle, quiet}
+use Rattle.operator_rows.specs.{after_full, changed, restarted}
+use Rattle.operator_steps.specs.{Acknowledges, AreInRange, Arrives, Asks, Comes, Input, IsForMe, IsTaken, Out}
+use Rattle.operator_steps.specs.{PacketLine, Restarts, Serves, ServiceLine, Work, acted, counters_of, idle, quiet}
 use Rattle.operator_steps.specs.Service as service
-use Rattle.operator_steps.specs.Service.{ServiceLine}
 use Rattle.operator_steps.specs.Steps as packets
-use Rattle.operator_steps.specs.Steps.{Acknowledges, Comes, IsForMe, IsTaken, PacketLine}
-use Rattle.world_steps.specs.Steps.{Done, OperatorDoes, OperatorRefuses, Restarted}
+use Rattle.world_steps.specs.{Done, OperatorDoes, OperatorRefuses, Restarted}
 use Rattle.feeding_laws.specs.Lines.{IsOfEvent}
 use Rattle.feeding_laws.proofs.AnswerBodies.{Answering}
 use Rattle.feeding_laws.proofs.OperatorEvents.{Steps}

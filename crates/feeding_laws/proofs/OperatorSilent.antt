@@ -1,40 +1,31 @@
 -- What an event of an operator that sends nothing leaves of it, as it starts again.
-use Rattle.std.proofs.Common.{◌≡◌, ◌⊎◌, ℕ, Bool, List, [], ◌∷◌, inl, inr, refl, sym, ap, subst, ◌∙◌}
-use Rattle.std.specs.Prelude.{Contains, Some}
+use Rattle.std.proofs.Common.{◌≡◌, ◌⊎◌, ℕ, Bool, List, [], ◌∷◌, inl, inr, refl, sym, ap, subst, ◌∙◌, Contains, Some}
 use Rattle.std.specs.Cmp.{nat_cmp_total}
 use Rattle.std.specs.FinMap.{empty, get, nat_cmp-IsAntisymmetric}
-use Rattle.tables.specs.Keys.{text_exact, text_total}
+use Rattle.tables.specs.{text_exact, text_total}
 use Rattle.tables.proofs.Maps.{get-insert_other, get-remove_other, of_remove, told}
-use Rattle.ocpi_types.specs.declared.packet.Body.TheVariants as body
-use Rattle.ocpi_types.specs.declared.packet.Packet.{Packet}
-use Rattle.ocpi_types.specs.declared.replies.Ack.{Ack}
-use Rattle.ocpi_types.specs.declared.rows.Change.{Change}
-use Rattle.ocpi_types.specs.declared.rows.Change.TheVariants.{Drop, Put}
-use Rattle.ocpi_types.specs.declared.rows.Row.TheVariants as row
-use Rattle.ocpi_types.specs.declared.rows.RowKey.TheVariants as keys
+use Rattle.ocpi_types.specs.body
+use Rattle.ocpi_types.specs.{Ack, Change, Drop, Packet, Put}
+use Rattle.ocpi_types.specs.row
+use Rattle.ocpi_types.specs.keys
 use Rattle.outbox.specs.Pushes.{Pushes}
-use Rattle.outbox.specs.declared.push_book.Outgoing.{Outgoing}
+use Rattle.outbox.specs.{Outgoing}
 use Rattle.reservation_book.specs.Rows as booked
-use Rattle.reservation_book.specs.declared.standing.Standing.{Standing}
-use Rattle.site_book.specs.Sites.{IsEvse, OutOfService}
+use Rattle.reservation_book.specs.{Standing}
+use Rattle.site_book.specs.{IsEvse, OutOfService}
 use Rattle.node_laws.specs.Runs.{Run}
-use Rattle.node_steps.specs.Acts.{Act, all_changes, all_messages}
-use Rattle.operator_rows.specs.Sound.{IsConsistent}
+use Rattle.node_steps.specs.{Act, all_changes, all_messages}
+use Rattle.operator_rows.specs.{IsConsistent, changed_all, restarted}
 use Rattle.operator_rows.specs.State.{Rows, State}
-use Rattle.operator_rows.specs.Steps.{restarted}
-use Rattle.operator_rows.specs.Stored.{changed_all}
-use Rattle.operator_steps.specs.Acts.{freed}
-use Rattle.operator_steps.specs.Ends.{expired_acts}
+use Rattle.operator_steps.specs.{Arrives, Asks, Event, Input, Out, Reports, Restarts, Serves, ServiceLine, Ticks, Work}
+use Rattle.operator_steps.specs.{acted, expired_acts, freed, quiet}
 use Rattle.operator_steps.specs.Events as events
-use Rattle.operator_steps.specs.Events.{Arrives, Asks, Credits, Event, Input, Reports, Restarts, Serves, Ticks}
-use Rattle.operator_steps.specs.Moves.{Out, Work, acted, quiet}
+use Rattle.operator_steps.specs.Events.{Credits}
 use Rattle.operator_steps.specs.Service as service
-use Rattle.operator_steps.specs.Service.{ServiceLine}
 use Rattle.operator_steps.proofs.Freeing.{expired_pushes}
 use Rattle.operator_laws.proofs.events.Facts.{stages_see}
 use Rattle.operator_laws.proofs.events.Standing.{consistent_stays}
-use Rattle.world_steps.specs.Network.{OfOperator}
-use Rattle.world_steps.specs.Steps.{Done, OperatorDoes, OperatorRefuses, Restarted}
+use Rattle.world_steps.specs.{Done, OfOperator, OperatorDoes, OperatorRefuses, Restarted}
 use Rattle.feeding_laws.specs.Lines.{Answer, IsOfEvent, MayChangeRows, Refused, Sent, sent_by}
 use Rattle.feeding_laws.proofs.OperatorEvents as one_event
 use Rattle.feeding_laws.proofs.OperatorEvents.{Steps}

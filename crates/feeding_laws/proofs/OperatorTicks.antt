@@ -1,42 +1,31 @@
 -- A moment that reaches an operator once more, where it sent nothing.
-use Rattle.std.proofs.Common.{◌≡◌, ◌+◌, ℕ, List, [], ◌∷◌, ◌++◌, map, length, cond, eq-eqb, refl, sym, ap, subst, ◌∙◌, arith}
-use Rattle.std.specs.Prelude.{◌↔◌, Contains}
+use Rattle.std.proofs.Common.{◌≡◌, ◌+◌, ℕ, List, [], ◌∷◌, ◌++◌, map, length, cond, eq-eqb, refl, sym, ap, subst, ◌∙◌}
+use Rattle.std.proofs.Common.{arith, ◌↔◌, Contains}
 use Rattle.std.specs.Ordering.{nat_cmp}
 use Rattle.std.specs.FinMap.{empty, get-empty}
 use Rattle.std.proofs.lemmas.List.{append-nil}
 use Rattle.tables.proofs.Elements.{in_front, in_map, in_none, not_none}
 use Rattle.tables.proofs.Options.{not_both}
-use Rattle.ocpi_types.specs.declared.rows.Change.{Change}
-use Rattle.ocpi_types.specs.declared.rows.Change.TheVariants.{Put}
-use Rattle.ocpi_types.specs.declared.rows.Counter.{Counter}
-use Rattle.ocpi_types.specs.declared.rows.Counter.TheVariants as counter
-use Rattle.ocpi_types.specs.declared.rows.Row.TheVariants as row
-use Rattle.ocpi_types.specs.declared.rows.RowKey.TheVariants as keys
+use Rattle.ocpi_types.specs.{Change, Counter, Put}
+use Rattle.ocpi_types.specs.counter
+use Rattle.ocpi_types.specs.row
+use Rattle.ocpi_types.specs.keys
 use Rattle.authorization_book.specs.Waits as waits
-use Rattle.authorization_book.specs.declared.waiting.Waiting.TheVariants.{Ends}
+use Rattle.authorization_book.specs.{Ends}
 use Rattle.command_book.specs.Due as commands
-use Rattle.outbox.specs.Due.{AreExactly, IsDue}
-use Rattle.outbox.specs.Outbox.{OutboxRows}
+use Rattle.outbox.specs.{AreExactly, IsDue, OutboxRows}
 use Rattle.outbox.specs.Pushes.{Pushes}
-use Rattle.reservation_book.specs.Calls.{AreExpired}
-use Rattle.reservation_book.specs.declared.standing.Standing.{Standing}
-use Rattle.node_steps.specs.Acts.{Act, all_changes, all_messages, all_requests, all_volatile, changed}
-use Rattle.node_steps.specs.Drafts.{IsInRange, count_change, counted, later}
-use Rattle.node_steps.specs.Messages.{Message, numbered}
-use Rattle.node_steps.specs.declared.plan.Volatile.{Volatile}
+use Rattle.reservation_book.specs.{AreExpired, Standing}
+use Rattle.node_steps.specs.{Act, IsInRange, Message, Volatile, all_changes, all_messages, all_requests, all_volatile}
+use Rattle.node_steps.specs.{changed, count_change, counted, later, numbered}
 use Rattle.node_steps.proofs.Gathering.{changes_append, messages_append, requests_append, volatile_append}
-use Rattle.operator_rows.specs.State.{Rows, State, as_outbox}
-use Rattle.operator_rows.specs.Sound.{IsConsistent}
-use Rattle.operator_rows.specs.Steps.{restarted, timed_all}
-use Rattle.operator_rows.specs.Stored.{changed_all}
+use Rattle.operator_rows.specs.{IsConsistent, as_outbox, changed_all, restarted, timed_all}
+use Rattle.operator_rows.specs.State.{Rows, State}
 use Rattle.operator_rows.proofs.KeepingTimes.{restarted_consistent}
-use Rattle.operator_steps.specs.declared.ending.Ending.{Ending}
-use Rattle.operator_steps.specs.Ends.{all_resent, expired_acts}
-use Rattle.operator_steps.specs.Events.{Ticks}
-use Rattle.operator_steps.specs.Moves.{AreInRange, Work, acted, counters_of, quiet, step_of_acts}
-use Rattle.operator_steps.specs.Tick.{TickLine, TimeOut, request_of}
+use Rattle.operator_steps.specs.{AreInRange, AreLeftUnanswered, Ending, IsStillDue, IsTickOf, TickLine, Ticks, TimeOut}
+use Rattle.operator_steps.specs.{Work, acted, all_resent, counters_of, expired_acts, quiet, request_of, step_of_acts}
+use Rattle.operator_steps.specs.{tick_acts}
 use Rattle.operator_steps.specs.TickFacts as left
-use Rattle.operator_steps.specs.TickFacts.{AreLeftUnanswered, IsStillDue, IsTickOf, tick_acts}
 use Rattle.operator_steps.proofs.Expiring.{expired_ask, expired_silent, expired_untold, of_expired, reservation_of}
 use Rattle.operator_steps.proofs.Fitting.{rows_after}
 use Rattle.operator_steps.proofs.Freeing.{expired_booked, expired_commands, expired_numbers, expired_pushes}

@@ -1,16 +1,14 @@
 -- An event of a provider that sent nothing, once more.
 use Rattle.std.proofs.Common.{◌≡◌, ℕ, List, [], refl, sym, ap, subst, ◌∙◌}
-use Rattle.ocpi_text.specs.Text.{key}
-use Rattle.ocpi_types.specs.declared.packet.Packet.{Packet}
-use Rattle.node_steps.specs.Acts.{Act, all_messages}
-use Rattle.node_steps.specs.Peers.{IsPeer}
-use Rattle.node_steps.specs.declared.fault.NodeFault.{NodeFault}
-use Rattle.node_steps.specs.declared.fault.NodeFault.TheVariants.{NotForMe, UnknownOperator, UnknownToken, StampEnd, NumbersUsedUp, Memory}
+use Rattle.ocpi_text.specs.{key}
+use Rattle.ocpi_types.specs.{Packet}
+use Rattle.node_steps.specs.{Act, IsPeer, Memory, NodeFault, NotForMe, NumbersUsedUp, StampEnd, UnknownOperator}
+use Rattle.node_steps.specs.{UnknownToken, all_messages}
 use Rattle.provider_rows.specs.State.{State}
-use Rattle.provider_rows.specs.Steps.{restarted}
-use Rattle.provider_steps.specs.Events.{Arrives, Asks, Event, Gives, Input, Restarts, Submits, Ticks, event_out}
-use Rattle.provider_steps.specs.Moves.{AreInRange, Out, StepBy, acted}
-use Rattle.world_steps.specs.Steps.{Done, ProviderDoes, ProviderRefuses, Restarted}
+use Rattle.provider_rows.specs.{restarted}
+use Rattle.provider_steps.specs.{AreInRange, Arrives, Asks, Event, Gives, Input, Out, Restarts, StepBy, Submits, Ticks}
+use Rattle.provider_steps.specs.{acted, event_out}
+use Rattle.world_steps.specs.{Done, ProviderDoes, ProviderRefuses, Restarted}
 use Rattle.feeding_laws.proofs.ProviderFeeding.{IsForNone, IsSafe, asked_safe, no_order, no_token, tick_unchanged}
 use Rattle.feeding_laws.proofs.Sending.{silent}
 

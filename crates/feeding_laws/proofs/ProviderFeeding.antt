@@ -1,6 +1,5 @@
 -- An event that reaches a provider once more, where it sent nothing.
-use Rattle.std.proofs.Common.{◌≡◌, ℕ, List, [], ◌∷◌, length, refl, sym, ap, subst, ◌∙◌, arith}
-use Rattle.std.specs.Prelude.{◌↔◌, None, Option, Some}
+use Rattle.std.proofs.Common.{◌≡◌, ℕ, List, [], ◌∷◌, length, refl, sym, ap, subst, ◌∙◌, arith, ◌↔◌, None, Option, Some}
 use Rattle.std.specs.Cmp.{nat_cmp_total}
 use Rattle.std.specs.Ordering.{nat_cmp}
 use Rattle.std.specs.FinMap.{empty, get, get-empty, nat_cmp-IsAntisymmetric}
@@ -8,36 +7,21 @@ use Rattle.std.proofs.lemmas.Option.{same_Some}
 use Rattle.tables.proofs.Elements.{in_none}
 use Rattle.tables.proofs.Maps.{get-insert_same, get-remove_same, remove_absent}
 use Rattle.tables.proofs.Options.{not_both}
-use Rattle.ocpi_types.specs.declared.packet.Body.{Body}
-use Rattle.ocpi_types.specs.declared.packet.Body.TheVariants as body
-use Rattle.ocpi_types.specs.declared.packet.Packet.{Packet}
-use Rattle.ocpi_types.specs.declared.replies.Ack.{Ack}
-use Rattle.ocpi_types.specs.declared.replies.CommandResponse.{CommandResponse}
-use Rattle.ocpi_types.specs.declared.rows.Change.{Change}
-use Rattle.ocpi_types.specs.declared.rows.Change.TheVariants.{Drop, Put}
-use Rattle.ocpi_types.specs.declared.rows.Row.TheVariants as row
-use Rattle.ocpi_types.specs.declared.rows.RowKey.TheVariants as keys
-use Rattle.ocpi_types.specs.declared.stored.Reply.{Reply}
-use Rattle.ocpi_types.specs.declared.stored.SentCommand.{SentCommand}
-use Rattle.ocpi_types.specs.declared.events.Order.{Order}
-use Rattle.ocpi_types.specs.declared.token.Token.{Token}
-use Rattle.outbox.specs.Outbox.{request_of, without}
+use Rattle.ocpi_types.specs.{Ack, Body, Change, CommandResponse, Drop, Order, Packet, Put, Reply, SentCommand, Token}
+use Rattle.ocpi_types.specs.body
+use Rattle.ocpi_types.specs.row
+use Rattle.ocpi_types.specs.keys
+use Rattle.outbox.specs.{request_of, without}
 use Rattle.outbox.specs.Resend.{Resend}
 use Rattle.node_steps.specs.Acts as act
-use Rattle.node_steps.specs.Acts.{Act, acknowledged, all_messages}
-use Rattle.node_steps.specs.Drafts.{Counters, IsInRange, Step, counted}
+use Rattle.node_steps.specs.{Act, Counters, IsInRange, Step, acknowledged, all_messages, counted}
 use Rattle.node_steps.proofs.Gathering.{step_of_change, step_of_none}
 use Rattle.provider_rows.specs.State.{State}
-use Rattle.provider_rows.specs.Steps.{after, restarted}
-use Rattle.provider_rows.specs.Stored.{change_key, changed}
-use Rattle.provider_steps.specs.Acts.{with_answer}
-use Rattle.provider_steps.specs.Events.{Arrives, Asks, Gives, Input, Restarts, Submits, Ticks}
-use Rattle.provider_steps.specs.Moves.{AreInRange, acted, counters_of, step_of_acts}
-use Rattle.provider_steps.specs.Orders.{OrderLine}
+use Rattle.provider_rows.specs.{after, change_key, changed, restarted}
+use Rattle.provider_steps.specs.{Acknowledges, Answers, AreInRange, Arrives, Asks, Comes, Gives, Input, IsAwaited}
+use Rattle.provider_steps.specs.{IsRequest, OrderLine, PacketLine, Restarts, Submits, TickLine, Ticks, TokenLine, acted}
+use Rattle.provider_steps.specs.{all_resent, counters_of, step_of_acts, with_answer}
 use Rattle.provider_steps.specs.Packets as packets
-use Rattle.provider_steps.specs.Packets.{Acknowledges, Answers, Comes, IsAwaited, IsRequest, PacketLine}
-use Rattle.provider_steps.specs.Tick.{TickLine, all_resent}
-use Rattle.provider_steps.specs.Tokens.{TokenLine}
 use Rattle.provider_steps.proofs.OrderSteps.{order_sends}
 use Rattle.provider_steps.proofs.TickSteps.{tick_sends}
 use Rattle.provider_steps.proofs.TokenSteps.{token_sends}

@@ -1,30 +1,23 @@
 -- A line of several events that reaches a provider once more, where none of them sent anything.
-use Rattle.std.proofs.Common.{◌≡◌, ℕ, List, [], ◌∷◌, inl, inr, refl, sym, ap, subst, ◌∙◌}
-use Rattle.std.specs.Prelude.{Contains, ⊤}
+use Rattle.std.proofs.Common.{◌≡◌, ℕ, List, [], ◌∷◌, inl, inr, refl, sym, ap, subst, ◌∙◌, Contains}
+use Rattle.std.specs.Prelude.{⊤}
 use Rattle.tables.proofs.Elements.{in_front}
 use Rattle.tables.proofs.Options.{not_both}
-use Rattle.ocpi_types.specs.declared.commands.Command.{Command}
-use Rattle.ocpi_types.specs.declared.events.Order.{Order}
-use Rattle.ocpi_types.specs.declared.events.Order.TheVariants as order
-use Rattle.ocpi_types.specs.declared.packet.Packet.{Packet}
-use Rattle.ocpi_types.specs.declared.token.Token.{Token}
+use Rattle.ocpi_types.specs.{Command, Order, Packet, Token}
+use Rattle.ocpi_types.specs.order
 use Rattle.outbox.specs.Commands.{Commands}
 use Rattle.outbox.specs.Pushes.{Pushes}
 use Rattle.node_laws.specs.Runs.{Run}
-use Rattle.node_steps.specs.Acts.{Act, all_messages}
-use Rattle.node_steps.specs.declared.fault.NodeFault.{NodeFault}
-use Rattle.node_steps.specs.declared.fault.NodeFault.TheVariants.{NotForMe, UnknownOperator, UnknownToken, StampEnd, NumbersUsedUp, Memory}
+use Rattle.node_steps.specs.{Act, Memory, NodeFault, NotForMe, NumbersUsedUp, StampEnd, UnknownOperator, UnknownToken}
+use Rattle.node_steps.specs.{all_messages}
 use Rattle.operator_steps.proofs.Orderly.{in_later, of_cons}
 use Rattle.provider_rows.specs.State.{State}
-use Rattle.provider_rows.specs.Steps.{restarted}
-use Rattle.provider_steps.specs.Events.{Arrives, Asks, Gives, Input, Restarts, Submits, Ticks}
-use Rattle.provider_steps.specs.Moves.{Out, acted, idle}
+use Rattle.provider_rows.specs.{restarted}
+use Rattle.provider_steps.specs.{Arrives, Asks, Gives, Input, IsForMe, LacksToken, Makes, OrderLine, Out, PacketLine}
+use Rattle.provider_steps.specs.{Restarts, Submits, Ticks, acted, idle}
 use Rattle.provider_steps.specs.Orders as orders
-use Rattle.provider_steps.specs.Orders.{LacksToken, Makes, OrderLine}
 use Rattle.provider_steps.specs.Packets as packets
-use Rattle.provider_steps.specs.Packets.{IsForMe, PacketLine}
-use Rattle.world_steps.specs.Network.{OfProvider}
-use Rattle.world_steps.specs.Steps.{Done, ProviderDoes, ProviderRefuses, Restarted}
+use Rattle.world_steps.specs.{Done, OfProvider, ProviderDoes, ProviderRefuses, Restarted}
 use Rattle.feeding_laws.specs.Lines.{ActsAnew, Answer, IsAnswer, MayChangeRows, Refused, Sent, sent_by}
 use Rattle.feeding_laws.proofs.AnswerBodies.{answer_or_not, answering}
 use Rattle.feeding_laws.proofs.ProviderEvents as one_event

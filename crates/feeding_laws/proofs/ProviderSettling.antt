@@ -1,41 +1,29 @@
 -- What an event of a provider that sends nothing leaves of it, as it starts again.
-use Rattle.std.proofs.Common.{◌≡◌, ℕ, List, [], ◌∷◌, inl, inr, refl, sym, ap, subst, ◌∙◌}
-use Rattle.std.specs.Prelude.{None, Some}
+use Rattle.std.proofs.Common.{◌≡◌, ℕ, List, [], ◌∷◌, inl, inr, refl, sym, ap, subst, ◌∙◌, None, Some}
 use Rattle.std.specs.Cmp.{nat_cmp_total}
 use Rattle.std.specs.FinMap.{empty, get, nat_cmp-IsAntisymmetric}
 use Rattle.tables.proofs.Elements.{in_none}
 use Rattle.tables.proofs.Maps.{get-remove_same, of_insert, of_remove}
 use Rattle.tables.proofs.Options.{not_both}
-use Rattle.ocpi_text.specs.Text.{key}
-use Rattle.ocpi_types.specs.declared.packet.Body.{Body}
-use Rattle.ocpi_types.specs.declared.packet.Body.TheVariants as body
-use Rattle.ocpi_types.specs.declared.packet.Packet.{Packet}
-use Rattle.ocpi_types.specs.declared.replies.Ack.{Ack}
-use Rattle.ocpi_types.specs.declared.replies.CommandResponse.{CommandResponse}
-use Rattle.ocpi_types.specs.declared.rows.Change.{Change}
-use Rattle.ocpi_types.specs.declared.rows.Change.TheVariants.{Drop, Put}
-use Rattle.ocpi_types.specs.declared.rows.Row.TheVariants as row
-use Rattle.ocpi_types.specs.declared.rows.RowKey.TheVariants as keys
-use Rattle.ocpi_types.specs.declared.stored.SentCommand.{SentCommand}
+use Rattle.ocpi_text.specs.{key}
+use Rattle.ocpi_types.specs.{Ack, Body, Change, CommandResponse, Drop, Packet, Put, SentCommand}
+use Rattle.ocpi_types.specs.body
+use Rattle.ocpi_types.specs.row
+use Rattle.ocpi_types.specs.keys
 use Rattle.outbox.specs.Commands.{Commands}
 use Rattle.outbox.specs.Pushes.{Pushes}
-use Rattle.outbox.specs.declared.push_book.Outgoing.{Outgoing}
+use Rattle.outbox.specs.{Outgoing}
 use Rattle.node_steps.specs.Acts as act
-use Rattle.node_steps.specs.Acts.{Act, acknowledged, all_messages}
-use Rattle.node_steps.specs.Drafts.{IsInRange, Step, counted}
-use Rattle.node_steps.specs.Peers.{IsPeer}
-use Rattle.node_steps.specs.declared.fault.NodeFault.{NodeFault}
-use Rattle.node_steps.specs.declared.fault.NodeFault.TheVariants.{NotForMe, UnknownOperator, UnknownToken, StampEnd, NumbersUsedUp, Memory}
+use Rattle.node_steps.specs.{Act, IsInRange, IsPeer, Memory, NodeFault, NotForMe, NumbersUsedUp, StampEnd, Step}
+use Rattle.node_steps.specs.{UnknownOperator, UnknownToken, acknowledged, all_messages, counted}
 use Rattle.node_steps.proofs.Gathering.{step_of_none}
 use Rattle.provider_rows.specs.State.{State}
-use Rattle.provider_rows.specs.Steps.{after, restarted}
-use Rattle.provider_steps.specs.Acts.{kept, with_answer}
-use Rattle.provider_steps.specs.Events.{Arrives, Asks, Event, Gives, Input, Restarts, Submits, Ticks}
-use Rattle.provider_steps.specs.Moves.{AreInRange, Out, acted, counters_of, idle}
+use Rattle.provider_rows.specs.{after, restarted}
+use Rattle.provider_steps.specs.{Acknowledges, AreInRange, Arrives, Asks, Comes, Event, Gives, Input, IsAwaited}
+use Rattle.provider_steps.specs.{IsForMe, IsRequest, IsTaken, Out, PacketLine, Restarts, Submits, Ticks, acted}
+use Rattle.provider_steps.specs.{counters_of, idle, kept, with_answer}
 use Rattle.provider_steps.specs.Packets as packets
-use Rattle.provider_steps.specs.Packets.{Acknowledges, Comes, IsAwaited, IsForMe, IsRequest, IsTaken, PacketLine}
-use Rattle.world_steps.specs.Network.{OfProvider}
-use Rattle.world_steps.specs.Steps.{Done, ProviderDoes, ProviderRefuses, Restarted}
+use Rattle.world_steps.specs.{Done, OfProvider, ProviderDoes, ProviderRefuses, Restarted}
 use Rattle.feeding_laws.specs.Lines.{Answer, IsAnswer, IsOfEvent, MayChangeRows, Refused, Sent, sent_by}
 use Rattle.feeding_laws.proofs.AnswerBodies.{Answering}
 use Rattle.feeding_laws.proofs.ProviderEvents as one_event

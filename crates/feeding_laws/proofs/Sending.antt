@@ -1,10 +1,8 @@
 -- Acts that send something.
-use Rattle.std.proofs.Common.{◌≡◌, ℕ, List, [], ◌∷◌, ◌++◌, refl, sym, subst}
-use Rattle.std.specs.Prelude.{Contains}
+use Rattle.std.proofs.Common.{◌≡◌, ℕ, List, [], ◌∷◌, ◌++◌, refl, sym, subst, Contains}
 use Rattle.std.proofs.lemmas.List.Elements.{Contains-append_left, Contains-append_right}
 use Rattle.tables.proofs.Elements.{in_front, in_none, not_none}
-use Rattle.node_steps.specs.Acts.{Act, all_messages}
-use Rattle.node_steps.specs.Messages.{Message, numbered}
+use Rattle.node_steps.specs.{Act, Message, all_messages, numbered}
 use Rattle.node_steps.proofs.Gathering.{messages_append}
 
 -- a message is among what they send

@@ -1,12 +1,11 @@
 -- What an event does that reaches a node once more after a stop, and what tells that it may.
 use Rattle.std.specs.Prelude.{◌≡◌, ◌↔◌, List, []}
-use Rattle.node_steps.specs.declared.fault.NodeFault.{NodeFault}
-use Rattle.ocpi_types.specs.declared.packet.Packet.{Packet}
+use Rattle.node_steps.specs.{NodeFault}
+use Rattle.ocpi_types.specs.{Packet}
 use Rattle.provider_steps.specs.Events as provider
-use Rattle.stored_laws.specs.Nodes.{IsSound, last_serial, restarted}
-use Rattle.world_steps.specs.Network.{Input, OfOperator, OfProvider}
-use Rattle.world_steps.specs.Steps.{NodeEvent, NodeRefuses, NodeStep, input_of, packets_of}
-use Rattle.world_steps.specs.World.{NodeState, Operates, Provides}
+use Rattle.stored_laws.specs.{IsSound, last_serial, restarted}
+use Rattle.world_steps.specs.{Input, NodeEvent, NodeRefuses, NodeState, NodeStep, OfOperator, OfProvider, Operates}
+use Rattle.world_steps.specs.{Provides, input_of, packets_of}
 
 -- a token is given to a provider that deals with no operator: it is stored each time, as a later version
 abbrev pub IsTokenForNone : NodeState → Input → Type 0

@@ -4,21 +4,14 @@
 use Rattle.std.specs.Prelude.{◌≡◌, ◌⊎◌, ◌↔◌, ◌+◌, List, [], ◌∷◌, map, length, Contains, ⊤}
 use Rattle.std.specs.List.{flat_map}
 use Rattle.node_laws.specs.Runs.{Run}
-use Rattle.node_steps.specs.declared.fault.NodeFault.{NodeFault}
-use Rattle.node_steps.specs.declared.fault.NodeFault.TheVariants.{NotForMe, UnknownOperator, UnknownToken, StampEnd, NumbersUsedUp, Memory}
-use Rattle.ocpi_types.specs.declared.events.ChargerEvent.{ChargerEvent}
-use Rattle.ocpi_types.specs.declared.events.ChargerEvent.TheVariants as event
-use Rattle.ocpi_types.specs.declared.packet.Body.{Body}
-use Rattle.ocpi_types.specs.declared.packet.Body.TheVariants as body
-use Rattle.ocpi_types.specs.declared.packet.Packet.{Packet}
-use Rattle.ocpi_types.specs.declared.replies.Ack.{Ack}
-use Rattle.ocpi_types.specs.declared.replies.CommandResponse.{CommandResponse}
+use Rattle.node_steps.specs.{Memory, NodeFault, NotForMe, NumbersUsedUp, StampEnd, UnknownOperator, UnknownToken}
+use Rattle.ocpi_types.specs.{Ack, Body, ChargerEvent, CommandResponse, Packet}
+use Rattle.ocpi_types.specs.event
+use Rattle.ocpi_types.specs.body
 use Rattle.operator_steps.specs.Events as operator
 use Rattle.provider_steps.specs.Events as provider
-use Rattle.stored_laws.specs.Nodes.{CanStartAgain, IsSound, last_serial, restarted}
-use Rattle.world_steps.specs.Network.{Input, OfOperator, OfProvider}
-use Rattle.world_steps.specs.Steps.{NodeRefuses}
-use Rattle.world_steps.specs.World.{NodeState}
+use Rattle.stored_laws.specs.{CanStartAgain, IsSound, last_serial, restarted}
+use Rattle.world_steps.specs.{Input, NodeRefuses, NodeState, OfOperator, OfProvider}
 use Rattle.feeding_laws.specs.Feeding.{IsTokenForNone, Leads}
 
 -- ---- what becomes of the events of a line

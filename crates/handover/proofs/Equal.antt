@@ -1,17 +1,10 @@
 -- Charge detail records are equal just where `==` says so: in every field, as spelled.
-use Rattle.std.proofs.Common.{rules, ◌≡◌, Bool, true, false, List, ℕ, refl}
-use Rattle.std.specs.Prelude.{◌&&◌, Option, nat_eq}
+use Rattle.std.proofs.Common.{rules, ◌≡◌, Bool, true, false, List, ℕ, refl, ◌&&◌, Option, nat_eq}
 use Rattle.std.specs.Bool.{Decides}
 use Rattle.std.specs.Cmp.{unsigned_Decides, signed_Decides}
 use Rattle.std.specs.Cmp.Lexicographic.{pointwise, pointwise_decides, bytes_decides}
 use Rattle.std.specs.Option.{option_eq}
-use Rattle.ocpi_types.specs.declared.cdrs.Cdr.{Cdr}
-use Rattle.ocpi_types.specs.declared.cdrs.CdrDimension.{CdrDimension}
-use Rattle.ocpi_types.specs.declared.cdrs.CdrLocation.{CdrLocation}
-use Rattle.ocpi_types.specs.declared.cdrs.ChargingPeriod.{ChargingPeriod}
-use Rattle.ocpi_types.specs.declared.sessions.Price.{Price}
-use Rattle.ocpi_types.specs.declared.token.CdrToken.{CdrToken}
-use Rattle.ocpi_types.specs.declared.words.AuthMethod.{AuthMethod}
+use Rattle.ocpi_types.specs.{AuthMethod, Cdr, CdrDimension, CdrLocation, CdrToken, ChargingPeriod, Price}
 use Rattle.ocpi_types.specs.contracts.cdrs.CdrPartialEq.TheImpl as cdr
 use Rattle.ocpi_types.specs.contracts.cdrs.CdrDimensionPartialEq.TheImpl as dimension
 use Rattle.ocpi_types.specs.contracts.cdrs.CdrLocationPartialEq.TheImpl as location

@@ -1,17 +1,15 @@
 -- Sessions and records that are held.
-use Rattle.std.proofs.Common.{◌≡◌, ◌≢◌, ◌↔◌, inl, inr, ℕ, List, refl, sym, ap, ◌∙◌}
-use Rattle.std.specs.Prelude.{Some, IsTrue}
+use Rattle.std.proofs.Common.{◌≡◌, ◌↔◌, inl, inr, ℕ, List, sym, ap, ◌∙◌, Some, IsTrue}
 use Rattle.std.specs.FinMap.{FinMap, get, insert, remove, empty, get-empty, contains_key}
-use Rattle.ocpi_text.specs.Text.{key}
-use Rattle.tables.specs.Keys.{text_pair_cmp, text_pair_total, text_pair_exact, text_total, text_exact}
+use Rattle.ocpi_text.specs.{key}
+use Rattle.tables.specs.{text_exact, text_pair_cmp, text_pair_exact, text_pair_total, text_total}
 use Rattle.tables.proofs.Maps.{of_insert, told, of_remove}
-use Rattle.ocpi_types.specs.Credits.{AreAlike, is_credit}
-use Rattle.ocpi_types.specs.declared.sessions.Session.{Session}
-use Rattle.ocpi_types.specs.declared.cdrs.Cdr.{Cdr}
-use Rattle.ocpi_types.specs.declared.rows.Row.TheVariants as row
-use Rattle.ocpi_types.specs.declared.rows.RowKey.TheVariants as keys
+use Rattle.ocpi_types.specs.{AreAlike, Cdr, Session, is_credit}
+use Rattle.ocpi_types.specs.row
+use Rattle.ocpi_types.specs.keys
 use Rattle.handover.specs.Cdrs.{Cdrs, CdrRooms, AreOwnCdrs, HasOther, HasOnePerSession, cdr_key, group_of}
-use Rattle.handover.specs.Inbox.{Sessions, AreOwnSessions, KeepsRoom, KeepsOtherRoom, IsInConflict, IsNewBeside, BillsStandBesideCredits, session_key}
+use Rattle.handover.specs.Inbox.{Sessions, AreOwnSessions, KeepsRoom, KeepsOtherRoom, IsInConflict}
+use Rattle.handover.specs.Inbox.{BillsStandBesideCredits, session_key}
 use Rattle.handover.specs.declared.takings.CdrTaking.{CdrTaking}
 use Rattle.handover.specs.declared.takings.CdrTaking.TheVariants.{Taken, Kept, Conflict}
 use Rattle.handover.proofs.Keeping.{Texts}
@@ -71,16 +69,6 @@ other_conflict m x own h = record {
   shares = inr (h.1.2, h.1.3);
   differs = λ same. h.2 (ap (λ (k : Texts). k.1) (own (key x.party, h.0) h.1.0 h.1.1) ∙ ap (λ (y : Cdr). key y.id) same);
 }
-
-pub held_conflict : (m : Cdrs) (x y : Cdr) → get m (cdr_key x) ≡ Some y → y ≢ x → IsInConflict m x
-held_conflict m x y had apart = record { id = key x.id; held = y; stands = had; shares = inl refl; differs = apart }
-
--- and nothing else is
-pub no_conflict : (m : Cdrs) (x : Cdr) → (HasOther m (group_of x) (key x.id) → ⊥) → ((y : Cdr) → get m (cdr_key x) ≡ Some y → y ≡ x) → IsInConflict m x → ⊥
-no_conflict m x none same c = elim (told text_total text_exact c.id (key x.id)) [
-  | inl is ↦ c.differs (same c.held (ap (λ (i : List ℕ). get m (key x.party, i)) (sym is) ∙ c.stands))
-  | inr apart ↦ elim c.shares [ inl is ↦ apart is | inr session ↦ none (c.id, (c.held, c.stands, session.0, session.1), apart) ]
-]
 
 -- nor is a bill beside a credit of its session, or a credit beside a bill
 pub bills_stand_beside_credits : BillsStandBesideCredits

@@ -1,18 +1,14 @@
 -- The rows of an inbox as a list, and the inbox of that list.
-use Rattle.std.proofs.Common.{◌≡◌, ◌≢◌, List, [], ◌∷◌, ◌++◌, map, inl, inr, refl, sym, ap, subst, ◌∙◌}
-use Rattle.std.specs.Prelude.{Some, Contains}
+use Rattle.std.proofs.Common.{◌≡◌, ◌≢◌, List, [], ◌∷◌, ◌++◌, map, inl, inr, refl, sym, ap, subst, ◌∙◌, Some, Contains}
 use Rattle.std.specs.List.{AllPairs}
 use Rattle.std.specs.Cmp.{IsTotalOrder}
 use Rattle.std.specs.FinMap.{FinMap, IsAntisymmetric, get, insert, entries, same_map, empty, get-empty, len-entries, len-empty}
 use Rattle.std.specs.declared.cmp.Ordering.{Ordering}
 use Rattle.std.proofs.lemmas.List.Elements.{Contains-append_left, Contains-append_right, Contains-append_cases}
 use Rattle.std.proofs.lemmas.List.{nil_from_length}
-use Rattle.tables.specs.Keys.{text_pair_cmp, text_pair_total, text_pair_exact}
-use Rattle.ocpi_types.specs.Rows.{key_of}
-use Rattle.ocpi_types.specs.declared.cdrs.Cdr.{Cdr}
-use Rattle.ocpi_types.specs.declared.sessions.Session.{Session}
-use Rattle.ocpi_types.specs.declared.rows.Row.{Row}
-use Rattle.ocpi_types.specs.declared.rows.Row.TheVariants as row
+use Rattle.tables.specs.{text_pair_cmp, text_pair_exact, text_pair_total}
+use Rattle.ocpi_types.specs.{Cdr, Row, Session, key_of}
+use Rattle.ocpi_types.specs.row
 use Rattle.handover.specs.Cdrs.{cdr_key, cdr_row, cdr_rows}
 use Rattle.handover.specs.Inbox.{InboxRows, no_rows, HasRow, put_row, session_key}
 use Rattle.handover.specs.InboxListing.{AreOwnRows, AreRowsOf, RowsAreAll, put_rows, rows_of, session_row}

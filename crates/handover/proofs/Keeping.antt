@@ -1,24 +1,24 @@
 -- What stands beside the records is kept by each change of them.
-use Rattle.std.proofs.Common.{◌≡◌, ◌≢◌, ◌↔◌, ◌⊎◌, inl, inr, ℕ, ◌<◌, ◌≤◌, ◌^◌, true, false, cond, List, [], map, refl, sym, ap, subst, ◌∙◌, arith}
+use Rattle.std.proofs.Common.{◌≡◌, ◌≢◌, ◌↔◌, ◌⊎◌, inl, inr, ℕ, ◌<◌, ◌≤◌, ◌^◌, true, false, cond, List, [], map, refl}
+use Rattle.std.proofs.Common.{sym, ap, subst, ◌∙◌, arith, ℤ, pos, ◌+ℤ◌, neg_ℤ, unsigned_abs, Some, None, IsTrue}
 use Rattle.std.proofs.lemmas.Int.{ints}
-use Rattle.std.specs.Prelude.{ℤ, pos, ◌+ℤ◌, neg_ℤ, unsigned_abs, Some, None, IsTrue, unwrap_or, is_some}
+use Rattle.std.specs.Prelude.{unwrap_or}
 use Rattle.std.specs.FinMap.{FinMap, get, insert, remove, empty, entries, values, contains_key, get-empty, len, len-entries, len-empty, IsAntisymmetric}
 use Rattle.std.specs.Ordering.{bool_cmp}
-use Rattle.tables.specs.Keys.{text_cmp, text_pair_cmp, text_total, text_exact, text_pair_total, text_pair_exact, pair_cmp, pair_exact, bool_exact}
+use Rattle.tables.specs.{bool_exact, pair_cmp, pair_exact, text_cmp, text_exact, text_pair_cmp, text_pair_exact}
+use Rattle.tables.specs.{text_pair_total, text_total}
 use Rattle.tables.proofs.Maps.{get-insert_same, get-insert_other, told, of_remove}
 use Rattle.std.specs.Cmp.{IsTotalOrder, bool_cmp_total}
 use Rattle.std.specs.declared.cmp.Ordering.{Ordering}
 use Rattle.std.proofs.lemmas.Cmp.{on_total, then_total}
-use Rattle.ocpi_text.specs.Text.{key}
-use Rattle.ocpi_text.specs.Decimal.{e4_limit}
-use Rattle.ocpi_types.specs.Credits.{is_credit}
-use Rattle.ocpi_types.specs.declared.cdrs.Cdr.{Cdr}
+use Rattle.ocpi_text.specs.{e4_limit, key}
+use Rattle.ocpi_types.specs.{Cdr, is_credit}
 use Rattle.handover.specs.Owed.{Account, account_of, cost_in, seen_by, is_account, owed, sum_at, total}
 use Rattle.handover.specs.Cdrs.{Cdrs, Group, SessionKey, group_of, session_cmp, cdr_key, IsOfSession, IsKept, session_entry, record_key, HasOther, HasLaterId, CdrRooms, HasRoomOfCdr, KeepsCdrRoom, GivesCdrBack}
 use Rattle.handover.proofs.Neighbours.{HasElse, HasLater}
 use Rattle.handover.proofs.Totals.{term_at, total_insert, total_remove, bounded_sum}
 use Rattle.std.proofs.lemmas.Option.{same_Some}
-use Rattle.tables.proofs.Options.{not_both, none_else}
+use Rattle.tables.proofs.Options.{not_both}
 use Rattle.tables.proofs.Rooms.{other_room, room_gone}
 use Rattle.tables.proofs.Indexing.{listed, unlisted, nothing_listed}
 use Rattle.std.proofs.lemmas.List.{nil_from_length}
@@ -183,12 +183,6 @@ module _ (m : Cdrs) (sessions : FinMap session_cmp (Unit {0})) (sums : FinMap te
     λ h. (h.0, (of_session (group, h.0)).0 h.1, h.2),
     λ h. (h.0, (of_session (group, h.0)).1 h.1, h.2),
   )
-
-  -- no session lists a record that is not held
-  pub none_listed : (k : Texts) → get m k ≡ None → (group : Group) → group.0.0 ≡ k.0 → contains_key sessions (group, k.1) ≡ false
-  none_listed k none group is = ap is_some (none_else (get sessions (group, k.1)) (λ _ h.
-      let of = (of_session (group, k.1)).0 h in
-      not_both of.0 _ (ap (λ (p : List ℕ). get m (p, k.1)) is ∙ none) of.1))
 
 -- the room of a record, by its parts
 pub has_cdr_room : (s : CdrRooms) (x : Cdr) (o i : List ℕ) (g : Group) → o ≡ key x.party → i ≡ key x.id → g ≡ group_of x →

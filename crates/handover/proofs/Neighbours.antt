@@ -1,6 +1,6 @@
 -- Keys of two parts that have one first part.
-use Rattle.std.proofs.Common.{rules, ◌≡◌, ◌≢◌, ◌↔◌, true, false, Bool, refl, sym, ap, subst, ◌∙◌, inl, inr}
-use Rattle.std.specs.Prelude.{Some, None, IsTrue}
+use Rattle.std.proofs.Common.{rules, ◌≡◌, ◌≢◌, ◌↔◌, true, false, Bool, refl, sym, ap, subst, ◌∙◌, inl, inr, Some, None}
+use Rattle.std.proofs.Common.{IsTrue}
 use Rattle.std.specs.Ordering.{ordering_then, ordering_reverse, is_gt, is_eq}
 use Rattle.std.specs.declared.cmp.Ordering.{Ordering}
 use Rattle.std.specs.declared.cmp.Ordering.TheVariants.{Less, Equal, Greater}
@@ -9,8 +9,7 @@ use Rattle.std.specs.BTreeMap.Range.{IsLtBy}
 use Rattle.std.specs.FinMap.{FinMap, IsAntisymmetric, get, contains_key}
 use Rattle.std.proofs.lemmas.Cmp.{tied_itself}
 use Rattle.tables.proofs.Maps.{equal_of_is_eq, told}
-use Rattle.tables.specs.Keys.{pair_cmp}
-use Rattle.tables.specs.Tables.{IsLeast, HasNone}
+use Rattle.tables.specs.{HasNone, IsLeast, pair_cmp}
 use Rattle.tables.proofs.Parts.{first_part_le}
 
 module _ {A B : Type 0} {R : A → A → Ordering} {S : B → B → Ordering} (o : IsTotalOrder R) (exact : IsAntisymmetric R) (p : IsTotalOrder S) (sole : IsAntisymmetric S) (m : FinMap (pair_cmp R S) (Unit {0})) (a : A) (b : B) where

@@ -1,22 +1,20 @@
 -- The sums of a list of records, one record after the other.
 use mir.Syntax.{w128}
-use Rattle.std.proofs.Common.{to_z, of_z, w64, ◌≡◌, ℕ, ◌+◌, ◌*◌, ◌≤◌, ◌<◌, ◌^◌, Bool, true, false, cond, List, [], ◌∷◌, ◌++◌, refl, sym, ap, subst, ◌∙◌, arith}
+use Rattle.std.proofs.Common.{to_z, of_z, w64, ◌≡◌, ℕ, ◌+◌, ◌*◌, ◌≤◌, ◌<◌, ◌^◌, Bool, true, false, cond, List, [], ◌∷◌}
+use Rattle.std.proofs.Common.{◌++◌, refl, sym, ap, subst, ◌∙◌, arith, ◌||◌, ℤ, pos, ◌+ℤ◌, unsigned_abs, Some, None}
+use Rattle.std.proofs.Common.{slice_get, take}
 use Rattle.std.proofs.lemmas.Int.{ints}
-use Rattle.std.specs.Prelude.{◌||◌, ℤ, pos, ◌+ℤ◌, unsigned_abs, Some, None, unwrap_or, slice_get, take}
+use Rattle.std.specs.Prelude.{unwrap_or}
 use Rattle.std.specs.Ordering.{eq_by_cmp}
 use Rattle.std.specs.FinMap.{FinMap, get, insert, empty, get-insert, get-empty}
-use Rattle.ocpi_text.specs.Decimal.{e4_limit}
-use Rattle.tables.specs.Keys.{text_pair_cmp, text_pair_total, text_pair_exact}
+use Rattle.ocpi_text.specs.{e4_limit}
+use Rattle.tables.specs.{text_pair_cmp, text_pair_exact, text_pair_total}
 use Rattle.tables.proofs.Maps.{equal_of_is_eq}
-use Rattle.ocpi_types.specs.declared.cdrs.Cdr.{Cdr}
-use Rattle.handover.specs.Owed.{Account, account_of, is_account, is_among, cost_in, seen_by, owed, total, sum_at, AreOwed}
+use Rattle.ocpi_types.specs.{Cdr}
+use Rattle.handover.specs.Owed.{Account, account_of, is_account, is_among, cost_in, seen_by, owed, sum_at, AreOwed}
 use Rattle.handover.proofs.Totals.{added}
 use Rattle.std.proofs.lemmas.Option.{slice_get_within, get_or_from_slice_get}
 use Rattle.std.proofs.lemmas.List.{take_more}
-
-total_push : (xs : List ℤ) (z : ℤ) → total (xs ++ z ∷ []) ≡ total xs +ℤ z
-total_push [] z = omega (arith, ints)
-total_push (x ∷ xs) z = let rest = total_push xs z in omega (arith, ints)
 
 owed_push : (a : Account) (xs : List Cdr) (x : Cdr) → owed a (xs ++ x ∷ []) ≡ owed a xs +ℤ cost_in a x
 owed_push a [] x = omega (arith, ints)

@@ -1,16 +1,17 @@
 -- Sums over the values of finite maps.
-use Rattle.std.proofs.Common.{◌≡◌, ℕ, ◌*◌, true, false, cond, List, [], ◌∷◌, map, length, refl, sym, ap, ◌∙◌, arith, ◌<◌, ◌≤◌, ◌^◌, w64, to_z, of_z}
+use Rattle.std.proofs.Common.{◌≡◌, ℕ, ◌*◌, true, false, cond, List, [], ◌∷◌, map, length, refl, sym, ap, ◌∙◌, arith}
+use Rattle.std.proofs.Common.{◌<◌, ◌≤◌, ◌^◌, w64, to_z, of_z, unsigned_abs, ℤ, pos, ◌+ℤ◌, Option, Some, None}
 use Rattle.std.proofs.lemmas.Int.{ints}
-use Rattle.ocpi_text.specs.Decimal.{e4_limit}
+use Rattle.ocpi_text.specs.{e4_limit}
 use mir.Syntax.{w128}
 use mir.Val.{SFits}
-use Rattle.std.specs.Prelude.{unsigned_abs, ℤ, pos, ◌+ℤ◌, Option, Some, None, unwrap_or}
+use Rattle.std.specs.Prelude.{unwrap_or}
 use Rattle.std.specs.Ordering.{eq_by_cmp, is_eq}
 use Rattle.std.specs.declared.cmp.Ordering.{Ordering}
 use Rattle.std.specs.declared.cmp.Ordering.TheVariants.{Less, Equal, Greater}
 use Rattle.std.specs.Cmp.{IsTotalOrder}
 use Rattle.std.specs.FinMap.{FinMap, IsAntisymmetric, find, put, get, insert, remove, values, entries, entries-insert, get-entries, get-insert, len, len-entries}
-use Rattle.tables.specs.Keys.{text_pair_cmp, text_pair_total, text_pair_exact}
+use Rattle.tables.specs.{text_pair_cmp, text_pair_exact, text_pair_total}
 use Rattle.tables.proofs.Maps.{get-remove_same, equal_of_is_eq, remove_absent, insert_removed, insert_present}
 use Rattle.std.specs.FinMap.Entries.{by_order}
 use Rattle.handover.specs.Owed.{Account, total, sum_at, seen_by}

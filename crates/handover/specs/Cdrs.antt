@@ -4,13 +4,10 @@ use Rattle.std.specs.Ordering.{bool_cmp}
 use Rattle.std.specs.FinMap.{FinMap, get, contains_key, entries, values}
 use Rattle.std.specs.declared.cmp.Ordering.{Ordering}
 use Rattle.std.specs.declared.cmp.Ordering.TheVariants.{Less}
-use Rattle.ocpi_text.specs.Text.{key}
-use Rattle.ocpi_text.specs.Decimal.{e4_limit}
-use Rattle.tables.specs.Keys.{pair_cmp, text_cmp, text_pair_cmp}
-use Rattle.ocpi_types.specs.Credits.{AreAlike, is_credit}
-use Rattle.ocpi_types.specs.declared.cdrs.Cdr.{Cdr}
-use Rattle.ocpi_types.specs.declared.rows.Row.{Row}
-use Rattle.ocpi_types.specs.declared.rows.Row.TheVariants as row
+use Rattle.ocpi_text.specs.{e4_limit, key}
+use Rattle.tables.specs.{pair_cmp, text_cmp, text_pair_cmp}
+use Rattle.ocpi_types.specs.{AreAlike, Cdr, Row, is_credit}
+use Rattle.ocpi_types.specs.row
 use Rattle.handover.specs.Owed.{Account, account_of, owed, sum_at}
 use Rattle.tables.specs.Indexes.{Indexes}
 

@@ -1,18 +1,13 @@
 -- Sessions and charge detail records that a provider holds, and when it takes others.
 use Rattle.std.specs.Prelude.{◌≡◌, ◌≢◌, ◌⊎◌, ◌<◌, ℕ, List, Option, Some, None, IsTrue, false, ⊤}
 use Rattle.std.specs.FinMap.{FinMap, get, insert, remove, contains_key, empty}
-use Rattle.ocpi_text.specs.Text.{key}
-use Rattle.tables.specs.Keys.{text_pair_cmp}
+use Rattle.ocpi_text.specs.{key}
+use Rattle.tables.specs.{text_pair_cmp}
 use Rattle.ocpi_types.specs.Credits.{AreAlike, is_credit}
-use Rattle.ocpi_types.specs.declared.cdrs.Cdr.{Cdr}
-use Rattle.ocpi_types.specs.declared.sessions.Session.{Session}
-use Rattle.ocpi_types.specs.declared.words.SessionStatus.{SessionStatus}
-use Rattle.ocpi_types.specs.declared.words.SessionStatus.TheVariants as status
-use Rattle.ocpi_types.specs.declared.rows.Row.{Row}
-use Rattle.ocpi_types.specs.declared.rows.Row.TheVariants as row
-use Rattle.ocpi_types.specs.declared.rows.RowKey.{RowKey}
-use Rattle.ocpi_types.specs.declared.rows.RowKey.TheVariants as keys
-use Rattle.ocpi_types.specs.Rows.{key_of}
+use Rattle.ocpi_types.specs.{Cdr, Row, RowKey, Session, SessionStatus, key_of}
+use Rattle.ocpi_types.specs.status
+use Rattle.ocpi_types.specs.row
+use Rattle.ocpi_types.specs.keys
 use Rattle.handover.specs.Cdrs.{Cdrs, CdrRooms, HasRoomOfCdr, GivesCdrBack, cdr_key}
 use Rattle.handover.specs.declared.takings.SessionTaking.{SessionTaking}
 use Rattle.handover.specs.declared.takings.SessionTaking.TheVariants as session_taking

@@ -2,10 +2,8 @@
 use Rattle.std.specs.Prelude.{◌≡◌, ◌≢◌, ◌↔◌, ℕ, List, [], ◌∷◌, ◌++◌, map, Contains}
 use Rattle.std.specs.List.{AllPairs}
 use Rattle.std.specs.FinMap.{entries}
-use Rattle.ocpi_types.specs.Rows.{key_of}
-use Rattle.ocpi_types.specs.declared.rows.Row.{Row}
-use Rattle.ocpi_types.specs.declared.rows.Row.TheVariants as row
-use Rattle.ocpi_types.specs.declared.sessions.Session.{Session}
+use Rattle.ocpi_types.specs.{Row, Session, key_of}
+use Rattle.ocpi_types.specs.row
 use Rattle.handover.specs.Cdrs.{AreOwnCdrs, cdr_rows}
 use Rattle.handover.specs.Inbox.{Sessions, InboxRows, AreOwnSessions, HasRow, put_row}
 

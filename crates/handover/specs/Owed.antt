@@ -6,9 +6,9 @@ use Rattle.std.specs.Prelude.{◌≡◌, Some, None, ℕ, ℤ, pos, ◌+ℤ◌, 
 use Rattle.std.specs.Ordering.{eq_by_cmp}
 use Rattle.std.specs.Prelude.{unwrap_or}
 use Rattle.std.specs.FinMap.{FinMap, get}
-use Rattle.ocpi_text.specs.Text.{key}
+use Rattle.ocpi_text.specs.{key}
 use Rattle.tables.specs.Keys.{text_pair_cmp}
-use Rattle.ocpi_types.specs.declared.cdrs.Cdr.{Cdr}
+use Rattle.ocpi_types.specs.{Cdr}
 
 abbrev pub total : List ℤ → ℤ
 total [] = pos 0

@@ -15,9 +15,8 @@ ghost use Rattle.std.specs.Prelude.{
   option_copied,
 };
 ghost use Rattle.std.specs.FinMap as map;
-ghost use Rattle.ocpi_text.specs.Text.{key};
-ghost use Rattle.ocpi_text.specs.Decimal.{e4_limit};
-ghost use Rattle.ocpi_types.specs.declared.cdrs.Cdr.{Cdr};
+ghost use Rattle.ocpi_text.specs.{e4_limit, key};
+ghost use Rattle.ocpi_types.specs.{Cdr};
 ghost use Rattle.handover.specs.Owed.{owed};
 ghost use Rattle.handover.specs.Cdrs.{
   group_of,
@@ -53,8 +52,7 @@ pub(crate) struct CdrBook {
 impl Model for CdrBook {
     ghost use Rattle.std.specs.FinMap as map;
     ghost use Rattle.std.specs.Coded.{codes};
-    ghost use Rattle.tables.specs.Keys.{text_pair_cmp};
-    ghost use Rattle.tables.specs.Tables.{shown_of, rooms_of};
+    ghost use Rattle.tables.specs.{rooms_of, shown_of, text_pair_cmp};
     ghost use Rattle.handover.specs.Cdrs.{HeldCdrs, IsKept, session_cmp};
 
     ghost Value = { HeldCdrs };

@@ -2,7 +2,7 @@
 
 ghost use Rattle.std.specs.Prelude.{◌≡◌, ◌↔◌, ◌⊎◌, IsTrue, Some, IsOk, OnOk, OnErr, IfOk, IfErr, option_copied};
 ghost use Rattle.std.specs.FinMap as map;
-ghost use Rattle.ocpi_text.specs.Text.{key};
+ghost use Rattle.ocpi_text.specs.{key};
 ghost use Rattle.handover.specs.Owed.{owed};
 ghost use Rattle.handover.specs.Cdrs.{HasOnePerSession, cdr_key};
 ghost use Rattle.handover.specs.Inbox.{
@@ -49,8 +49,7 @@ pub struct Inbox {
 impl Model for Inbox {
     ghost use Rattle.std.specs.FinMap as map;
     ghost use Rattle.std.specs.Coded.{codes};
-    ghost use Rattle.tables.specs.Keys.{text_pair_cmp};
-    ghost use Rattle.tables.specs.Tables.{shown_of, rooms_of};
+    ghost use Rattle.tables.specs.{rooms_of, shown_of, text_pair_cmp};
     ghost use Rattle.handover.specs.Inbox.{HeldInbox, AreOwnSessions};
 
     ghost Value = { HeldInbox };

@@ -1,8 +1,7 @@
 //! The rows of an inbox as a list, and a copy of an inbox.
 
 ghost use Rattle.std.specs.Prelude.{◌≡◌, ◌≢◌, ◌++◌, IfOk, IsOk, OnErr, OnOk, IsTrue, false};
-ghost use Rattle.tables.specs.Keys.{text_pair_cmp};
-ghost use Rattle.tables.specs.Tables.{shown_of};
+ghost use Rattle.tables.specs.{shown_of, text_pair_cmp};
 ghost use Rattle.handover.specs.Inbox.{HasRoomOf, KeepsRoom, no_rows, put_row};
 ghost use Rattle.handover.specs.InboxListing.{AreOwnRows, AreRowsOf, RowsAreAll, put_rows, rows_of, session_rows};
 

@@ -1,8 +1,7 @@
 //! What is owed by a list of charge detail records.
 
 ghost use Rattle.std.specs.Prelude.{◌≡◌, ◌≢◌, [], length, IfOk, OnErr};
-ghost use Rattle.tables.specs.Keys.{text_pair_cmp};
-ghost use Rattle.tables.specs.Tables.{shown_of};
+ghost use Rattle.tables.specs.{shown_of, text_pair_cmp};
 ghost use Rattle.handover.specs.Owed.{AreOwed};
 
 use crate::cdr_book::cost_of;

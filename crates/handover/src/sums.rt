@@ -2,8 +2,7 @@
 
 ghost use Rattle.std.specs.Prelude.{◌≡◌, ℤ, ◌+ℤ◌, ◌<◌, ◌^◌, unsigned_abs, IsTrue};
 ghost use Rattle.std.specs.FinMap as map;
-ghost use Rattle.tables.specs.Keys.{text_pair_cmp};
-ghost use Rattle.tables.specs.Tables.{shown_of, rooms_of};
+ghost use Rattle.tables.specs.{rooms_of, shown_of, text_pair_cmp};
 ghost use Rattle.handover.specs.Owed.{Account, sum_at, seen_by};
 
 use ocpi_text::{PartyKey, ShortText};

@@ -1,10 +1,10 @@
 -- The cells of the nodes of a run are fit to be woven.
-use Rattle.std.proofs.Common.{◌≡◌, ◌∙◌, ℕ, ◌<◌, List, length, map, sym, ap, subst, arith, option_map, Result, Ok, Err, IfOk, IfErr}
+use Rattle.std.proofs.Common.{◌≡◌, ◌∙◌, ℕ, ◌<◌, List, length, map, sym, ap, subst, arith, option_map, Result, Ok, Err}
+use Rattle.std.proofs.Common.{IfOk, IfErr, Some, slice_get, vec_len}
 use Rattle.std.proofs.lemmas.List.{length-map}
 use Rattle.std.proofs.lemmas.Option.{slice_get-map}
-use Rattle.std.specs.Prelude.{Contains, Some, slice_get, vec_len}
-use Rattle.cell_weaving.specs.Cells.{AreCellsOf, IsCellOf, IsNotWoven, IsRunOfCells}
-use Rattle.harness_weaving.specs.Faults.{IsNoRun, IsToldOf, of_run, of_weave}
+use Rattle.cell_weaving.specs.Cells.{AreCellsOf, IsRunOfCells}
+use Rattle.harness_weaving.specs.Faults.{IsNoRun, IsToldOf, of_run}
 use Rattle.harness_weaving.specs.Parts.{ArePartsOf, AreOfNodes, cell_in}
 use Rattle.harness_weaving.specs.declared.fault.NoRun.{NoRun}
 use Rattle.harness_weaving.specs.declared.parting.Parted.{Parted}
@@ -16,16 +16,12 @@ use Rattle.node_harness.specs.Settled.{AreSettled}
 use Rattle.node_harness.specs.declared.fault.RunFault.{RunFault}
 use Rattle.node_harness.specs.declared.fault.RunFault.TheVariants as run
 use Rattle.node_harness.specs.declared.settling.NodeRan.{NodeRan}
-use Rattle.node_history.specs.Cells.{Cell}
-use Rattle.node_store.specs.Contents.{Content}
-use Rattle.ocpi_text.specs.Text.{key}
-use Rattle.ocpi_types.specs.Setups.{party_of}
-use Rattle.ocpi_types.specs.declared.node_events.NodeEventKind.{NodeEventKind}
-use Rattle.ocpi_types.specs.declared.setup.Node.{Node}
-use Rattle.weave.specs.declared.fault.WeaveFault.{WeaveFault}
-use Rattle.weave.specs.declared.fault.WeaveFault.TheVariants as weave
+use Rattle.node_history.specs.{Cell}
+use Rattle.node_store.specs.{Content}
+use Rattle.ocpi_text.specs.{key}
+use Rattle.ocpi_types.specs.{Node, NodeEventKind}
 use Rattle.world_laws.proofs.Setups.{one_node}
-use Rattle.world_laws.specs.Laws.{IsSetup}
+use Rattle.world_laws.specs.{IsSetup}
 
 module _ (setup : List Node) (is_setup : IsSetup setup) (nodes : List NodeRan) (as_many : length nodes ≡ length setup) (opened : AreOpened setup nodes) where
   abbrev cells : List (Cell Content)
@@ -87,13 +83,6 @@ module _ (setup : List Node) (is_setup : IsSetup setup) (nodes : List NodeRan) (
 pub stopped : (setup : List Node) (fault : RunFault) → IsNoRun setup (of_run fault)
 stopped setup run.Stopped = tt
 stopped setup run.Memory = tt
-
--- what weaving tells is told
-pub told : (all : List (Cell Content)) (fault : WeaveFault) → IsNotWoven all fault → IsToldOf all (of_weave fault)
-told all (weave.NeverSent packet) why = why
-told all (weave.Differs packet) why = why
-told all (weave.NoOrder front) why = why
-told all weave.Memory why = tt
 
 -- ---- cells and receipts that were taken out of nodes
 

@@ -5,10 +5,10 @@ use Rattle.harness_weaving.specs.declared.fault.NoRun.{NoRun}
 use Rattle.harness_weaving.specs.declared.fault.NoRun.TheVariants.{Memory, NotWoven, Stopped}
 use Rattle.node_harness.specs.declared.fault.RunFault.{RunFault}
 use Rattle.node_harness.specs.declared.fault.RunFault.TheVariants as run
-use Rattle.node_history.specs.Cells.{Cell}
-use Rattle.node_store.specs.Contents.{Content}
-use Rattle.ocpi_types.specs.declared.setup.Node.{Node}
-use Rattle.weave.specs.declared.fault.WeaveFault.{WeaveFault}
+use Rattle.node_history.specs.{Cell}
+use Rattle.node_store.specs.{Content}
+use Rattle.ocpi_types.specs.{Node}
+use Rattle.weave.specs.{WeaveFault}
 use Rattle.weave.specs.declared.fault.WeaveFault.TheVariants as weave
 
 -- a fault of the nodes

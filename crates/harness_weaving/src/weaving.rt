@@ -5,7 +5,7 @@ ghost use Rattle.cell_weaving.specs.Cells.{AreCellsOf, IsRunOfCells};
 ghost use Rattle.harness_weaving.specs.Faults.{IsNoRun, IsToldOf};
 ghost use Rattle.harness_weaving.specs.Parts.{AreOfNodes, ArePartsOf, cell_in};
 ghost use Rattle.node_harness.specs.Settled.{script_of};
-ghost use Rattle.ocpi_types.specs.declared.setup.Node.{Node as NodeOf};
+ghost use Rattle.ocpi_types.specs.{Node as NodeOf};
 
 use crate::fault::{NoRun, of_run, of_weave};
 use crate::parting::{Parted, part};

@@ -1,6 +1,6 @@
 -- Where histories cannot be interleaved.
 use Rattle.std.specs.Prelude.{ℕ, List}
-use Rattle.ocpi_types.specs.declared.packet.Packet.{Packet}
+use Rattle.ocpi_types.specs.{Packet}
 use Rattle.histories.specs.Causes.{IsBlock, IsDifferent, IsNeverSent}
 use Rattle.histories.specs.declared.history.NodeHistory.{NodeHistory}
 use Rattle.histories.specs.Weaving.{AreApart, AreNumbered, CanInterleave}

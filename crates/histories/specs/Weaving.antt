@@ -2,13 +2,10 @@
 -- happened.
 use Rattle.std.specs.Prelude.{◌≡◌, ℕ, List, [], ◌∷◌, ◌++◌, Some, cond, map, bytes_eq, Contains, slice_get}
 use Rattle.std.specs.List.{flat_map}
-use Rattle.ocpi_text.specs.Text.{key}
-use Rattle.ocpi_types.specs.declared.events.Event.{Event}
-use Rattle.ocpi_types.specs.declared.events.EventKind.{EventKind}
-use Rattle.ocpi_types.specs.declared.events.EventKind.TheVariants as kind
-use Rattle.ocpi_types.specs.declared.node_events.NodeEventKind.{NodeEventKind}
+use Rattle.ocpi_text.specs.{key}
+use Rattle.ocpi_types.specs.{Event, EventKind, NodeEventKind, Packet}
+use Rattle.ocpi_types.specs.kind
 use Rattle.ocpi_types.specs.declared.node_events.NodeEventKind.TheVariants as event
-use Rattle.ocpi_types.specs.declared.packet.Packet.{Packet}
 use Rattle.histories.specs.declared.entry.Entry.{Entry}
 use Rattle.histories.specs.declared.history.NodeHistory.{NodeHistory}
 use Rattle.histories.specs.Entries.{Delivers, IsNumbered, sent}

@@ -14,7 +14,7 @@ pub struct Packets {
 
 impl Model for Packets {
     ghost use Rattle.std.specs.Prelude.{List};
-    ghost use Rattle.ocpi_types.specs.declared.packet.Packet.{Packet};
+    ghost use Rattle.ocpi_types.specs.{Packet};
 
     ghost Value = { List Packet };
 

@@ -1,15 +1,11 @@
 -- A replayed history as a run of its node: its party stays, what comes is for it, and its packets are numbered.
-use Rattle.std.proofs.Common.{◌≡◌, ℕ, List, [], ◌∷◌, ◌++◌, refl, sym, ap, subst, ◌∙◌}
-use Rattle.std.specs.Prelude.{Some, Contains, slice_get}
-use Rattle.ocpi_text.specs.Text.{key}
-use Rattle.ocpi_types.specs.Setups.{party_of}
+use Rattle.std.proofs.Common.{◌≡◌, ℕ, List, [], ◌∷◌, ◌++◌, refl, sym, ap, subst, ◌∙◌, Some, Contains, slice_get}
+use Rattle.ocpi_text.specs.{key}
+use Rattle.ocpi_types.specs.{Node, Packet, party_of}
 use Rattle.ocpi_types.specs.declared.node_events.NodeEventKind.TheVariants as event
-use Rattle.ocpi_types.specs.declared.packet.Packet.{Packet}
-use Rattle.ocpi_types.specs.declared.setup.Node.{Node}
-use Rattle.ocpi_types.specs.declared.setup.Node.TheVariants as node
-use Rattle.histories.specs.declared.entry.Entry.{Entry}
+use Rattle.ocpi_types.specs.node
+use Rattle.histories.specs.{Entry, IsNumbered}
 use Rattle.histories.specs.Entries as entries
-use Rattle.histories.specs.Entries.{IsNumbered}
 use Rattle.histories.proofs.Lists.{is_in}
 use Rattle.node_laws.specs.Runs.{Run}
 use Rattle.operator_laws.proofs.events.Doing.{does as operator_does}
@@ -21,12 +17,11 @@ use Rattle.provider_laws.proofs.nodes.NodeLaws as provider_proofs
 use Rattle.provider_rows.specs.State as provider
 use Rattle.provider_steps.specs.Events as provider_events
 use Rattle.world_laws.proofs.NodeRuns.{line_of, operator_goes, peering_of, provider_goes}
-use Rattle.world_laws.specs.Laws.{IsSetup}
+use Rattle.world_laws.specs.{IsSetup}
 use Rattle.world_steps.specs.Steps as steps
-use Rattle.world_steps.specs.Steps.{AtOperator, AtProvider, NodeEvent, NodeStep, OperatorDoes, ProviderDoes, input_of}
+use Rattle.world_steps.specs.{AtOperator, AtProvider, NodeEvent, NodeState, NodeStep, Operates, OperatorDoes, Place}
+use Rattle.world_steps.specs.{ProviderDoes, Provides, Went, input_of, opening_of, place_of, stored}
 use Rattle.world_steps.specs.Traces as traces
-use Rattle.world_steps.specs.Traces.{Went, stored}
-use Rattle.world_steps.specs.World.{NodeState, Operates, Place, Provides, opening_of, place_of}
 use Rattle.history_laws.specs.Laws as laws
 use Rattle.history_laws.specs.Replays.{Brings, Does, Idle, Replays}
 

@@ -1,24 +1,20 @@
 -- From an interleaving of replayed histories to a legal run of the world.
-use Rattle.std.proofs.Common.{zero, suc, ◌≡◌, ◌≢◌, ◌⊎◌, ℕ, ◌+◌, List, [], ◌∷◌, ◌++◌, length, map, inl, inr, refl, sym, ap, subst, ◌∙◌, arith, append_assoc, append-nil}
-use Rattle.std.specs.Prelude.{Some, Contains, slice_get, option_map}
+use Rattle.std.proofs.Common.{zero, suc, ◌≡◌, ◌≢◌, ◌⊎◌, ℕ, ◌+◌, List, [], ◌∷◌, ◌++◌, length, map, inl, inr, refl, sym}
+use Rattle.std.proofs.Common.{ap, subst, ◌∙◌, arith, append_assoc, append-nil, Some, Contains, slice_get, option_map}
 use Rattle.std.proofs.lemmas.List.Elements.{Contains-append_left, Contains-append_right}
 use Rattle.std.proofs.lemmas.List.{length-map}
 use Rattle.std.proofs.lemmas.Option.{slice_get-map}
-use Rattle.ocpi_text.specs.Text.{key}
-use Rattle.ocpi_types.specs.Setups.{node_key, party_of}
-use Rattle.ocpi_types.specs.declared.packet.Packet.{Packet}
-use Rattle.ocpi_types.specs.declared.setup.Node.{Node}
+use Rattle.ocpi_text.specs.{key}
+use Rattle.ocpi_types.specs.{Node, Packet, node_key, party_of}
 use Rattle.tables.proofs.Elements.{in_front, in_none}
-use Rattle.histories.specs.declared.history.NodeHistory.{NodeHistory}
-use Rattle.histories.specs.Entries.{sent}
-use Rattle.histories.specs.Weaving.{Interleaves, IsWoven, Woven, event_of, history}
+use Rattle.histories.specs.{Interleaves, IsWoven, NodeHistory, Woven, event_of, history, sent}
 use Rattle.histories.proofs.Lists.{got_within, is_in, place_in, some_same, stands}
 use Rattle.histories.proofs.WovenLists.{got_given, has_entry, no_entry, same_key, sender_of}
 use Rattle.operator_rows.proofs.RowChanges.{of_cons}
 use Rattle.world_laws.proofs.Right.{worlds_are_right}
 use Rattle.world_laws.proofs.Setups.{one_node}
-use Rattle.world_steps.specs.Steps.{WorldRun}
-use Rattle.world_steps.specs.World.{NodeState, Place, World, opened, opening_of, place_of}
+use Rattle.world_steps.specs.{NodeState, Place, WorldRun, opened, opening_of, place_of}
+use Rattle.world_steps.specs.World.{World}
 use Rattle.world_steps.proofs.Places.{of_mapped}
 use Rattle.history_laws.specs.Laws as laws
 use Rattle.history_laws.specs.Laws.{AreReplayed, HasNoHistory, IsReplayed, IsRunOf, StandsAs}

@@ -1,25 +1,22 @@
 -- One entry of an interleaving as one step of the world.
-use Rattle.std.proofs.Common.{◌≡◌, ◌≢◌, ◌⊎◌, ℕ, ◌+◌, List, [], ◌∷◌, ◌++◌, length, inl, inr, refl, sym, ap, subst, ◌∙◌, append-nil, length-set}
-use Rattle.std.specs.Prelude.{Some, Contains, slice_get, slice_set}
+use Rattle.std.proofs.Common.{◌≡◌, ◌≢◌, ◌⊎◌, ℕ, ◌+◌, List, [], ◌∷◌, ◌++◌, length, inl, inr, refl, sym, ap, subst, ◌∙◌}
+use Rattle.std.proofs.Common.{append-nil, length-set, Some, Contains, slice_get, slice_set}
 use Rattle.std.proofs.lemmas.Bool.{cases_eq}
-use Rattle.ocpi_text.specs.Text.{key}
-use Rattle.ocpi_types.specs.Setups.{party_of}
-use Rattle.ocpi_types.specs.declared.node_events.NodeEventKind.{NodeEventKind}
+use Rattle.ocpi_text.specs.{key}
+use Rattle.ocpi_types.specs.{Node, NodeEventKind, Packet, party_of}
 use Rattle.ocpi_types.specs.declared.node_events.NodeEventKind.TheVariants as event
-use Rattle.ocpi_types.specs.declared.packet.Packet.{Packet}
-use Rattle.ocpi_types.specs.declared.setup.Node.{Node}
-use Rattle.histories.specs.Entries.{Delivers, sent}
-use Rattle.histories.specs.Weaving.{Names, Woven, event_of, history, kind_of}
+use Rattle.histories.specs.{Delivers, Names, Woven, event_of, history, kind_of, sent}
 use Rattle.histories.proofs.Lists.{place_in}
 use Rattle.histories.proofs.WovenLists.{history_elsewhere, history_here, history_next, history_past, sent_join, sent_one}
 use Rattle.operator_steps.specs.Events as operator
 use Rattle.provider_steps.specs.Events as provider
 use Rattle.world_laws.proofs.Setups.{one_node}
-use Rattle.world_laws.specs.Laws.{IsSetup}
-use Rattle.world_steps.specs.Network.{Input, MayArrive, OfOperator, OfProvider, OperatorInput, ProviderInput, Reaches}
+use Rattle.world_laws.specs.{IsSetup}
+use Rattle.world_steps.specs.{Input, IsAt, MayArrive, NodeEvent, NodeState, OfOperator, OfProvider, Operates}
+use Rattle.world_steps.specs.{OperatorInput, Place, ProviderInput, Provides, Reaches, WorldStep, changes_of, input_of}
+use Rattle.world_steps.specs.{packets_of, versions_of}
 use Rattle.world_steps.specs.Steps as steps
-use Rattle.world_steps.specs.Steps.{NodeEvent, WorldStep, input_of, packets_of, changes_of, versions_of}
-use Rattle.world_steps.specs.World.{IsAt, NodeState, Operates, Place, Provides, World}
+use Rattle.world_steps.specs.World.{World}
 use Rattle.world_steps.proofs.Places.{set_other, set_same, some_same}
 use Rattle.history_laws.specs.Replays.{Brings, Did, Does, EntryStep, Idle, OperatorGets, ProviderGets, Replays, WasIdle}
 use Rattle.history_laws.proofs.Replaying.{own_party, party_stays, takes_own}

@@ -1,15 +1,11 @@
 -- What an interleaving of replayed histories is in the world.
 use Rattle.std.specs.Prelude.{◌≡◌, ℕ, List, Some, Contains, slice_get}
-use Rattle.ocpi_text.specs.Text.{key}
-use Rattle.ocpi_types.specs.Setups.{node_key, party_of}
-use Rattle.ocpi_types.specs.declared.events.Event.{Event}
-use Rattle.ocpi_types.specs.declared.setup.Node.{Node}
-use Rattle.histories.specs.declared.history.NodeHistory.{NodeHistory}
-use Rattle.histories.specs.Entries.{IsNumbered, sent}
-use Rattle.histories.specs.Weaving.{AreApart, IsInterleaving}
-use Rattle.world_laws.specs.Laws.{IsRight, IsSetup}
-use Rattle.world_steps.specs.Steps.{WorldRun}
-use Rattle.world_steps.specs.World.{NodeState, Place, World, opened, opening_of, place_of}
+use Rattle.ocpi_text.specs.{key}
+use Rattle.ocpi_types.specs.{Event, Node, node_key, party_of}
+use Rattle.histories.specs.{AreApart, IsInterleaving, IsNumbered, NodeHistory, sent}
+use Rattle.world_laws.specs.{IsRight, IsSetup}
+use Rattle.world_steps.specs.{NodeState, Place, WorldRun, opened, opening_of, place_of}
+use Rattle.world_steps.specs.World.{World}
 use Rattle.history_laws.specs.Replays.{Replays}
 
 -- the history is that of a node of the setup since its opening, and left it in this state

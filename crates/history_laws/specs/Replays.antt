@@ -1,15 +1,14 @@
 -- What the entries of a history make of a node.
 use Rattle.std.specs.Prelude.{◌≡◌, ◌⊎◌, List, []}
-use Rattle.ocpi_text.specs.Text.{key}
-use Rattle.ocpi_types.specs.declared.node_events.NodeEventKind.{NodeEventKind}
+use Rattle.ocpi_text.specs.{key}
+use Rattle.ocpi_types.specs.{NodeEventKind}
 use Rattle.ocpi_types.specs.declared.node_events.NodeEventKind.TheVariants as event
-use Rattle.histories.specs.declared.entry.Entry.{Entry}
+use Rattle.histories.specs.{Entry}
 use Rattle.node_laws.specs.Runs.{Run}
 use Rattle.operator_steps.specs.Events as operator
 use Rattle.provider_steps.specs.Events as provider
-use Rattle.world_steps.specs.Network.{Input, OfOperator, OfProvider}
-use Rattle.world_steps.specs.Steps.{NodeEvent, NodeStep, input_of, packets_of}
-use Rattle.world_steps.specs.World.{NodeState, Operates, Provides}
+use Rattle.world_steps.specs.{Input, NodeEvent, NodeState, NodeStep, OfOperator, OfProvider, Operates, Provides}
+use Rattle.world_steps.specs.{input_of, packets_of}
 
 -- ---- what reaches a node by an event
 

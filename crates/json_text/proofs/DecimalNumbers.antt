@@ -1,6 +1,6 @@
 -- A number of four decimals is written as a number of JSON.
-use Rattle.std.proofs.Common.{◌≡◌, ℕ, ℤ, zero, suc, ◌/◌, ◌%◌, ◌^◌, ◌<◌, Bool, true, false, List, [], ◌∷◌, ◌++◌, length, get_or, decimal, refl, ap, arith}
-use Rattle.std.specs.Prelude.{unsigned_abs}
+use Rattle.std.proofs.Common.{◌≡◌, ℕ, ℤ, zero, suc, ◌/◌, ◌%◌, ◌^◌, ◌<◌, Bool, true, false, List, [], ◌∷◌, ◌++◌, length}
+use Rattle.std.proofs.Common.{get_or, decimal, refl, ap, arith, unsigned_abs}
 use Rattle.std.specs.Char.{is_ascii_digit}
 use Rattle.std.specs.Fmt.{sign_text as signs}
 use Rattle.std.specs.Int.{is_negative}
@@ -10,8 +10,7 @@ use Rattle.std.proofs.lemmas.Bool.{and_parts, and_from}
 use Rattle.std.proofs.lemmas.Fmt.{first_decimal, decimal_digit, decimal_nonempty}
 use Rattle.json.specs.Print.{IsNumber}
 use Rattle.json.proofs.Printed.Floats.{IsNumber-plain}
-use Rattle.ocpi_text.specs.Decimal.{e4_limit, e4_text, sum_text, sign_text, unsigned_text}
-use Rattle.ocpi_text.specs.Digits.{four_digits}
+use Rattle.ocpi_text.specs.{e4_limit, e4_text, four_digits, sign_text, sum_text, unsigned_text}
 use Rattle.ocpi_text.proofs.DigitText.{digit_of, digit_range, digit_is}
 use Rattle.json_text.specs.Numbers.{IsJsonNumber, IsMinus, no_minus, minus, fraction, no_exponent}
 use Rattle.json_text.proofs.Digits.{whole_int, decimal_digits}

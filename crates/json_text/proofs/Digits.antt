@@ -1,11 +1,11 @@
 -- A whole number in digits is a number of JSON.
-use Rattle.std.proofs.Common.{◌≡◌, ℕ, zero, suc, ◌<◌, ◌≤◌, ◌^◌, List, [], ◌∷◌, length, get_or, true, decimal, refl, sym, arith, append-nil}
+use Rattle.std.proofs.Common.{◌≡◌, ℕ, zero, suc, ◌<◌, ◌≤◌, ◌^◌, List, [], ◌∷◌, length, get_or, true, decimal, refl, sym}
+use Rattle.std.proofs.Common.{arith, append-nil, nat_lt}
 use Rattle.std.specs.Char.{is_ascii_digit}
 use Rattle.std.specs.List.{list_all}
-use Rattle.std.specs.Prelude.{nat_lt}
 use Rattle.std.proofs.lemmas.Bool.{and_parts}
 use Rattle.std.proofs.lemmas.Fmt.{digits_decimal, decimal_nonempty, first_decimal, decimal_digit}
-use Rattle.ocpi_text.specs.Whole.{is_whole, max_whole}
+use Rattle.ocpi_text.specs.{is_whole, max_whole}
 use Rattle.ocpi_text.proofs.Digits.{own, whole_from}
 use Rattle.json_text.specs.Numbers.{IsJsonNumber, IsInt, zero_int, other_int, no_minus, no_fraction, no_exponent, AreDigits}
 

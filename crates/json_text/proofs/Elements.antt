@@ -1,6 +1,6 @@
 -- A list is read just where its elements have their form, each beside those before it.
-use Rattle.std.proofs.Common.{◌≡◌, ℕ, ◌+◌, ◌≤◌, suc, Bool, true, false, cond, List, [], ◌∷◌, ◌++◌, length, map, Ok, Err, refl, sym, subst, ap, ◌∙◌, arith}
-use Rattle.std.specs.Prelude.{Contains}
+use Rattle.std.proofs.Common.{◌≡◌, ℕ, ◌+◌, ◌≤◌, suc, Bool, true, false, cond, List, [], ◌∷◌, ◌++◌, length, map, Ok, Err}
+use Rattle.std.proofs.Common.{refl, sym, subst, ap, ◌∙◌, arith, Contains}
 use Rattle.std.proofs.lemmas.Bool.{and_parts, and_from, leb-true, le-leb}
 use Rattle.std.proofs.lemmas.List.{append_assoc, append-nil, length-append, map-append}
 use Rattle.std.specs.Cmp.Lexicographic.{on_texts_equal}
@@ -9,9 +9,8 @@ use Rattle.std.proofs.lemmas.Map.Views.{Contains-from_any, list_any-from_Contain
 use Rattle.std.proofs.lemmas.Slice.Eq.{bytes_eq-Decides}
 use Rattle.serde_json.specs.Data.{Data, null, boolean, number, string, array, object, Items, no_items, item}
 use Rattle.serde_json.specs.Events.{items_len}
-use Rattle.ocpi_text.specs.Text.{key}
-use Rattle.ocpi_types.specs.Apart.{DifferFrom}
-use Rattle.ocpi_types.specs.declared.field.Field.{Field}
+use Rattle.ocpi_text.specs.{key}
+use Rattle.ocpi_types.specs.{DifferFrom, Field}
 use Rattle.json_text.specs.declared.fault.JsonFault.TheVariants.{WrongForm}
 use Rattle.json_text.specs.Fault.{Read, ◌>>=◌}
 use Rattle.json_text.specs.Fields.{as_record, as_list, list_in, not_empty, non_empty_in, each_after, ci_in}

@@ -1,16 +1,11 @@
 -- A reader of a member succeeds just where the member's form holds.
-use Rattle.std.proofs.Common.{◌≡◌, ◌≢◌, ℕ, Bool, true, false, cond, List, [], ◌∷◌, drop, Option, Some, None, Result, Ok, Err, ℤ, pos, refl, sym, subst, ap, ◌∙◌, inl, inr, eqb-true}
-use Rattle.std.specs.Prelude.{◌⊎◌, ◌≤ℤ◌, T, int_le, IfOk}
+use Rattle.std.proofs.Common.{◌≡◌, ◌≢◌, ℕ, Bool, true, false, cond, List, [], ◌∷◌, drop, Option, Some, None, Result, Ok}
+use Rattle.std.proofs.Common.{Err, ℤ, pos, refl, sym, subst, ap, ◌∙◌, inl, inr, eqb-true, ◌⊎◌, ◌≤ℤ◌, T, int_le, IfOk}
 use Rattle.serde_json.specs.Data.{Data, null, boolean, number, string, array, object, Members}
 use Rattle.serde_json.specs.Find.{get}
-use Rattle.ocpi_text.specs.declared.fault.TextFault.{TextFault}
-use Rattle.ocpi_text.specs.Text.{ci_text, free_text}
-use Rattle.ocpi_text.specs.Party.{party_at, country_at, party_id_at}
-use Rattle.ocpi_text.specs.Whole.{whole_at}
-use Rattle.ocpi_text.specs.Moment.{moment_at}
-use Rattle.ocpi_text.specs.Decimal.{e4_at}
-use Rattle.ocpi_types.specs.declared.field.Field.{Field}
-use Rattle.ocpi_types.specs.Fields.{name_of}
+use Rattle.ocpi_text.specs.{TextFault, ci_text, country_at, e4_at, free_text, moment_at, party_at, party_id_at}
+use Rattle.ocpi_text.specs.{whole_at}
+use Rattle.ocpi_types.specs.{Field, name_of}
 use Rattle.json_text.specs.declared.fault.JsonFault.TheVariants.{WrongForm}
 use Rattle.json_text.specs.Fault.{Fails, Gives, Read, ◌>>=◌}
 use Rattle.json_text.specs.Fields.{required, present, optional, is_absent, is_none_or_null, some_of, as_text, as_number, as_truth, as_record, text_in, number_in, ci_in, free_in, moment_in, truth_in, word_in, whole_in, e4_in, quantity_in, not_negative, party_in, country_in, party_id_in, record_in, formed, listed, known, known_in}
@@ -236,9 +231,6 @@ word_exact words f = of_text f (λ s. listed f (words s)) (λ s x. words s ≡ S
 pub truth_exact : (f : Field) → Exact (truth_in f) (Required IsTruth f)
 unfolding truth_in
 truth_exact f = member_exact f (as_truth f) IsTruth (record { sound = truth_sound f; complete = λ v b p. rw p refl })
-
-pub kind_exact : (f : Field) → Exact (text_in f) (Required IsText f)
-kind_exact f = text_in_exact f
 
 -- ---- objects
 

@@ -1,13 +1,13 @@
 -- Reading elements one after the other, each beside those before it.
-use Rattle.std.proofs.Common.{◌≡◌, ◌≢◌, ℕ, ◌+◌, ◌<◌, ◌≤◌, Bool, true, false, List, [], ◌∷◌, ◌++◌, length, get_or, drop, Ok, Err, refl, sym, ap, ◌∙◌}
-use Rattle.std.specs.Prelude.{nat_le, ◌&&◌}
+use Rattle.std.proofs.Common.{◌≡◌, ◌≢◌, ℕ, ◌+◌, ◌<◌, ◌≤◌, Bool, true, false, List, [], ◌∷◌, ◌++◌, length, get_or, drop}
+use Rattle.std.proofs.Common.{Ok, Err, refl, sym, ap, ◌∙◌, nat_le, ◌&&◌}
 use Rattle.std.proofs.lemmas.Bool.{le-leb, lt-leb}
 use Rattle.std.proofs.lemmas.List.{at_drop_more, at_drop_all}
 use Rattle.serde_json.specs.Data.{Data}
 use Rattle.json_text.specs.Trees.{view, items_view}
 use Rattle.json_text.specs.declared.trees.Tree.{Tree}
 use Rattle.json_text.proofs.TreeViews.{items_len-items_view}
-use Rattle.ocpi_types.specs.declared.field.Field.{Field}
+use Rattle.ocpi_types.specs.{Field}
 use Rattle.json_text.specs.declared.fault.JsonFault.{JsonFault}
 use Rattle.json_text.specs.declared.fault.JsonFault.TheVariants.{WrongForm}
 use Rattle.json_text.specs.Fault.{Fails, Read}

@@ -1,19 +1,15 @@
 -- The members of a record that is written have the forms by which they are read.
-use Rattle.std.proofs.Common.{◌≡◌, ℕ, ℤ, suc, ◌≤◌, ◌<◌, Bool, true, false, List, [], ◌∷◌, Option, Some, None, Ok, option_map, decimal, refl, sym, ap, ◌∙◌, inl, arith}
+use Rattle.std.proofs.Common.{◌≡◌, ℕ, ℤ, suc, ◌≤◌, ◌<◌, Bool, true, false, List, [], ◌∷◌, Option, Some, None, Ok}
+use Rattle.std.proofs.Common.{option_map, decimal, refl, sym, ap, ◌∙◌, inl, arith, unsigned_abs, IfSome}
 use Rattle.std.specs.List.{All}
-use Rattle.std.specs.Prelude.{unsigned_abs, IfSome}
 use Rattle.json.specs.Json as json
 use Rattle.serde_json.specs.Data.{Data, boolean, string, array}
 use Rattle.serde_json.specs.Find.{get}
-use Rattle.ocpi_text.specs.Decimal.{e4_limit, e4_text}
-use Rattle.ocpi_text.specs.Moment.{last_moment, moment_text}
-use Rattle.ocpi_text.specs.Party.{party_at, country_of, party_id_of}
-use Rattle.ocpi_text.specs.Whole.{max_whole}
+use Rattle.ocpi_text.specs.{country_of, e4_limit, e4_text, last_moment, max_whole, moment_text, party_at, party_id_of}
 use Rattle.ocpi_text.proofs.Again.{ci_again, free_again, whole_again, moment_again, e4_again, ci_begins, free_begins, moment_begins}
 use Rattle.ocpi_text.proofs.Parties.{party_parts, exact_parts, country_passes, party_id_passes, party_of_halves}
-use Rattle.ocpi_types.specs.declared.field.Field.{Field}
-use Rattle.ocpi_types.specs.declared.field.Field.TheVariants as field
-use Rattle.ocpi_types.specs.Fields.{name_of}
+use Rattle.ocpi_types.specs.{Field, name_of}
+use Rattle.ocpi_types.specs.field
 use Rattle.json_text.specs.Fits.{FitsCi, FitsFree, FitsOption, FitsOptionalMoment, FitsQuantity}
 use Rattle.json_text.specs.Form.{Has, Required, Lacks, Optional, IsCi, IsFree, IsParty, IsMoment, IsWhole, IsE4, IsWord, IsTruth, IsQuantity, IsRecord, HasParty, AreItems, IsList}
 use Rattle.json_text.specs.Members.{Member, object_of, items_of, objects, strings}

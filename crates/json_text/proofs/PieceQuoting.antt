@@ -1,6 +1,6 @@
 -- Quoting goes piece by piece.
-use Rattle.std.proofs.Common.{◌≡◌, ◌≢◌, suc, ℕ, Bool, true, false, List, [], ◌∷◌, ◌++◌, Ok, Err, refl, sym, ap, subst, ◌∙◌, append_assoc}
-use Rattle.std.specs.Prelude.{codes, nat_le, ◌==◌}
+use Rattle.std.proofs.Common.{◌≡◌, ◌≢◌, suc, ℕ, Bool, true, false, List, [], ◌∷◌, ◌++◌, Ok, Err, refl, sym, ap, subst}
+use Rattle.std.proofs.Common.{◌∙◌, append_assoc, codes, nat_le, ◌==◌}
 use Rattle.json_text.specs.declared.fault.JsonFault.TheVariants.{BadNumberToken, TaggedText}
 use Rattle.json_text.specs.declared.quote.Mode.{Mode}
 use Rattle.json_text.specs.declared.quote.Mode.TheVariants.{Between, Number, Opening, Inside, Escaped}

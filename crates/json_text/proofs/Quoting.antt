@@ -1,7 +1,8 @@
 -- Quoting, as far as it has come: what is written, and what of the text is not copied yet.
-use Rattle.std.proofs.Common.{◌≡◌, ℕ, suc, ◌+◌, ◌<◌, ◌≤◌, Bool, true, false, cond, List, [], ◌∷◌, ◌++◌, length, get_or, take, drop, Ok, Err, refl, sym, ap, subst, ◌∙◌, append_assoc, add-one, arith}
+use Rattle.std.proofs.Common.{◌≡◌, ℕ, suc, ◌+◌, ◌<◌, ◌≤◌, Bool, true, false, cond, List, [], ◌∷◌, ◌++◌, length, get_or}
+use Rattle.std.proofs.Common.{take, drop, Ok, Err, refl, sym, ap, subst, ◌∙◌, append_assoc, add-one, arith, ◌||◌, ◌==◌}
+use Rattle.std.proofs.Common.{nat_le, not}
 use Rattle.std.specs.List.{prefix_len}
-use Rattle.std.specs.Prelude.{◌||◌, ◌==◌, nat_le, not}
 use mathlib.Core.Bool.{beq}
 use Rattle.std.specs.Str.{IsUtf8, IsCharBoundary}
 use Rattle.std.proofs.Math.Seq.{drop-cons}

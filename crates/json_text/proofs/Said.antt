@@ -6,8 +6,7 @@ use Rattle.std.proofs.lemmas.List.Elements.{All-nil, All-push}
 use Rattle.json.specs.Token.{Token, begin_object, begin_array, end_array, key}
 use Rattle.json.specs.Json as json
 use Rattle.json.specs.Tree.{json_tokens, items_tokens, members_tokens}
-use Rattle.ocpi_types.specs.declared.field.Field.{Field}
-use Rattle.ocpi_types.specs.Fields.{name_of}
+use Rattle.ocpi_types.specs.{Field, name_of}
 use Rattle.json_text.specs.Members.{Member, and_member, and_members, and_value, begun, ended, said, members_of, object_of, items_of, and_values, inner, listed}
 
 -- after one more member

@@ -74,10 +74,6 @@ mutual
 
 -- ---- what it is made
 
-both_some : {A B C : Type 0} (f : B → C) (g : A → Option B) (o : Option A) (c : C) → option_and_then (λ a. option_map f (g a)) o ≡ Some c → (a : A) × (o ≡ Some a) × (option_map f (g a) ≡ Some c)
-both_some f g None c e = absurd cc
-both_some f g (Some a) c e = (a, refl, e)
-
 mapped : {A B : Type 0} (f : A → B) (o : Option A) (b : B) → option_map f o ≡ Some b → (a : A) × (o ≡ Some a) × (Some (f a) ≡ Some b)
 mapped f None b e = absurd cc
 mapped f (Some a) b e = (a, refl, e)

@@ -1,6 +1,7 @@
 -- The lexemes of a text whose numbers are quoted are those of the text, with each number as a string behind U+0001.
-use Rattle.std.proofs.Common.{◌≡◌, ◌≢◌, ℕ, zero, suc, ◌<◌, ◌≤◌, Bool, true, false, cond, List, [], ◌∷◌, ◌++◌, length, map, take, drop, Option, Some, None, Ok, refl, sym, ap, ap₂, subst, ◌∙◌, append_assoc, length-append, arith}
-use Rattle.std.specs.Prelude.{◌&&◌, ◌||◌, ◌==◌, nat_eq}
+use Rattle.std.proofs.Common.{◌≡◌, ◌≢◌, ℕ, zero, suc, ◌<◌, ◌≤◌, Bool, true, false, cond, List, [], ◌∷◌, ◌++◌, length}
+use Rattle.std.proofs.Common.{map, take, drop, Option, Some, None, Ok, refl, sym, ap, ap₂, subst, ◌∙◌, append_assoc}
+use Rattle.std.proofs.Common.{length-append, arith, ◌&&◌, ◌||◌, ◌==◌, nat_eq}
 use Rattle.std.specs.Cmp.Lexicographic.{pointwise}
 use Rattle.std.specs.List.{starts_with}
 use Rattle.std.proofs.lemmas.Bool.{and_parts}
@@ -83,9 +84,6 @@ pub record Front (text : List ℕ) : Type 0 where
   pub are_clean : AreCleanLexemes lexemes
 
 -- ---- operators and spaces
-
-class_is : (c : ℕ) (a b o s : Bool) → (c == 34) ≡ a → (c == 92) ≡ b → is_operator c ≡ o → is_space c ≡ s → class c ≡ cond a quote (cond b backslash (cond o operator (cond s space other)))
-class_is c a b o s ea eb eo es = rw (ea, eb, eo, es) refl
 
 pub lex_as : (c : ℕ) (cs : List ℕ) (k : Class) → class c ≡ k → lex between (c ∷ cs) ≡ lex_byte between k c cs (λ m. lex m cs)
 unfolding lex

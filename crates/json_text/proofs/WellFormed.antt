@@ -1,18 +1,14 @@
 -- JSON values that can be written and read again: which they are, and that records are such from facts on their
 -- members.
-use Rattle.std.proofs.Common.{◌≡◌, ℕ, ℤ, suc, max, ◌≤◌, ◌<◌, Bool, true, false, List, [], ◌∷◌, Option, Some, None, option_map, map, decimal, Greater, refl, arith}
+use Rattle.std.proofs.Common.{◌≡◌, ℕ, ℤ, suc, max, ◌≤◌, ◌<◌, Bool, true, false, List, [], ◌∷◌, Option, Some, None}
+use Rattle.std.proofs.Common.{option_map, map, decimal, Greater, refl, arith, unsigned_abs, IfSome}
 use Rattle.std.specs.List.{All}
-use Rattle.std.specs.Prelude.{unsigned_abs, IfSome}
 use Rattle.std.proofs.lemmas.Bool.{and_parts}
 use Rattle.json.specs.Json as json
 use Rattle.json.specs.Tree.{depth, items_depth, members_depth}
-use Rattle.ocpi_text.specs.Decimal.{e4_limit, e4_text}
-use Rattle.ocpi_text.specs.Moment.{last_moment, moment_text}
-use Rattle.ocpi_text.specs.Whole.{max_whole}
+use Rattle.ocpi_text.specs.{e4_limit, e4_text, last_moment, max_whole, moment_text}
 use Rattle.ocpi_text.proofs.Again.{ci_begins, free_begins, moment_begins}
-use Rattle.ocpi_types.specs.declared.field.Field.{Field}
-use Rattle.ocpi_types.specs.declared.field.Field.TheVariants.{Line}
-use Rattle.ocpi_types.specs.Fields.{name_of}
+use Rattle.ocpi_types.specs.{Field, Line, name_of}
 use Rattle.json_text.specs.Fits.{FitsCi, FitsFree, FitsOption, FitsOptionalMoment}
 use Rattle.json_text.specs.Members.{Member, and_before, members_of, object_of, items_of, objects, strings}
 use Rattle.json_text.specs.Numbers.{IsJsonNumber}

@@ -27,16 +27,6 @@ module _ (w v : Inside) (h : IsWriting w) (t : Token) (printable : IsPrintable t
   unfolding pushed
   pushed_tokens = shows_printed v pushed ∙ ap (λ l. l ++ t ∷ []) (sym (shows_printed w h))
 
--- where the bytes stay, so does all else
-pub as_before : (w v : Inside) → IsWriting w → v.out.items ≡ w.out.items → v.after_value ≡ w.after_value → IsWriting v
-as_before w v h items place = record {
-  printed = h.printed;
-  printable = h.printable;
-  text = items ∙ h.text;
-  place = place ∙ h.place;
-  utf8 = subst IsUtf8 (sym items) h.utf8;
-}
-
 -- the text of a token alone
 pub print_one : (t : Token) → print (t ∷ []) ≡ token_text t
 unfolding print_from

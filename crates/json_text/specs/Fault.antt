@@ -1,6 +1,6 @@
 -- What a reader answers, memory aside.
 use Rattle.std.specs.Prelude.{ℕ, ◌≡◌, List, ◌++◌, codes, Result, Ok, Err}
-use Rattle.ocpi_types.specs.Fields.{name_of}
+use Rattle.ocpi_types.specs.{name_of}
 use Rattle.json_text.specs.declared.fault.JsonFault.{JsonFault}
 use Rattle.json_text.specs.declared.fault.JsonFault.TheVariants.{Syntax, BadNumberToken, TaggedText, Missing, WrongForm, UnknownWord, UnknownKind, Memory}
 

@@ -2,14 +2,9 @@
 use Rattle.std.specs.Prelude.{ℕ, ℤ, pos, int_le, ◌++◌, drop, List, [], ◌∷◌, Bool, true, false, Option, Some, None, Result, Ok, Err, if◌then◌else◌}
 use Rattle.serde_json.specs.Data.{Data, null, boolean, number, string, array, object, Items, no_items, item}
 use Rattle.serde_json.specs.Find.{get}
-use Rattle.ocpi_text.specs.declared.fault.TextFault.{TextFault}
-use Rattle.ocpi_text.specs.Text.{ci_text, free_text}
-use Rattle.ocpi_text.specs.Party.{party_at, country_at, party_id_at}
-use Rattle.ocpi_text.specs.Whole.{whole_at}
-use Rattle.ocpi_text.specs.Moment.{moment_at}
-use Rattle.ocpi_text.specs.Decimal.{e4_at}
-use Rattle.ocpi_types.specs.declared.field.Field.{Field}
-use Rattle.ocpi_types.specs.Fields.{name_of}
+use Rattle.ocpi_text.specs.{TextFault, ci_text, country_at, e4_at, free_text, moment_at, party_at, party_id_at}
+use Rattle.ocpi_text.specs.{whole_at}
+use Rattle.ocpi_types.specs.{Field, name_of}
 use Rattle.json_text.specs.declared.fault.JsonFault.TheVariants.{Missing, WrongForm, UnknownWord, UnknownKind}
 use Rattle.json_text.specs.Fault.{Read, ◌>>=◌}
 use Rattle.json_text.specs.Tag.{is_tagged}

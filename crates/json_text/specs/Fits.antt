@@ -1,9 +1,7 @@
 -- What the types of a record's fields keep: so that each value can be written and read again.
 use Rattle.std.specs.Prelude.{◌≡◌, ◌<◌, ◌≤◌, ◌≤ℤ◌, unsigned_abs, pos, ℤ, ℕ, List, length, true, Option, Some, None}
 use Rattle.std.specs.Str.{chars}
-use Rattle.ocpi_text.specs.Decimal.{e4_limit}
-use Rattle.ocpi_text.specs.Text.{is_ascii_text, is_free_text}
-use Rattle.ocpi_text.specs.Moment.{last_moment}
+use Rattle.ocpi_text.specs.{e4_limit, is_ascii_text, is_free_text, last_moment}
 
 -- at most max characters, each printable ASCII
 pub record FitsCi (max : ℕ) (s : List ℕ) : Type 0 where

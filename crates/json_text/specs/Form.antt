@@ -3,15 +3,10 @@
 use Rattle.std.specs.Prelude.{◌≡◌, ◌≢◌, ◌⊎◌, ◌≤◌, ◌≤ℤ◌, ℕ, ℤ, pos, List, [], ◌∷◌, length, Bool, false, Option, Some, None, Result, Ok}
 use Rattle.serde_json.specs.Data.{Data, null, boolean, string, array, object, Items, no_items, item, Members}
 use Rattle.serde_json.specs.Find.{get}
-use Rattle.ocpi_text.specs.declared.fault.TextFault.{TextFault}
-use Rattle.ocpi_text.specs.Text.{ci_text, free_text}
-use Rattle.ocpi_text.specs.Party.{party_at, country_at, party_id_at, party_of}
-use Rattle.ocpi_text.specs.Whole.{whole_at}
-use Rattle.ocpi_text.specs.Moment.{moment_at}
-use Rattle.ocpi_text.specs.Decimal.{e4_at}
-use Rattle.ocpi_types.specs.declared.field.Field.{Field}
-use Rattle.ocpi_types.specs.declared.field.Field.TheVariants as field
-use Rattle.ocpi_types.specs.Fields.{name_of}
+use Rattle.ocpi_text.specs.{TextFault, ci_text, country_at, e4_at, free_text, moment_at, party_at, party_id_at}
+use Rattle.ocpi_text.specs.{party_of, whole_at}
+use Rattle.ocpi_types.specs.{Field, name_of}
+use Rattle.ocpi_types.specs.field
 use Rattle.json_text.specs.Tag.{is_tagged}
 
 -- v stands under the member's name, and is not null

@@ -4,10 +4,8 @@ use Rattle.json.specs.Token.{Token, begin_object, end_object, key}
 use Rattle.json.specs.Json as json
 use Rattle.json.specs.Print.{print}
 use Rattle.json.specs.Tree.{json_tokens}
-use Rattle.ocpi_text.specs.Decimal.{e4_text}
-use Rattle.ocpi_text.specs.Moment.{moment_text}
-use Rattle.ocpi_types.specs.declared.field.Field.{Field}
-use Rattle.ocpi_types.specs.Fields.{name_of}
+use Rattle.ocpi_text.specs.{e4_text, moment_text}
+use Rattle.ocpi_types.specs.{Field, name_of}
 
 -- a member that may be written: its name, and its value where it has one
 pub record Member : Type 0 where

@@ -2,7 +2,7 @@
 
 ghost use Rattle.std.specs.Prelude.{◌≡◌, ◌≤◌, ◌*◌, IfOk, Ok};
 ghost use Rattle.json_text.specs.Trees.{view, items_view};
-ghost use Rattle.ocpi_text.specs.Party.{country_at, party_id_at};
+ghost use Rattle.ocpi_text.specs.{country_at, party_id_at};
 ghost use Rattle.json_text.specs.Fault.{Gives, IsBy};
 ghost use Rattle.json_text.specs.Fields.{
   as_record,

@@ -3,7 +3,7 @@
 ghost use Rattle.std.specs.Prelude.{◌≡◌};
 ghost use Rattle.json.specs.Print.{token_text};
 ghost use Rattle.json.specs.Token.{key};
-ghost use Rattle.ocpi_types.specs.Fields.{name_of};
+ghost use Rattle.ocpi_types.specs.{name_of};
 
 use ocpi_types::Field;
 

@@ -247,12 +247,6 @@ line_cut echo fault held done text left rest old now new c plain s k cut = (done
     by false s kept = Keeps-trans old now new s kept
     by true s kept = Appends-kept old now new (strip_last 13 done) s.1 kept
 
--- the line of an echo is a beginning of itself
-pub line_whole : (echo : Bool) (text old new : Option (List ℕ)) → EchoesLine echo text old new → BeginsLine echo text old new
-line_whole false text old new e = e
-line_whole true None old new e = tt
-line_whole true (Some t) old new e = (first_line t, [], sym (append-nil (first_line t)), e)
-
 -- nothing of a line was taken
 pub nothing_passed : (echo held : Bool) (kept : Option (List ℕ)) → EchoesPart echo false held [] held kept kept
 nothing_passed false held kept = Keeps-refl kept

@@ -1,16 +1,12 @@
 -- Work that is carried out over a keeper: what it leaves, and what is told of its event.
 use Rattle.std.proofs.Common.{◌≡◌, ◌≢◌, ◌∙◌, ◌↔◌, ℕ, List, [], Bool, IsTrue, inl, refl, sym, ap, subst, Result, Ok, Err, IfOk, IfErr, OnOk, OnErr}
-use Rattle.ocpi_types.specs.declared.node_events.NodeEventKind.{NodeEventKind}
-use Rattle.ocpi_types.specs.declared.rows.Change.{Change}
-use Rattle.node_core.specs.Works.{Does, IsWork, changes_by, node_after, packets_by}
-use Rattle.node_core.specs.declared.input.NodeInput.{NodeInput}
-use Rattle.node_core.specs.declared.work.NodeWork.{NodeWork}
+use Rattle.ocpi_types.specs.{Change, NodeEventKind}
+use Rattle.node_core.specs.{Does, IsWork, NodeInput, NodeWork, changes_by, node_after, packets_by}
 use Rattle.node_core.proofs.Doing.{does}
-use Rattle.node_store.specs.Faults.{counted_fault}
-use Rattle.node_rows.specs.Laws.{AreClasses, ChangesAreHeld, RestartsAreHeld}
-use Rattle.stored_laws.specs.Nodes.{NodesCanStartAgain}
-use Rattle.world_steps.specs.Steps.{NodeStep, changes_of, input_of}
-use Rattle.world_steps.specs.World.{NodeState}
+use Rattle.node_store.specs.{counted_fault}
+use Rattle.node_rows.specs.{AreClasses, ChangesAreHeld, RestartsAreHeld}
+use Rattle.stored_laws.specs.{NodesCanStartAgain}
+use Rattle.world_steps.specs.{NodeState, NodeStep, changes_of, input_of}
 use Rattle.node_cell.specs.Keepers.{Commits, Declines, Keeper}
 use Rattle.node_cell.specs.Stored as stored
 use Rattle.node_cell.specs.Stored.{Applies, Fails, IsCarriedOut, IsDeclined, IsNotCarriedOut, IsStored, Loses, SaysTheSame, Stored}

@@ -1,13 +1,9 @@
 -- Work that is carried out in memory: what it leaves, and what is told of its event.
 use Rattle.std.proofs.Common.{◌≡◌, ◌≢◌, ◌∙◌, ◌++◌, ◌↔◌, List, [], Bool, IsTrue, inl, sym, ap, subst, Result, Ok, Err, IfOk, IfErr, OnOk, OnErr}
-use Rattle.ocpi_types.specs.declared.node_events.NodeEventKind.{NodeEventKind}
-use Rattle.ocpi_types.specs.declared.rows.Change.{Change}
-use Rattle.node_core.specs.Works.{IsWork, changes_by, node_after}
-use Rattle.node_core.specs.declared.input.NodeInput.{NodeInput}
-use Rattle.node_core.specs.declared.work.NodeWork.{NodeWork}
+use Rattle.ocpi_types.specs.{Change, NodeEventKind}
+use Rattle.node_core.specs.{IsWork, NodeInput, NodeWork, changes_by, node_after}
 use Rattle.node_core.proofs.Doing.{does}
-use Rattle.world_steps.specs.Steps.{NodeStep, input_of}
-use Rattle.world_steps.specs.World.{NodeState}
+use Rattle.world_steps.specs.{NodeState, NodeStep, input_of}
 use Rattle.node_cell.specs.Keepers.{Keeper}
 use Rattle.node_cell.specs.Stored.{SaysTheSame}
 use Rattle.node_cell.specs.Transactions.{AppliesInMemory, FailsInMemory, IsCarriedOutInMemory, IsPending, Pending}

@@ -1,21 +1,16 @@
 -- What holds of a node over its keeper holds after each event, whether its changes were committed or not.
-use Rattle.std.proofs.Common.{◌≡◌, ◌≢◌, ◌⊎◌, ◌∙◌, ℕ, List, [], inl, inr, refl, sym, ap, subst}
+use Rattle.std.proofs.Common.{◌≡◌, ◌≢◌, ◌⊎◌, ◌∙◌, ℕ, List, [], inl, inr, refl, sym, ap, subst, All, Contains, Some}
 use Rattle.std.specs.FinMap.{empty}
-use Rattle.std.specs.Prelude.{All, Contains, Some}
-use Rattle.ocpi_types.specs.declared.rows.Change.{Change}
-use Rattle.ocpi_types.specs.declared.rows.Row.{Row}
-use Rattle.ocpi_types.specs.declared.setup.Node.{Node}
-use Rattle.ocpi_types.specs.declared.setup.Node.TheVariants as node
-use Rattle.node_core.specs.Members.{IsMadeOfRows}
-use Rattle.node_store.specs.Contents.{Content, IsReadAgain, changed_all, rows_of}
-use Rattle.node_rows.specs.Holds.{HoldsRows, StoresAlike}
-use Rattle.node_rows.specs.Laws.{AreClasses, ChangesAreHeld, RestartsAreHeld}
+use Rattle.ocpi_types.specs.{Change, Node, Row}
+use Rattle.ocpi_types.specs.node
+use Rattle.node_core.specs.{IsMadeOfRows}
+use Rattle.node_store.specs.{Content, IsReadAgain, changed_all, rows_of}
+use Rattle.node_rows.specs.{AreClasses, ChangesAreHeld, HoldsRows, RestartsAreHeld, StoresAlike}
 use Rattle.node_rows.proofs.Telling.{empty_is_held}
-use Rattle.stored_laws.specs.Nodes.{AreNodeRows, CanStartAgain, IsSound, IsWhole, NodesCanStartAgain}
+use Rattle.stored_laws.specs.{AreNodeRows, CanStartAgain, IsSound, IsWhole, NodesCanStartAgain}
 use Rattle.stored_laws.proofs.Starting.{openings_can_start_again}
-use Rattle.world_laws.specs.Laws.{IsSetup}
-use Rattle.world_steps.specs.Steps.{NodeEvent, NodeStep, changes_of}
-use Rattle.world_steps.specs.World.{NodeState, Operates, Provides, opening_of}
+use Rattle.world_laws.specs.{IsSetup}
+use Rattle.world_steps.specs.{NodeEvent, NodeState, NodeStep, Operates, Provides, changes_of, opening_of}
 use Rattle.node_cell.specs.Keepers.{Commits, Declines, IsSettled, Keeper, Nothing, Taken, Takes}
 use Rattle.node_cell.specs.Stored.{HoldsOneMore, IsStored, Stored}
 

@@ -1,19 +1,16 @@
 -- Events whose changes are committed together: what holds of the node meanwhile and once they are, and what a refused
 -- commit leaves.
-use Rattle.std.proofs.Common.{◌≡◌, ◌∙◌, ◌++◌, ℕ, List, [], ◌∷◌, inl, inr, refl, sym, ap, subst, append-nil}
+use Rattle.std.proofs.Common.{◌≡◌, ◌∙◌, ◌++◌, ℕ, List, [], ◌∷◌, inl, inr, refl, sym, ap, subst, append-nil, All}
 use Rattle.std.specs.List.{AllByRecursion}
-use Rattle.std.specs.Prelude.{All}
 use Rattle.std.proofs.lemmas.List.Concat.{flat_map-append}
 use Rattle.std.proofs.lemmas.List.Elements.{All-from_recursion, recursion_from_All}
-use Rattle.ocpi_types.specs.declared.rows.Change.{Change}
+use Rattle.ocpi_types.specs.{Change}
 use Rattle.node_laws.specs.Runs.{Run}
 use Rattle.node_laws.proofs.Runs.{kept_runs, run_join}
-use Rattle.node_store.specs.Contents.{Content, IsReadAgain, changed, changed_all}
-use Rattle.node_rows.specs.Holds.{HoldsRows, StoresAlike}
-use Rattle.node_rows.specs.Laws.{AreClasses, ChangesAreHeld, RestartsAreHeld}
-use Rattle.stored_laws.specs.Nodes.{CanStartAgain, NodesCanStartAgain}
-use Rattle.world_steps.specs.Steps.{NodeEvent, NodeStep, changes_of}
-use Rattle.world_steps.specs.World.{NodeState}
+use Rattle.node_store.specs.{Content, IsReadAgain, changed, changed_all}
+use Rattle.node_rows.specs.{AreClasses, ChangesAreHeld, HoldsRows, RestartsAreHeld, StoresAlike}
+use Rattle.stored_laws.specs.{CanStartAgain, NodesCanStartAgain}
+use Rattle.world_steps.specs.{NodeEvent, NodeState, NodeStep, changes_of}
 use Rattle.node_cell.specs.Keepers.{Commits, Declines, Keeper, Nothing, Taken}
 use Rattle.node_cell.specs.Stored.{IsStored, Stored}
 use Rattle.node_cell.specs.Transactions as transactions

@@ -1,8 +1,8 @@
 -- What is said of a keeper of any type: what it keeps, which is said where it is honest; how many calls it has refused;
 -- and what is kept where a stop comes.
 use Rattle.std.specs.Prelude.{◌≡◌, ◌≢◌, ◌⊎◌, ℕ, List, [], All}
-use Rattle.ocpi_types.specs.declared.rows.Change.{Change}
-use Rattle.node_store.specs.Contents.{Content, IsReadAgain, changed_all}
+use Rattle.ocpi_types.specs.{Change}
+use Rattle.node_store.specs.{Content, IsReadAgain, changed_all}
 
 pub record Keeper (K : Type 0) : Type 1 where
   pub content : K → Content

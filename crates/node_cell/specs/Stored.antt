@@ -1,27 +1,17 @@
 -- A node whose rows a keeper keeps: what holds of it at any time, and what an event makes of it.
 use Rattle.std.specs.Prelude.{◌≡◌, ◌≢◌, ◌⊎◌, ◌↔◌, ℕ, List, [], Bool, true, false, IsTrue, None, Some, length}
-use Rattle.ocpi_types.specs.declared.node_events.NodeEventKind.{NodeEventKind}
+use Rattle.ocpi_types.specs.{Node as SetupNode, NodeEventKind, Packet, Row}
 use Rattle.ocpi_types.specs.declared.node_events.NodeEventKind.TheVariants as event
-use Rattle.ocpi_types.specs.declared.packet.Packet.{Packet}
-use Rattle.ocpi_types.specs.declared.rows.Row.{Row}
-use Rattle.node_steps.specs.declared.fault.NodeFault.{NodeFault}
-use Rattle.node_steps.specs.declared.fault.NodeFault.TheVariants.{Memory}
-use Rattle.world_steps.specs.Network.{Input}
-use Rattle.world_steps.specs.Steps.{NodeEvent, NodeRefuses, NodeStep, changes_of, input_of, packets_of}
-use Rattle.world_steps.specs.World.{NodeState, opening_of}
+use Rattle.node_steps.specs.{Memory, NodeFault}
+use Rattle.world_steps.specs.{Input, NodeEvent, NodeRefuses, NodeState, NodeStep, changes_of, input_of, opening_of}
+use Rattle.world_steps.specs.{packets_of}
 use Rattle.history_laws.specs.Replays.{Brings}
-use Rattle.stored_laws.specs.Nodes.{CanStartAgain, IsOfOpening}
-use Rattle.stored_rows.specs.declared.fault.RowsFault.{RowsFault}
+use Rattle.stored_laws.specs.{CanStartAgain, IsOfOpening}
+use Rattle.stored_rows.specs.{RowsFault}
 use Rattle.stored_rows.specs.declared.fault.RowsFault.TheVariants as rows_fault
-use Rattle.node_store.specs.Contents.{Content, rows_of}
-use Rattle.node_store.specs.Faults.{IsCommitFault, counted_fault}
-use Rattle.node_rows.specs.Holds.{HoldsRows, StoresAlike}
-use Rattle.node_core.specs.Inputs.{Gets}
-use Rattle.node_core.specs.declared.input.NodeInput.{NodeInput}
-use Rattle.node_core.specs.Works.{changes_by, packets_by}
-use Rattle.node_core.specs.declared.work.NodeWork.{NodeWork}
-use Rattle.node_core.specs.Members.{IsBadFor, IsMadeOfRows}
-use Rattle.ocpi_types.specs.declared.setup.Node.{Node as SetupNode}
+use Rattle.node_store.specs.{Content, IsCommitFault, StoreFault, counted_fault, rows_of}
+use Rattle.node_rows.specs.{HoldsRows, StoresAlike}
+use Rattle.node_core.specs.{Gets, IsBadFor, IsMadeOfRows, NodeInput, NodeWork, changes_by, packets_by}
 use Rattle.node_cell.specs.Keepers.{Commits, Declines, Keeper, KeepsOn}
 use Rattle.node_cell.specs.declared.fault.ApplyFault.{ApplyFault}
 use Rattle.node_cell.specs.declared.fault.ApplyFault.TheVariants as fault
@@ -29,8 +19,7 @@ use Rattle.node_cell.specs.declared.fault.ReopenFault.{ReopenFault}
 use Rattle.node_cell.specs.declared.fault.ReopenFault.TheVariants as reopen_fault
 use Rattle.node_cell.specs.declared.stored_node.Applied.{Applied}
 use Rattle.node_cell.specs.declared.stored_node.Applied.TheVariants.{Skipped, Stepped}
-use Rattle.node_store.specs.declared.fault.StoreFault.{StoreFault}
-use Rattle.node_store.specs.declared.fault.StoreFault.TheVariants as store
+use Rattle.node_store.specs.store
 
 -- the node, and the keeper of its rows
 pub record Stored (K : Type 0) : Type 0 where

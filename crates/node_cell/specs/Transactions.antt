@@ -2,22 +2,17 @@
 -- event makes of it, and what is left where the commit is refused.
 use Rattle.std.specs.Prelude.{◌≡◌, ◌≢◌, ◌⊎◌, ◌↔◌, ◌++◌, ℕ, List, [], Bool, false, IsTrue}
 use Rattle.std.specs.List.{flat_map}
-use Rattle.ocpi_types.specs.declared.node_events.NodeEventKind.{NodeEventKind}
+use Rattle.ocpi_types.specs.{Change, NodeEventKind, Packet}
 use Rattle.ocpi_types.specs.declared.node_events.NodeEventKind.TheVariants as event
-use Rattle.ocpi_types.specs.declared.packet.Packet.{Packet}
-use Rattle.ocpi_types.specs.declared.rows.Change.{Change}
-use Rattle.node_steps.specs.declared.fault.NodeFault.{NodeFault}
-use Rattle.node_steps.specs.declared.fault.NodeFault.TheVariants as core
+use Rattle.node_steps.specs.{NodeFault}
+use Rattle.node_steps.specs.node_fault as core
 use Rattle.node_laws.specs.Runs.{Run}
-use Rattle.world_steps.specs.Network.{Input}
-use Rattle.world_steps.specs.Steps.{NodeEvent, NodeRefuses, NodeStep, changes_of, input_of, packets_of}
-use Rattle.world_steps.specs.World.{NodeState}
+use Rattle.world_steps.specs.{Input, NodeEvent, NodeRefuses, NodeState, NodeStep, changes_of, input_of, packets_of}
 use Rattle.history_laws.specs.Replays.{Brings}
-use Rattle.stored_laws.specs.Nodes.{CanStartAgain}
-use Rattle.node_store.specs.Contents.{Content}
-use Rattle.node_rows.specs.Holds.{HoldsRows}
-use Rattle.node_core.specs.Works.{changes_by, packets_by}
-use Rattle.node_core.specs.declared.work.NodeWork.{NodeWork}
+use Rattle.stored_laws.specs.{CanStartAgain}
+use Rattle.node_store.specs.{Content}
+use Rattle.node_rows.specs.{HoldsRows}
+use Rattle.node_core.specs.{NodeWork, changes_by, packets_by}
 use Rattle.node_cell.specs.Keepers.{Declines, Keeper}
 use Rattle.node_cell.specs.Stored.{HoldsOneMore, IsStored, Stored}
 use Rattle.node_cell.specs.declared.fault.StepFault.{StepFault}

@@ -17,15 +17,13 @@ ghost use Rattle.node_cell.specs.Stored.{
   unloaded,
   unmade,
 };
-ghost use Rattle.node_core.specs.States.{state_of};
-ghost use Rattle.node_core.specs.Works.{IsPlanned, IsWork, MayDo, changes_by, node_after};
-ghost use Rattle.node_core.specs.declared.input.NodeInput.{NodeInput as NodeInputOf};
-ghost use Rattle.node_rows.specs.Holds.{HoldsRows};
-ghost use Rattle.node_store.specs.Faults.{IsCommitFault, counted_fault};
+ghost use Rattle.node_core.specs.{IsPlanned, IsWork, MayDo, NodeInput as NodeInputOf, changes_by, node_after, state_of};
+ghost use Rattle.node_rows.specs.{HoldsRows};
+ghost use Rattle.node_store.specs.{IsCommitFault, counted_fault};
 ghost use Rattle.ocpi_types.specs.declared.node_events.NodeEventKind.TheVariants as event;
-ghost use Rattle.stored_laws.specs.Nodes.{restarted};
-ghost use Rattle.world_laws.specs.Laws.{IsSetup};
-ghost use Rattle.world_steps.specs.World.{NodeState, opening_of};
+ghost use Rattle.stored_laws.specs.{restarted};
+ghost use Rattle.world_laws.specs.{IsSetup};
+ghost use Rattle.world_steps.specs.{NodeState, opening_of};
 
 use crate::fault::{ApplyFault, ReopenFault};
 use crate::transaction::Transaction;
@@ -64,9 +62,8 @@ impl<K: Keep> Model for StoredNode<K> {
     ghost use Rattle.std.specs.FinMap as map;
     ghost use Rattle.node_cell.specs.Keepers.{keeper_of};
     ghost use Rattle.node_cell.specs.Stored.{IsStored, Stored};
-    ghost use Rattle.node_core.specs.States.{state_of};
-    ghost use Rattle.node_core.specs.Works.{IsPlanned, IsWork, MayDo, changes_by, node_after};
-    ghost use Rattle.node_core.specs.declared.input.NodeInput.{NodeInput as NodeInputOf};
+    ghost use Rattle.node_core.specs.{IsPlanned, IsWork, MayDo, NodeInput as NodeInputOf, changes_by, node_after};
+    ghost use Rattle.node_core.specs.{state_of};
 
     ghost Value = { Stored K };
 

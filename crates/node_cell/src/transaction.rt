@@ -3,10 +3,8 @@
 ghost use Rattle.std.specs.Prelude.{◌≡◌, ◌≢◌, ◌++◌, [], IfErr, IfOk, OnErr, OnOk};
 ghost use Rattle.node_cell.specs.Keepers.{Commits, Declines, keeper_of};
 ghost use Rattle.node_cell.specs.Transactions.{AppliesInMemory, FailsInMemory, IsCarriedOutInMemory, IsPending};
-ghost use Rattle.node_core.specs.States.{state_of};
-ghost use Rattle.node_core.specs.Works.{IsPlanned, IsWork, MayDo, node_after};
-ghost use Rattle.node_core.specs.declared.input.NodeInput.{NodeInput as NodeInputOf};
-ghost use Rattle.node_store.specs.Faults.{IsCommitFault, counted_fault};
+ghost use Rattle.node_core.specs.{IsPlanned, IsWork, MayDo, NodeInput as NodeInputOf, node_after, state_of};
+ghost use Rattle.node_store.specs.{IsCommitFault, counted_fault};
 
 use crate::fault::StepFault;
 use crate::stored_node::{Applied, StoredNode, commit, input_of};
@@ -47,7 +45,7 @@ impl<K: Keep> Model for Transaction<K> {
     ghost use Rattle.std.specs.FinMap as map;
     ghost use Rattle.node_cell.specs.Keepers.{keeper_of};
     ghost use Rattle.node_cell.specs.Transactions.{IsPending, Pending};
-    ghost use Rattle.node_core.specs.States.{state_of};
+    ghost use Rattle.node_core.specs.{state_of};
 
     ghost Value = { Pending K };
 

@@ -6,17 +6,16 @@ use Rattle.node_core.specs.Works.{Does, IsWork, MayDo, changes_by, node_after}
 use Rattle.node_core.specs.declared.input.NodeInput.{NodeInput}
 use Rattle.node_core.specs.declared.work.NodeWork.{NodeWork}
 use Rattle.node_core.specs.declared.work.NodeWork.TheVariants as work
-use Rattle.node_steps.specs.Changes.{AreApart}
+use Rattle.node_steps.specs.{AreApart}
 use Rattle.operator_rows.proofs.RowChanges as operator_changes
 use Rattle.operator_steps.specs.Events as operator
 use Rattle.operator_steps.specs.Moves as operator_moves
 use Rattle.provider_rows.proofs.RowChanges as provider_changes
 use Rattle.provider_steps.specs.Events as provider
 use Rattle.provider_steps.specs.Moves as provider_moves
-use Rattle.stored_laws.specs.Nodes.{IsSound}
+use Rattle.stored_laws.specs.{IsSound}
 use Rattle.world_steps.specs.Steps as steps
-use Rattle.world_steps.specs.Steps.{AtOperator, AtProvider}
-use Rattle.world_steps.specs.World.{NodeState, Operates, Provides}
+use Rattle.world_steps.specs.{AtOperator, AtProvider, NodeState, Operates, Provides}
 
 pub may_do : (n : NodeState) (i : NodeInput) (x : NodeWork) → IsWork n i x → MayDo n x
 may_do (Operates s) i (work.Operator x) h = h.may

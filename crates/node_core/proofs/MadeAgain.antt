@@ -1,11 +1,8 @@
 -- A node of a setup that starts again is one of its role.
 use Rattle.std.proofs.Common.{◌≡◌, ℕ, List, ap, subst, sym}
 use Rattle.node_core.specs.Members.{StartsAgainFrom, line_of, peers_of}
-use Rattle.ocpi_types.specs.declared.rows.Row.{Row}
-use Rattle.ocpi_types.specs.declared.setup.Node.{Node}
-use Rattle.ocpi_types.specs.declared.setup.Node.TheVariants as member
-use Rattle.ocpi_types.specs.declared.site.Site.{Site}
-use Rattle.ocpi_types.specs.declared.site.SiteLine.{SiteLine}
+use Rattle.ocpi_types.specs.{Node, Row, Site, SiteLine}
+use Rattle.ocpi_types.specs.node as member
 use Rattle.operator_rows.specs.Sound as operator_sound
 use Rattle.operator_rows.specs.State as operator
 use Rattle.operator_rows.specs.Steps as operator_steps
@@ -13,11 +10,11 @@ use Rattle.operator_stored.specs.Making as operator_making
 use Rattle.provider_rows.specs.Rows as provider_rows
 use Rattle.provider_rows.specs.Sound as provider_sound
 use Rattle.provider_rows.specs.State as provider
-use Rattle.provider_rows.specs.State.{Peering}
+use Rattle.provider_rows.specs.{Peering}
 use Rattle.provider_rows.specs.Steps as provider_steps
 use Rattle.provider_stored.specs.Making as provider_making
-use Rattle.stored_laws.specs.Nodes.{CanStartAgain, restarted}
-use Rattle.world_steps.specs.World.{NodeState, Operates, Provides}
+use Rattle.stored_laws.specs.{CanStartAgain, restarted}
+use Rattle.world_steps.specs.{NodeState, Operates, Provides}
 
 module _ (nodes : List Node) (party : List ℕ) (site : Site) (rows : List Row) (line : SiteLine) (line_is : line ≡ line_of nodes party site) where
   -- what holds of each operator that starts again from the rows holds of each node that does

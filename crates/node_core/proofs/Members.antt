@@ -3,16 +3,16 @@ use Rattle.std.proofs.Common.{List, ap, refl}
 use Rattle.node_core.specs.Works.{node_after}
 use Rattle.node_core.specs.declared.work.NodeWork.{NodeWork}
 use Rattle.node_core.specs.declared.work.NodeWork.TheVariants as work
-use Rattle.node_steps.specs.Drafts.{step_of}
-use Rattle.ocpi_types.specs.declared.setup.Node.{Node}
-use Rattle.ocpi_types.specs.declared.setup.Node.TheVariants as member
-use Rattle.operator_rows.specs.FullSteps.{full_step_of}
+use Rattle.node_steps.specs.{step_of}
+use Rattle.ocpi_types.specs.{Node}
+use Rattle.ocpi_types.specs.node as member
+use Rattle.operator_rows.specs.{full_step_of}
 use Rattle.operator_rows.specs.Sound as operator_sound
 use Rattle.operator_rows.specs.Steps as operator_rows
 use Rattle.provider_rows.specs.Sound as provider_sound
 use Rattle.provider_rows.specs.Steps as provider_rows
-use Rattle.stored_laws.specs.Nodes.{IsOfOpening}
-use Rattle.world_steps.specs.World.{NodeState, Operates, Provides, opening_of}
+use Rattle.stored_laws.specs.{IsOfOpening}
+use Rattle.world_steps.specs.{NodeState, Operates, Provides, opening_of}
 
 pub opening_of_member : (nodes : List Node) (m : Node) → IsOfOpening (opening_of nodes m) (opening_of nodes m)
 opening_of_member nodes (member.Operator party site) = refl

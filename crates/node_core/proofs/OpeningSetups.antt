@@ -1,19 +1,15 @@
 -- A setup whose nodes are opened: an operator deals with all its providers.
-use Rattle.std.proofs.Common.{zero, suc, ◌≡◌, ◌≢◌, ◌⊎◌, ℕ, ◌+◌, ◌≤◌, List, [], ◌∷◌, ◌++◌, length, map, inl, inr, refl, sym, arith}
-use Rattle.std.specs.Prelude.{Some, Contains, slice_get}
+use Rattle.std.proofs.Common.{zero, suc, ◌≡◌, ◌≢◌, ◌⊎◌, ℕ, ◌+◌, ◌≤◌, List, [], ◌∷◌, ◌++◌, length, map, inl, inr, refl}
+use Rattle.std.proofs.Common.{sym, arith, Some, Contains, slice_get}
 use Rattle.std.proofs.lemmas.List.Elements.{Contains-append_left, Contains-append_right, Contains-append_cases}
-use Rattle.ocpi_text.specs.Text.{key}
-use Rattle.ocpi_types.specs.Apart.{DifferFrom}
-use Rattle.ocpi_types.specs.Parties.{AreParties}
-use Rattle.ocpi_types.specs.Setups.{node_key}
-use Rattle.ocpi_types.specs.declared.setup.Node.{Node}
-use Rattle.ocpi_types.specs.declared.setup.Node.TheVariants as node
-use Rattle.ocpi_types.specs.declared.site.Site.{Site}
+use Rattle.ocpi_text.specs.{key}
+use Rattle.ocpi_types.specs.{AreParties, DifferFrom, Node, Site, node_key}
+use Rattle.ocpi_types.specs.node
 use Rattle.tables.proofs.Elements.{in_single}
-use Rattle.world_laws.specs.Laws.{IsSetup}
+use Rattle.world_laws.specs.{IsSetup}
 use Rattle.world_laws.proofs.Setups.{one_role}
 use Rattle.world_steps.proofs.Places.{some_same}
-use Rattle.world_steps.specs.World.{providers_of}
+use Rattle.world_steps.specs.{providers_of}
 
 not_both : (p q : List ℕ) (site : Site) → node.Provider q ≡ node.Operator p site → ⊥
 not_both p q site e = cc

@@ -1,26 +1,20 @@
 -- What comes of a plan.
-use Rattle.std.proofs.Common.{◌≡◌, sym, subst}
-use Rattle.std.specs.Prelude.{Result, Ok, Err, IfOk, IfErr}
+use Rattle.std.proofs.Common.{◌≡◌, sym, subst, Result, Ok, Err, IfOk, IfErr}
 use Rattle.node_core.specs.Inputs.{OperatorGets, ProviderGets}
 use Rattle.node_core.specs.Works.{ComesOf, ComesOfFull, IsPlanned}
 use Rattle.node_core.specs.declared.input.NodeInput.{NodeInput}
 use Rattle.node_core.specs.declared.work.Planned.{Planned}
-use Rattle.node_steps.specs.Drafts.{step_of}
-use Rattle.node_steps.specs.declared.fault.NodeFault.{NodeFault}
-use Rattle.node_steps.specs.declared.plan.Plan.{Plan}
-use Rattle.operator_rows.specs.FullSteps.{full_step_of}
+use Rattle.node_steps.specs.{NodeFault, Plan, step_of}
+use Rattle.operator_rows.specs.{FullPlan, full_step_of}
 use Rattle.operator_rows.specs.State as operator_state
 use Rattle.operator_rows.specs.Steps as operator_rows
-use Rattle.operator_rows.specs.declared.full_plan.FullPlan.{FullPlan}
 use Rattle.operator_steps.specs.Events as operator
 use Rattle.operator_steps.specs.Moves as operator_moves
 use Rattle.provider_rows.specs.State as provider_state
 use Rattle.provider_rows.specs.Steps as provider_rows
 use Rattle.provider_steps.specs.Events as provider
 use Rattle.provider_steps.specs.Moves as provider_moves
-use Rattle.world_steps.specs.Network.{OfOperator, OfProvider}
-use Rattle.world_steps.specs.Steps.{OperatorRefuses, ProviderRefuses}
-use Rattle.world_steps.specs.World.{Operates, Provides}
+use Rattle.world_steps.specs.{OfOperator, OfProvider, Operates, OperatorRefuses, ProviderRefuses, Provides}
 
 if_ok_each : {X E : Type 0} (P Q : X → Type 0) → ((x : X) → P x → Q x) → (r : Result X E) → IfOk r P → IfOk r Q
 if_ok_each P Q all (Ok x) h = all x h

@@ -4,8 +4,7 @@ use Rattle.node_core.specs.declared.input.NodeInput.{NodeInput}
 use Rattle.node_core.specs.declared.input.NodeInput.TheVariants as input
 use Rattle.operator_steps.specs.Events as operator
 use Rattle.provider_steps.specs.Events as provider
-use Rattle.world_steps.specs.Network.{Input, OfOperator, OfProvider}
-use Rattle.world_steps.specs.World.{NodeState, Operates, Provides}
+use Rattle.world_steps.specs.{Input, NodeState, OfOperator, OfProvider, Operates, Provides}
 
 -- what an operator gets by it, if anything
 abbrev pub OperatorGets : NodeInput → operator.Input → Type 0

@@ -4,10 +4,10 @@ use Rattle.node_core.specs.States.{AreNodeChanges}
 use Rattle.node_core.specs.Works.{Does, IsWork, MayDo, changes_by, node_after}
 use Rattle.node_core.specs.declared.input.NodeInput.{NodeInput}
 use Rattle.node_core.specs.declared.work.NodeWork.{NodeWork}
-use Rattle.node_steps.specs.Changes.{AreApart}
-use Rattle.ocpi_types.specs.declared.setup.Node.{Node}
-use Rattle.stored_laws.specs.Nodes.{IsOfOpening, IsSound}
-use Rattle.world_steps.specs.World.{NodeState, opening_of}
+use Rattle.node_steps.specs.{AreApart}
+use Rattle.ocpi_types.specs.{Node}
+use Rattle.stored_laws.specs.{IsOfOpening, IsSound}
+use Rattle.world_steps.specs.{NodeState, opening_of}
 
 -- work that was planned may be done, and is a step of the node
 abbrev pub WorkIsAStep : Type 0

@@ -1,19 +1,15 @@
 -- A node of a setup: what it is opened with, and what of its rows a node is made.
 use Rattle.std.specs.Prelude.{ℕ, List}
-use Rattle.ocpi_types.specs.declared.rows.Row.{Row}
-use Rattle.ocpi_types.specs.declared.rows.RowKey.{RowKey}
-use Rattle.ocpi_types.specs.declared.setup.Node.{Node}
-use Rattle.ocpi_types.specs.declared.setup.Node.TheVariants as member
-use Rattle.ocpi_types.specs.declared.site.Site.{Site}
-use Rattle.ocpi_types.specs.declared.site.SiteLine.{SiteLine}
+use Rattle.ocpi_types.specs.{Node, Row, RowKey, Site, SiteLine}
+use Rattle.ocpi_types.specs.node as member
 use Rattle.operator_stored.specs.Bad as operator_bad
 use Rattle.operator_stored.specs.Making as operator_making
-use Rattle.provider_rows.specs.State.{Peering}
+use Rattle.provider_rows.specs.{Peering}
 use Rattle.provider_stored.specs.Bad as provider_bad
 use Rattle.provider_stored.specs.Making as provider_making
-use Rattle.stored_laws.specs.Nodes.{AreNodeRows, IsOfOpening}
-use Rattle.stored_rows.specs.declared.fault.BadReason.{BadReason}
-use Rattle.world_steps.specs.World.{NodeState, Operates, Provides, opening_of, operators_of, providers_of}
+use Rattle.stored_laws.specs.{AreNodeRows, IsOfOpening}
+use Rattle.stored_rows.specs.{BadReason}
+use Rattle.world_steps.specs.{NodeState, Operates, Provides, opening_of, operators_of, providers_of}
 
 -- what an operator of the setup is opened with: its site, and all providers
 abbrev pub line_of : List Node → List ℕ → Site → SiteLine

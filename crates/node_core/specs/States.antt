@@ -1,13 +1,13 @@
 -- What the values of the code stand for, and what is told of a node.
 use Rattle.std.specs.Prelude.{ℤ, pos, List}
 use Rattle.std.specs.FinMap.{values}
-use Rattle.handover.specs.Owed.{Account, owed}
+use Rattle.handover.specs.{Account, owed}
 use Rattle.node_core.specs.declared.node.Node.{Node}
 use Rattle.node_core.specs.declared.node.Node.TheVariants as node
-use Rattle.ocpi_types.specs.declared.rows.Change.{Change}
+use Rattle.ocpi_types.specs.{Change}
 use Rattle.operator_rows.specs.Rows as operator
 use Rattle.provider_rows.specs.Rows as provider
-use Rattle.world_steps.specs.World.{NodeState, Operates, Provides}
+use Rattle.world_steps.specs.{NodeState, Operates, Provides}
 
 abbrev pub state_of : Node → NodeState
 state_of (node.Operator o) = Operates o.state

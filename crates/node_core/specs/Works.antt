@@ -10,27 +10,20 @@ use Rattle.node_core.specs.declared.work.NodeWork.{NodeWork}
 use Rattle.node_core.specs.declared.work.NodeWork.TheVariants as work
 use Rattle.node_core.specs.declared.work.Planned.{Planned}
 use Rattle.node_core.specs.declared.work.Planned.TheVariants.{Acts, Refused, Skipped}
-use Rattle.node_steps.specs.Drafts.{step_of}
-use Rattle.node_steps.specs.declared.fault.NodeFault.{NodeFault}
-use Rattle.node_steps.specs.declared.fault.NodeFault.TheVariants.{Memory}
-use Rattle.node_steps.specs.declared.plan.Plan.{Plan}
-use Rattle.ocpi_types.specs.declared.packet.Packet.{Packet}
-use Rattle.ocpi_types.specs.declared.rows.Change.{Change}
-use Rattle.operator_rows.specs.FullSteps.{full_step_of}
+use Rattle.node_steps.specs.{Memory, NodeFault, Plan, step_of}
+use Rattle.ocpi_types.specs.{Change, Packet, Session}
+use Rattle.operator_rows.specs.{FullPlan, full_step_of}
 use Rattle.operator_rows.specs.State as operator_state
 use Rattle.operator_rows.specs.Steps as operator_rows
-use Rattle.operator_rows.specs.declared.full_plan.FullPlan.{FullPlan}
 use Rattle.operator_steps.specs.Events as operator
 use Rattle.operator_steps.specs.Moves as operator_moves
 use Rattle.provider_rows.specs.State as provider_state
 use Rattle.provider_rows.specs.Steps as provider_rows
 use Rattle.provider_steps.specs.Events as provider
 use Rattle.provider_steps.specs.Moves as provider_moves
-use Rattle.stored_laws.specs.Nodes.{restarted}
-use Rattle.world_steps.specs.Network.{Input}
-use Rattle.world_steps.specs.Steps.{NodeEvent, NodeRefuses, NodeStep, changes_of, input_of, packets_of, versions_of, all_put}
-use Rattle.world_steps.specs.World.{NodeState, Operates, Provides}
-use Rattle.ocpi_types.specs.declared.sessions.Session.{Session}
+use Rattle.stored_laws.specs.{restarted}
+use Rattle.world_steps.specs.{Input, NodeEvent, NodeRefuses, NodeState, NodeStep, Operates, Provides, all_put}
+use Rattle.world_steps.specs.{changes_of, input_of, packets_of, versions_of}
 
 -- the node once the work is done
 abbrev pub node_after : NodeWork → NodeState → NodeState

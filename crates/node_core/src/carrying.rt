@@ -4,7 +4,7 @@ ghost use Rattle.std.specs.Prelude.{◌≡◌, IsOk, OnOk};
 ghost use Rattle.node_core.specs.States.{state_of};
 ghost use Rattle.node_core.specs.Works.{HasRoomFor, MayDo, node_after, packets_by};
 ghost use Rattle.node_core.specs.declared.work.NodeWork.TheVariants as work;
-ghost use Rattle.stored_laws.specs.Nodes.{restarted};
+ghost use Rattle.stored_laws.specs.{restarted};
 
 use crate::node::Node;
 use crate::work::NodeWork;

@@ -3,11 +3,11 @@
 ghost use Rattle.std.specs.Prelude.{◌≡◌, Contains, IfErr, IfOk};
 ghost use Rattle.node_core.specs.Members.{IsBadFor, IsMadeOfRows, StartsAgainFrom};
 ghost use Rattle.node_core.specs.States.{state_of};
-ghost use Rattle.ocpi_types.specs.declared.setup.Node.TheVariants as member;
-ghost use Rattle.stored_laws.specs.Nodes.{CanStartAgain, restarted};
-ghost use Rattle.stored_rows.specs.Faults.{IfBadRows};
-ghost use Rattle.world_laws.specs.Laws.{IsSetup};
-ghost use Rattle.world_steps.specs.World.{NodeState};
+ghost use Rattle.ocpi_types.specs.node as member;
+ghost use Rattle.stored_laws.specs.{CanStartAgain, restarted};
+ghost use Rattle.stored_rows.specs.{IfBadRows};
+ghost use Rattle.world_laws.specs.{IsSetup};
+ghost use Rattle.world_steps.specs.{NodeState};
 
 use crate::node::Node;
 use crate::opening::{peers, site_line};

@@ -1,9 +1,9 @@
 //! A node of either role, and what it tells.
 
 ghost use Rattle.std.specs.Prelude.{◌≡◌, IfOk};
-ghost use Rattle.ocpi_text.specs.Text.{key};
+ghost use Rattle.ocpi_text.specs.{key};
 ghost use Rattle.node_core.specs.States.{owed_of, state_of};
-ghost use Rattle.stored_laws.specs.Nodes.{AreNodeRows, IsSound, last_serial};
+ghost use Rattle.stored_laws.specs.{AreNodeRows, IsSound, last_serial};
 
 use ocpi_text::{Party, ShortText, Whole};
 use ocpi_types::Row;

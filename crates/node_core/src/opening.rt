@@ -3,14 +3,13 @@
 ghost use Rattle.std.specs.Prelude.{◌≡◌, ◌++◌, Contains, IfOk, Ok, OnOk};
 ghost use Rattle.node_core.specs.Members.{line_of, peers_of};
 ghost use Rattle.node_core.specs.States.{state_of};
-ghost use Rattle.ocpi_text.specs.Party.{party_at};
-ghost use Rattle.ocpi_types.specs.Setups.{party_of};
-ghost use Rattle.ocpi_types.specs.declared.setup.Node.{Node as NodeOf};
-ghost use Rattle.ocpi_types.specs.declared.setup.Node.TheVariants as node;
+ghost use Rattle.ocpi_text.specs.{party_at};
+ghost use Rattle.ocpi_types.specs.{Node as NodeOf, party_of};
+ghost use Rattle.ocpi_types.specs.node;
 ghost use Rattle.operator_rows.specs.State as operator;
 ghost use Rattle.provider_rows.specs.State as provider;
-ghost use Rattle.world_laws.specs.Laws.{IsSetup};
-ghost use Rattle.world_steps.specs.World.{opening_of, operator_of, operators_of, provider_of, providers_of};
+ghost use Rattle.world_laws.specs.{IsSetup};
+ghost use Rattle.world_steps.specs.{opening_of, operator_of, operators_of, provider_of, providers_of};
 
 use crate::node::Node;
 use ocpi_text::{Moment, Party};

@@ -3,7 +3,7 @@
 ghost use Rattle.std.specs.Prelude.{IfOk};
 ghost use Rattle.node_core.specs.States.{state_of};
 ghost use Rattle.node_core.specs.Works.{ComesOf, ComesOfFull, IsPlanned};
-ghost use Rattle.world_steps.specs.World.{Operates, Provides};
+ghost use Rattle.world_steps.specs.{Operates, Provides};
 
 use crate::input::NodeInput;
 use crate::node::Node;

@@ -6,7 +6,7 @@ ghost use Rattle.operator_rows.specs.Steps as operator_rows;
 ghost use Rattle.operator_stored.specs.Whole as operator_whole;
 ghost use Rattle.provider_rows.specs.Steps as provider_rows;
 ghost use Rattle.provider_stored.specs.Whole as provider_whole;
-ghost use Rattle.stored_laws.specs.Nodes.{IsWhole, restarted};
+ghost use Rattle.stored_laws.specs.{IsWhole, restarted};
 
 use crate::node::Node;
 use crate::opening::first_moment;

@@ -1,6 +1,6 @@
 -- What a call makes of a log: it goes on by an entry, or stays as it was.
 use Rattle.std.proofs.Common.{Result, Ok, Err, IfErr, arith, ◌≡◌, ◌∙◌, ℕ, ◌+◌, ◌<◌, ◌≤◌, ◌++◌, ◌∷◌, [], List, inl, refl, sym, ap, subst, append_assoc, append-nil, length, length-append}
-use Rattle.node_cell.specs.Keepers.{Keeper}
+use Rattle.node_cell.specs.{Keeper}
 use Rattle.node_desk.specs.Faults.{Behind, Full, IsNotCalled, NotEntered, of_cell}
 use Rattle.node_desk.specs.Logs.{GoesOn, Log, log_of}
 use Rattle.node_desk.specs.declared.fault.Refusal.{Refusal}
@@ -8,15 +8,13 @@ use Rattle.receipts.specs.declared.receipt.Receipt.{Receipt}
 use Rattle.node_desk.specs.declared.fault.DeskFault.{DeskFault}
 use Rattle.node_desk.specs.declared.fault.DeskFault.TheVariants.{Memory, Rewound, TraceFull}
 use Rattle.node_history.specs.Cells as cells
-use Rattle.node_history.specs.Cells.{Cell, Enters, IsNotEntered, StoredStep, most_entries, stored_of}
+use Rattle.node_history.specs.{Cell, CellFault, Enters, IsNotEntered, StoredStep, most_entries, stored_of}
 use Rattle.history_laws.specs.Replays as entries
 use Rattle.history_laws.specs.Replays.{EntryStep, Replays}
-use Rattle.histories.specs.declared.entry.Entry.{Entry}
-use Rattle.node_history.specs.declared.fault.CellFault.{CellFault}
+use Rattle.histories.specs.{Entry}
 use Rattle.node_history.specs.declared.fault.CellFault.TheVariants as cell
 use Rattle.node_laws.proofs.Runs.{run_join}
-use Rattle.ocpi_types.specs.declared.node_events.NodeEventKind.{NodeEventKind}
-use Rattle.ocpi_types.specs.declared.packet.Packet.{Packet}
+use Rattle.ocpi_types.specs.{NodeEventKind, Packet}
 
 step_of : {K : Type 0} (keeper : Keeper K) (old new : Cell K) (e : Entry) → StoredStep keeper (stored_of old) e (stored_of new) → EntryStep old.state e new.state
 step_of keeper old new e (cells.Does x did commits) = entries.Does x did

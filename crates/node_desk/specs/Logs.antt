@@ -1,10 +1,10 @@
 -- What happened at a cell, and how that goes on.
 use Rattle.std.specs.Prelude.{◌≡◌, ◌++◌, ℕ, List, [], Bool, true, length}
-use Rattle.node_history.specs.Cells.{Cell}
+use Rattle.node_history.specs.{Cell}
 use Rattle.history_laws.specs.Replays.{Replays}
-use Rattle.histories.specs.declared.entry.Entry.{Entry}
+use Rattle.histories.specs.{Entry}
 use Rattle.provider_rows.specs.State as provider
-use Rattle.world_steps.specs.World.{NodeState, Provides}
+use Rattle.world_steps.specs.{NodeState, Provides}
 
 -- a cell without its keeper: whose node it is; the node as it was opened, the entries since then, and the node as they
 -- left it; and whether it was opened before any event

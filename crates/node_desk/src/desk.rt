@@ -1,10 +1,10 @@
 //! A desk.
 
 ghost use Rattle.std.specs.Prelude.{◌≡◌, ◌+◌, ◌<◌, ◌≤◌, ◌↔◌, ℕ, All, IfErr, IfOk, IsOk, OnErr, OnOk, length, sum_by, vec_len};
-ghost use Rattle.node_cell.specs.Keepers.{keeper_of};
-ghost use Rattle.node_history.specs.Cells.{IsCell};
+ghost use Rattle.node_cell.specs.{keeper_of};
+ghost use Rattle.node_history.specs.{IsCell};
 ghost use Rattle.history_laws.specs.Replays.{Replays};
-ghost use Rattle.node_rows.specs.Holds.{HoldsRows};
+ghost use Rattle.node_rows.specs.{HoldsRows};
 ghost use Rattle.node_desk.specs.Calls.{WasEntered, WasRefused};
 ghost use Rattle.node_desk.specs.Logs.{GoesOn, log_of};
 ghost use Rattle.node_desk.specs.Passes.{IsUnused, PassOf};

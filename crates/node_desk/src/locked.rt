@@ -1,11 +1,10 @@
 //! What stands behind a desk's lock.
 
 ghost use Rattle.std.specs.Prelude.{◌≡◌, ◌+◌, ◌<◌, ◌≤◌, ℕ, IfErr, IfOk, OnErr, OnOk, length};
-ghost use Rattle.node_history.specs.Cells.{Enters, IsNotEntered, most_entries};
-ghost use Rattle.node_cell.specs.Keepers.{keeper_of};
+ghost use Rattle.node_history.specs.{CellFault as CellFaultOf, Enters, IsNotEntered, most_entries};
+ghost use Rattle.node_cell.specs.{keeper_of};
 ghost use Rattle.node_desk.specs.Faults.{IsNotCalled, of_cell};
 ghost use Rattle.node_desk.specs.declared.fault.DeskFault.TheVariants.{Rewound};
-ghost use Rattle.node_history.specs.declared.fault.CellFault.{CellFault as CellFaultOf};
 ghost use Rattle.node_desk.specs.Calls.{WasEntered, WasRefused};
 ghost use Rattle.node_desk.specs.Logs.{GoesOn, log_of};
 ghost use Rattle.receipts.specs.Audits.{entry_of};

@@ -1,11 +1,9 @@
 //! What is made of a line before a desk is called.
 
 ghost use Rattle.std.specs.Prelude.{◌≡◌, Err, IfOk, Ok};
-ghost use Rattle.json_text.specs.Fault.{Gives};
-ghost use Rattle.json_text.specs.Line.{IsNoText};
-ghost use Rattle.json_text.specs.declared.fault.JsonFault.TheVariants.{Syntax};
-ghost use Rattle.ocpi_json.specs.Packets.{SpellsPacket, packet_in};
-ghost use Rattle.ocpi_types.specs.declared.packet.Packet.{Packet as PacketOf};
+ghost use Rattle.json_text.specs.{Gives, IsNoText, Syntax};
+ghost use Rattle.ocpi_json.specs.{SpellsPacket, packet_in};
+ghost use Rattle.ocpi_types.specs.{Packet as PacketOf};
 
 use ocpi_json::{JsonFault, Scratch, read_packet};
 use ocpi_types::Packet;

@@ -1,13 +1,11 @@
 -- What holds of each of the first nodes, and of the next.
-use Rattle.std.proofs.Common.{arith, ◌≡◌, ◌⊎◌, inl, inr, ℕ, ◌+◌, ◌<◌, List, get_or, length, refl, sym, ◌∙◌, subst}
-use Rattle.std.specs.Prelude.{Some, slice_get}
+use Rattle.std.proofs.Common.{arith, ◌≡◌, ◌⊎◌, inl, inr, ℕ, ◌+◌, ◌<◌, List, get_or, length, refl, sym, ◌∙◌, subst, Some}
+use Rattle.std.proofs.Common.{slice_get}
 use Rattle.std.proofs.lemmas.Bool.{cases_lt}
 use Rattle.std.proofs.lemmas.Option.{slice_get_read}
 use Rattle.node_harness.specs.Settled.{AreSettled, IsSettled}
 use Rattle.node_harness.specs.declared.settling.NodeRan.{NodeRan}
-use Rattle.ocpi_types.specs.Setups.{party_of}
-use Rattle.ocpi_types.specs.declared.node_events.NodeEventKind.{NodeEventKind}
-use Rattle.ocpi_types.specs.declared.setup.Node.{Node}
+use Rattle.ocpi_types.specs.{Node, NodeEventKind, party_of}
 
 one_member : (x y : Node) → Some x ≡ Some y → x ≡ y
 one_member x y same = cc

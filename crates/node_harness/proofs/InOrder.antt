@@ -1,9 +1,9 @@
 -- How the entries of a node are found in its script, one after the other.
-use Rattle.std.proofs.Common.{arith, ◌≡◌, inl, inr, zero, suc, ℕ, ◌+◌, List, [], ◌∷◌, true, false, drop, length, refl, sym, ◌∙◌, ap, subst}
-use Rattle.std.specs.Prelude.{None, Some, slice_get}
+use Rattle.std.proofs.Common.{arith, ◌≡◌, inl, inr, zero, suc, ℕ, ◌+◌, List, [], ◌∷◌, true, false, drop, length, refl}
+use Rattle.std.proofs.Common.{sym, ◌∙◌, ap, subst, None, Some, slice_get}
 use Rattle.node_harness.specs.Settled.{IsInOrder, is_own, own_events}
-use Rattle.histories.specs.declared.entry.Entry.{Entry}
-use Rattle.ocpi_types.specs.declared.node_events.NodeEventKind.{NodeEventKind}
+use Rattle.histories.specs.{Entry}
+use Rattle.ocpi_types.specs.{NodeEventKind}
 
 same_kind : (x y : NodeEventKind) → Some y ≡ Some x → x ≡ y
 same_kind x y same = cc

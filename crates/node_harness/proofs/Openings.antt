@@ -1,20 +1,17 @@
 -- Of which nodes of a setup cells are.
-use Rattle.std.proofs.Common.{◌≡◌, ◌∙◌, ℕ, List, length, sym, ap, subst}
+use Rattle.std.proofs.Common.{◌≡◌, ◌∙◌, ℕ, List, length, sym, ap, subst, All, Contains, Some, slice_get}
 use Rattle.std.proofs.lemmas.List.Elements.{All-contains}
-use Rattle.std.specs.Prelude.{All, Contains, Some, slice_get}
 use Rattle.histories.proofs.Lists.{got_within, is_in, place_in, some_same}
 use Rattle.node_desk.specs.Logs.{GoesOn, Log, log_of}
 use Rattle.node_harness.specs.Opened.{AreOpened, IsOfSetup, IsOpenedAs, RanOf}
 use Rattle.node_harness.specs.Settled.{AreSettled}
 use Rattle.node_harness.specs.declared.settling.NodeRan.{NodeRan}
-use Rattle.node_history.specs.Cells.{Cell}
-use Rattle.ocpi_text.specs.Text.{key}
-use Rattle.ocpi_types.specs.Setups.{party_of}
-use Rattle.ocpi_types.specs.declared.node_events.NodeEventKind.{NodeEventKind}
-use Rattle.ocpi_types.specs.declared.setup.Node.{Node}
+use Rattle.node_history.specs.{Cell}
+use Rattle.ocpi_text.specs.{key}
+use Rattle.ocpi_types.specs.{Node, NodeEventKind, party_of}
 use Rattle.world_laws.proofs.Setups.{one_node}
-use Rattle.world_laws.specs.Laws.{IsSetup}
-use Rattle.world_steps.specs.World.{opening_of}
+use Rattle.world_laws.specs.{IsSetup}
+use Rattle.world_steps.specs.{opening_of}
 
 -- a cell that was just opened
 pub opened_there : {K : Type 0} (setup : List Node) (member : Node) (c : Cell K) → Contains setup member → c.party ≡ party_of member → c.first ≡ opening_of setup member → IsOfSetup setup c

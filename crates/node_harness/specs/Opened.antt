@@ -1,10 +1,9 @@
 -- Which node of a setup a cell is of, and how it began.
 use Rattle.std.specs.Prelude.{◌≡◌, ℕ, List, Some, Contains, slice_get}
 use Rattle.node_harness.specs.declared.settling.NodeRan.{NodeRan}
-use Rattle.node_history.specs.Cells.{Cell}
-use Rattle.ocpi_types.specs.Setups.{party_of}
-use Rattle.ocpi_types.specs.declared.setup.Node.{Node}
-use Rattle.world_steps.specs.World.{opening_of}
+use Rattle.node_history.specs.{Cell}
+use Rattle.ocpi_types.specs.{Node, party_of}
+use Rattle.world_steps.specs.{opening_of}
 
 -- the cell has the party of that node, as the setup spells it, and began as the setup opens that node
 pub record IsOpenedAs {K : Type 0} (setup : List Node) (member : Node) (c : Cell K) : Type 0 where

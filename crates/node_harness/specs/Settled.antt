@@ -2,12 +2,10 @@
 use Rattle.std.specs.Prelude.{◌≡◌, ◌⊎◌, ◌<◌, ℕ, Bool, true, false, List, [], ◌∷◌, Option, None, Some, Vec, filter, length, map, slice_get, ⊤}
 use Rattle.std.specs.declared.alloc.Global.{Global}
 use Rattle.node_harness.specs.declared.settling.NodeRan.{NodeRan}
-use Rattle.histories.specs.declared.entry.Entry.{Entry}
-use Rattle.ocpi_text.specs.Text.{key}
-use Rattle.ocpi_types.specs.Setups.{party_of}
-use Rattle.ocpi_types.specs.declared.node_events.NodeEventKind.{NodeEventKind}
+use Rattle.histories.specs.{Entry}
+use Rattle.ocpi_text.specs.{key}
+use Rattle.ocpi_types.specs.{Node, NodeEventKind, party_of}
 use Rattle.ocpi_types.specs.declared.node_events.NodeEventKind.TheVariants as event
-use Rattle.ocpi_types.specs.declared.setup.Node.{Node}
 use Rattle.receipts.specs.Audits.{AreReceiptsOf}
 
 -- it is no delivery

@@ -1,7 +1,7 @@
 //! Which setup a run is of.
 
 ghost use Rattle.std.specs.Prelude.{List, []};
-ghost use Rattle.ocpi_types.specs.declared.setup.Node.{Node};
+ghost use Rattle.ocpi_types.specs.{Node};
 
 use std::marker::Brand;
 

@@ -3,7 +3,7 @@
 ghost use Rattle.std.specs.Prelude.{◌≡◌, All, IfOk, OnOk, length, vec_len};
 ghost use Rattle.node_harness.specs.Opened.{AreOpened, RanOf};
 ghost use Rattle.node_harness.specs.Settled.{AreSettled, script_of};
-ghost use Rattle.world_laws.specs.Laws.{IsSetup};
+ghost use Rattle.world_laws.specs.{IsSetup};
 
 use crate::fault::RunFault;
 use crate::member::Member;

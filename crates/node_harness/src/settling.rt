@@ -2,7 +2,7 @@
 
 ghost use Rattle.std.specs.Prelude.{◌≡◌, ◌+◌, ◌↔◌, IfSome, IsTrue, OnOk, Some, drop, slice_get, true, ℕ};
 ghost use Rattle.node_harness.specs.Settled.{IsInOrder, IsSettled, is_own, own_events};
-ghost use Rattle.ocpi_text.specs.Text.{key};
+ghost use Rattle.ocpi_text.specs.{key};
 
 use crate::fault::RunFault;
 use histories::Entry;

@@ -2,7 +2,7 @@
 
 ghost use Rattle.std.specs.Prelude.{◌≡◌, ◌<◌, Contains, IfOk, IfSome, length};
 ghost use Rattle.node_harness.specs.Opened.{IsOfSetup};
-ghost use Rattle.world_laws.specs.Laws.{IsSetup};
+ghost use Rattle.world_laws.specs.{IsSetup};
 
 use crate::calling::{Inbound, Out};
 use crate::fault::RunFault;

@@ -1,15 +1,11 @@
 -- What comes of an event at a node over its keeper is a step of the event's entry.
 use Rattle.std.proofs.Common.{◌≡◌, ◌∙◌, sym, subst, Result, Ok, Err, IfOk, OnOk}
-use Rattle.ocpi_types.specs.declared.node_events.NodeEventKind.{NodeEventKind}
-use Rattle.ocpi_types.specs.declared.rows.Change.{Change}
-use Rattle.node_core.specs.Works.{IsWork, changes_by, node_after, packets_by}
-use Rattle.node_core.specs.declared.input.NodeInput.{NodeInput}
-use Rattle.node_core.specs.declared.work.NodeWork.{NodeWork}
+use Rattle.ocpi_types.specs.{Change, NodeEventKind}
+use Rattle.node_core.specs.{IsWork, NodeInput, NodeWork, changes_by, node_after, packets_by}
 use Rattle.node_core.proofs.Doing.{does}
-use Rattle.world_steps.specs.Steps.{NodeStep, changes_of, input_of}
-use Rattle.node_cell.specs.Keepers.{Commits, Keeper}
-use Rattle.node_cell.specs.Stored.{SaysTheSame, Stored}
-use Rattle.node_cell.specs.declared.fault.ApplyFault.{ApplyFault}
+use Rattle.world_steps.specs.{NodeStep, changes_of, input_of}
+use Rattle.node_cell.specs.{ApplyFault, Commits, Keeper, SaysTheSame}
+use Rattle.node_cell.specs.Stored.{Stored}
 use Rattle.node_history.specs.Cells as cells
 use Rattle.node_history.specs.Cells.{StoredStep}
 use Rattle.node_history.specs.declared.stepping.Sent.{Sent}

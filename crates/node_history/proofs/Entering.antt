@@ -1,27 +1,24 @@
 -- What holds of a cell holds from its opening on, after each event, whether it was entered or refused.
-use Rattle.std.proofs.Common.{◌≡◌, ◌⊎◌, ◌∙◌, ◌+◌, ◌≤◌, ◌<◌, ◌++◌, ◌∷◌, ℕ, List, [], inl, inr, refl, sym, ap, subst, arith, length, length-append, append_assoc, append-nil, Result, Ok, Err, IfOk, IfErr, OnErr}
-use Rattle.std.specs.Prelude.{Bool, suc, true}
-use Rattle.ocpi_types.specs.declared.node_events.NodeEventKind.{NodeEventKind}
-use Rattle.ocpi_types.specs.declared.packet.Packet.{Packet}
+use Rattle.std.proofs.Common.{◌≡◌, ◌⊎◌, ◌∙◌, ◌+◌, ◌≤◌, ◌<◌, ◌++◌, ◌∷◌, ℕ, List, [], inl, inr, refl, sym, ap, subst}
+use Rattle.std.proofs.Common.{arith, length, length-append, append_assoc, append-nil, Result, Ok, Err, IfOk, IfErr}
+use Rattle.std.proofs.Common.{OnErr, Bool, suc, true}
+use Rattle.ocpi_types.specs.{NodeEventKind, Packet}
 use Rattle.node_laws.specs.Runs.{Run}
 use Rattle.node_laws.proofs.Runs.{run_join}
-use Rattle.node_store.specs.Contents.{Content}
-use Rattle.node_rows.specs.Holds.{HoldsRows}
-use Rattle.node_rows.specs.Laws.{ChangesAreHeld}
-use Rattle.stored_laws.specs.Nodes.{CanStartAgain, NodesCanStartAgain}
-use Rattle.world_steps.specs.Steps.{NodeEvent, NodeStep, changes_of}
-use Rattle.world_steps.specs.World.{NodeState}
-use Rattle.node_cell.specs.Keepers.{IsSettled, Keeper, KeepsOn, Nothing, Taken}
-use Rattle.node_cell.specs.Stored.{Fails, IsStored, Loses, Stored}
-use Rattle.node_cell.specs.declared.fault.ApplyFault.{ApplyFault}
-use Rattle.node_cell.specs.declared.fault.ApplyFault.TheVariants as apply
-use Rattle.node_store.specs.declared.fault.StoreFault.TheVariants as store
+use Rattle.node_store.specs.{Content}
+use Rattle.node_rows.specs.{ChangesAreHeld, HoldsRows}
+use Rattle.stored_laws.specs.{CanStartAgain, NodesCanStartAgain}
+use Rattle.world_steps.specs.{NodeEvent, NodeState, NodeStep, changes_of}
+use Rattle.node_cell.specs.{ApplyFault, Fails, IsSettled, IsStored, Keeper, KeepsOn, Loses, Nothing, Taken}
+use Rattle.node_cell.specs.Stored.{Stored}
+use Rattle.node_cell.specs.apply
+use Rattle.node_store.specs.store
 use Rattle.history_laws.specs.Replays as entries
 use Rattle.history_laws.specs.Replays.{EntryStep, Replays}
 use Rattle.node_history.specs.Histories.{IsLeft, QuietStep}
 use Rattle.node_history.specs.Cells as cells
 use Rattle.node_history.specs.Cells.{Adds, Cell, Enters, IsCell, IsNotDone, IsNotEntered, IsOpening, StoredStep, cell_fault, cell_of, first_of}
-use Rattle.histories.specs.declared.entry.Entry.{Entry}
+use Rattle.histories.specs.{Entry}
 use Rattle.node_history.specs.declared.fault.CellFault.{CellFault}
 use Rattle.node_history.specs.declared.fault.CellFault.TheVariants as fault
 

@@ -1,21 +1,16 @@
 -- A node over its keeper with its history: what holds of it at any time, and what an event makes of it.
 use Rattle.std.specs.Prelude.{◌≡◌, ◌⊎◌, suc, ◌<◌, ◌≤◌, ℕ, List, [], ◌∷◌, ◌++◌, Bool, true, false, Contains, length}
-use Rattle.ocpi_types.specs.Setups.{party_of}
-use Rattle.ocpi_types.specs.declared.node_events.NodeEventKind.{NodeEventKind}
-use Rattle.ocpi_types.specs.declared.setup.Node.{Node}
-use Rattle.node_store.specs.Contents.{Content}
-use Rattle.node_store.specs.declared.fault.StoreFault.{StoreFault}
-use Rattle.node_store.specs.declared.fault.StoreFault.TheVariants as store
-use Rattle.world_laws.specs.Laws.{IsSetup}
-use Rattle.world_steps.specs.Steps.{NodeEvent, changes_of}
-use Rattle.world_steps.specs.World.{NodeState, opening_of}
-use Rattle.node_cell.specs.Keepers.{Commits, Keeper}
-use Rattle.node_cell.specs.Stored.{IsStored, Loses, Refuses, Reopens, Stored}
-use Rattle.node_cell.specs.declared.fault.ApplyFault.{ApplyFault}
-use Rattle.node_cell.specs.declared.fault.ApplyFault.TheVariants as apply
+use Rattle.ocpi_types.specs.{Node, NodeEventKind, party_of}
+use Rattle.node_store.specs.{Content, StoreFault}
+use Rattle.node_store.specs.store
+use Rattle.world_laws.specs.{IsSetup}
+use Rattle.world_steps.specs.{NodeEvent, NodeState, changes_of, opening_of}
+use Rattle.node_cell.specs.{ApplyFault, Commits, IsStored, Keeper, Loses, Refuses, Reopens}
+use Rattle.node_cell.specs.Stored.{Stored}
+use Rattle.node_cell.specs.apply
 use Rattle.history_laws.specs.Replays.{Did, Replays, WasIdle}
 use Rattle.node_history.specs.Histories.{IsLeft}
-use Rattle.histories.specs.declared.entry.Entry.{Entry}
+use Rattle.histories.specs.{Entry}
 use Rattle.node_history.specs.declared.fault.CellFault.{CellFault}
 use Rattle.node_history.specs.declared.fault.CellFault.TheVariants.{Core, Memory, Store, TraceFull}
 

@@ -1,12 +1,11 @@
 -- What of the entries of a history a stop may leave.
 use Rattle.std.specs.Prelude.{◌≡◌, ◌⊎◌, List, [], ◌++◌, ⊤}
 use Rattle.node_laws.specs.Runs.{Run}
-use Rattle.node_rows.specs.Holds.{HoldsRows}
-use Rattle.node_store.specs.Contents.{Content}
-use Rattle.stored_laws.specs.Nodes.{CanStartAgain}
-use Rattle.world_steps.specs.Steps.{NodeEvent, NodeStep, changes_of}
-use Rattle.world_steps.specs.World.{NodeState}
-use Rattle.histories.specs.declared.entry.Entry.{Entry}
+use Rattle.node_rows.specs.{HoldsRows}
+use Rattle.node_store.specs.{Content}
+use Rattle.stored_laws.specs.{CanStartAgain}
+use Rattle.world_steps.specs.{NodeEvent, NodeState, NodeStep, changes_of}
+use Rattle.histories.specs.{Entry}
 use Rattle.history_laws.specs.Replays.{Does, EntryStep, Idle, Replays}
 
 -- no row is changed by it

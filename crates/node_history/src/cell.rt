@@ -2,14 +2,13 @@
 
 ghost use Rattle.std.specs.Prelude.{◌≡◌, [], Contains, IfErr, IfOk, true};
 ghost use Rattle.std.specs.FinMap.{empty};
-ghost use Rattle.node_cell.specs.Keepers.{IsSettled, KeepsOn, keeper_of};
-ghost use Rattle.node_cell.specs.Stored.{IsKeptFor, IsNotBad, IsReopenFault};
-ghost use Rattle.node_core.specs.States.{state_of};
+ghost use Rattle.node_cell.specs.{IsKeptFor, IsNotBad, IsReopenFault, IsSettled, KeepsOn, keeper_of};
+ghost use Rattle.node_core.specs.{state_of};
 ghost use Rattle.node_history.specs.Cells.{Enters, IsCell, IsNotEntered, OpensAgain};
-ghost use Rattle.ocpi_types.specs.Setups.{party_of};
-ghost use Rattle.stored_laws.specs.Nodes.{restarted};
-ghost use Rattle.world_laws.specs.Laws.{IsSetup};
-ghost use Rattle.world_steps.specs.World.{NodeState, opening_of};
+ghost use Rattle.ocpi_types.specs.{party_of};
+ghost use Rattle.stored_laws.specs.{restarted};
+ghost use Rattle.world_laws.specs.{IsSetup};
+ghost use Rattle.world_steps.specs.{NodeState, opening_of};
 
 use crate::fault::CellFault;
 use crate::stepping::enter;
@@ -57,7 +56,7 @@ impl<K: Keep> Model for NodeCell<K> {
     ghost use Rattle.std.specs.Coded.{codes};
     ghost use Rattle.std.specs.FinMap as map;
     ghost use Rattle.std.specs.Prelude.{◌≡◌, length};
-    ghost use Rattle.node_cell.specs.Keepers.{keeper_of};
+    ghost use Rattle.node_cell.specs.{keeper_of};
     ghost use Rattle.node_history.specs.Cells.{Cell, IsCell, cell_of};
 
     ghost Value = { Cell K };

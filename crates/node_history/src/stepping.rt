@@ -1,10 +1,8 @@
 //! What an event makes of a node over its keeper, with all memory for its entry taken before.
 
 ghost use Rattle.std.specs.Prelude.{◌≡◌, ◌<◌, ◌≤◌, ◌+◌, ◌++◌, ◌∷◌, [], IfErr, IfOk, OnErr, OnOk, length, vec_capacity};
-ghost use Rattle.node_cell.specs.Keepers.{Commits, keeper_of};
-ghost use Rattle.node_cell.specs.Stored.{Fails, IsNotCarriedOut};
-ghost use Rattle.node_core.specs.Works.{IsWork, changes_by, node_after, packets_by};
-ghost use Rattle.node_core.specs.declared.input.NodeInput.{NodeInput as NodeInputOf};
+ghost use Rattle.node_cell.specs.{Commits, Fails, IsNotCarriedOut, keeper_of};
+ghost use Rattle.node_core.specs.{IsWork, NodeInput as NodeInputOf, changes_by, node_after, packets_by};
 ghost use Rattle.node_history.specs.Cells.{Adds, IsNoRoom, IsNotDone, StoredStep, most_entries};
 
 use crate::fault::{CellFault, cell_fault};

@@ -8,16 +8,13 @@ use Rattle.sqlite.specs.Tree.{Trees}
 use Rattle.sqlite.specs.Effect.{Database}
 use Rattle.sqlite.specs.Held.{Held}
 use Rattle.sqlite.specs.Files.{AreFoundIn, IsEmpty, file_state}
-use Rattle.row_table.specs.Contents.{HasVersion}
+use Rattle.row_table.specs.{HasVersion, IsClean, content, texts}
 use Rattle.row_table.specs.Contents as table
-use Rattle.node_store.specs.Moved.{OpensAs}
-use Rattle.node_store.specs.Opened.{FindsInFile}
+use Rattle.node_store.specs.{FindsInFile, IsCopiedIfClean, OpensAs, StoreFault}
 use Rattle.sqlite_disk.specs.declared.Files.{Files}
-use Rattle.ocpi_types.specs.declared.rows.Row.{Row}
-use Rattle.row_table.specs.Kept.{Kept, IsClean, content, texts}
+use Rattle.ocpi_types.specs.{Row}
+use Rattle.row_table.specs.Kept.{Kept}
 use Rattle.sqlite.specs.Files.{over_files}
-use Rattle.node_store.specs.Closed.{IsCopiedIfClean}
-use Rattle.node_store.specs.declared.fault.StoreFault.{StoreFault}
 use Rattle.node_keepers.specs.InFiles.{HadRows, IsBlank, IsFoundIn, WereFoundIfClean}
 
 -- what is found in files of which the database is empty

@@ -1,25 +1,21 @@
 -- Keepers that were just opened, and the keeper of a party.
-use Rattle.std.proofs.Common.{◌≡◌, ◌≢◌, ◌<◌, ◌≤◌, ◌+◌, ◌++◌, ◌∙◌, ℕ, Bool, false, true, List, [], ◌∷◌, Option, Some, None, Ok, Err, refl, sym, ap, subst, arith, eqb, get_or, length, slice_get, slice_set, IfErr, OnOk, OnErr, Result, ◌⊎◌, inl, inr, length-append, take}
+use Rattle.std.proofs.Common.{◌≡◌, ◌≢◌, ◌<◌, ◌≤◌, ◌+◌, ◌++◌, ◌∙◌, ℕ, Bool, false, true, List, [], ◌∷◌, Option, Some}
+use Rattle.std.proofs.Common.{None, Ok, Err, refl, sym, ap, subst, arith, eqb, get_or, length, slice_get, slice_set}
+use Rattle.std.proofs.Common.{IfErr, OnOk, OnErr, Result, ◌⊎◌, inl, inr, length-append, take, IsSome}
 use Rattle.std.proofs.lemmas.Bool.{cases_lt}
 use Rattle.std.proofs.lemmas.List.{length-take, take_more}
 use Rattle.std.proofs.lemmas.Option.{slice_get_read, slice_get_within}
 use Rattle.std.proofs.lemmas.Result.{err_from_is_err_and}
 use Rattle.std.specs.FinMap.{empty, entries}
-use Rattle.std.specs.Prelude.{IsSome}
 use Rattle.std.specs.Result.{IsErrAnd}
 use Rattle.tables.proofs.Ordered.{no_first}
-use Rattle.tables.specs.Keys.{text_pair_cmp}
-use Rattle.json_text.specs.Fault.{Read}
-use Rattle.ocpi_text.specs.Text.{key}
-use Rattle.ocpi_json.specs.RowForms.{row_in}
-use Rattle.ocpi_types.specs.declared.rows.Change.{Change}
-use Rattle.ocpi_types.specs.declared.rows.Row.{Row}
-use Rattle.ocpi_types.specs.declared.setup.Node.{Node}
-use Rattle.node_store.specs.Contents.{Content, RowPlace, after_row, changed_all, rows_after, rows_of}
-use Rattle.node_store.specs.Faults.{IsCommitFault, counted}
-use Rattle.node_store.specs.declared.fault.Cause.TheVariants.{NotEmpty}
-use Rattle.node_store.specs.declared.fault.StoreFault.{StoreFault}
-use Rattle.node_store.specs.declared.fault.StoreFault.TheVariants.{Refused}
+use Rattle.tables.specs.{text_pair_cmp}
+use Rattle.json_text.specs.{Read}
+use Rattle.ocpi_text.specs.{key}
+use Rattle.ocpi_json.specs.{row_in}
+use Rattle.ocpi_types.specs.{Change, Node, Row}
+use Rattle.node_store.specs.{Content, IsCommitFault, NotEmpty, Refused, RowPlace, StoreFault, after_row, changed_all}
+use Rattle.node_store.specs.{counted, rows_after, rows_of}
 use Rattle.node_keepers.specs.Keeping.{AreOpened, AreUnopened, IsKeeperOf, IsOpened, CannotLoad, IsUnopened, KeeperRefuses, KeeperTakes, Keeping, KeepsRows, Made, Not_loaded, Not_made, Not_new}
 use Rattle.node_keepers.specs.declared.keeping.KeptNode.{KeptNode}
 

@@ -8,10 +8,10 @@ use Rattle.sqlite.specs.Recovery.{Image}
 use Rattle.sqlite.specs.WalReads.{AreClean}
 use Rattle.sqlite.specs.Closing.{IsCopied}
 use Rattle.sqlite.specs.Files.{over_files}
-use Rattle.ocpi_types.specs.declared.rows.Row.{Row}
-use Rattle.row_table.specs.Kept.{Kept, IsClean, content, texts}
-use Rattle.node_store.specs.Contents.{Content, rows_of}
-use Rattle.node_store.specs.Opened.{FindsInFile}
+use Rattle.ocpi_types.specs.{Row}
+use Rattle.row_table.specs.{IsClean, content, texts}
+use Rattle.row_table.specs.Kept.{Kept}
+use Rattle.node_store.specs.{Content, FindsInFile, rows_of}
 
 -- it has what was found in a file that held this
 abbrev pub IsFoundIn : {D : Type 0} {g : Ghosts D} → Image → Kept (FileStore D g) × ℕ → Type 0

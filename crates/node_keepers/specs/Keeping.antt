@@ -2,16 +2,10 @@
 -- refuses.
 use Rattle.std.specs.Prelude.{◌≡◌, ◌≢◌, ◌⊎◌, ℕ, ◌≤◌, List, [], ◌∷◌, None, Some, length, slice_get, slice_set}
 use Rattle.std.specs.FinMap.{empty}
-use Rattle.ocpi_text.specs.Text.{key}
-use Rattle.ocpi_types.specs.Setups.{party_of}
-use Rattle.ocpi_types.specs.declared.rows.Change.{Change}
-use Rattle.ocpi_types.specs.declared.rows.Row.{Row}
-use Rattle.ocpi_types.specs.declared.setup.Node.{Node}
-use Rattle.node_store.specs.Contents.{Content, changed_all, rows_of}
-use Rattle.node_store.specs.Faults.{IsCommitFault, counted_fault}
-use Rattle.node_store.specs.declared.fault.Cause.TheVariants.{NoKeeper, NotEmpty}
-use Rattle.node_store.specs.declared.fault.StoreFault.{StoreFault}
-use Rattle.node_store.specs.declared.fault.StoreFault.TheVariants.{Refused, BadRow, OldLayout, Memory}
+use Rattle.ocpi_text.specs.{key}
+use Rattle.ocpi_types.specs.{Change, Node, Row, party_of}
+use Rattle.node_store.specs.{BadRow, Content, IsCommitFault, Memory, NoKeeper, NotEmpty, OldLayout, Refused, StoreFault}
+use Rattle.node_store.specs.{changed_all, counted_fault, rows_of}
 use Rattle.node_keepers.specs.declared.keeping.KeptNode.{KeptNode}
 
 -- what is said of keepers of any type K: what each keeps, which is said where it is honest, and how many calls it has

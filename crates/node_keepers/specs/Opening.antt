@@ -1,7 +1,6 @@
 -- What is said of a keeper that was just opened, and of where it comes from.
 use Rattle.std.specs.Prelude.{◌≡◌, ℕ}
-use Rattle.node_store.specs.Contents.{Content}
-use Rattle.node_store.specs.declared.fault.StoreFault.{StoreFault}
+use Rattle.node_store.specs.{Content, StoreFault}
 
 -- a stop leaves just what it keeps
 abbrev pub IsSettled : {K : Type 0} → (K → Content) → (K → Type 0) → (K → Content → Type 0) → K → Type 0

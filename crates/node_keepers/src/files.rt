@@ -17,12 +17,9 @@ ghost use Rattle.std.specs.Prelude.{
   false,
   ⊤,
 };
-ghost use Rattle.node_store.specs.Closed.{IsCopiedIfClean};
-ghost use Rattle.node_store.specs.Contents.{Content};
-ghost use Rattle.node_store.specs.Faults.{IsCommitFault};
-ghost use Rattle.node_store.specs.declared.fault.StoreFault.TheVariants.{BadRow, OldLayout};
+ghost use Rattle.node_store.specs.{BadRow, Content, IsCommitFault, IsCopiedIfClean, OldLayout};
 ghost use Rattle.node_keepers.specs.InFiles.{HadRows, IsBlank, IsFoundIn, WereFoundIfClean};
-ghost use Rattle.row_table.specs.Kept.{IsClean, MayLeave, texts};
+ghost use Rattle.row_table.specs.{IsClean, MayLeave, texts};
 ghost use Rattle.sqlite.specs.Files.{over_files};
 ghost use Rattle.sqlite.specs.WalFiles.{image_at};
 

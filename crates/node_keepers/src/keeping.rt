@@ -14,10 +14,8 @@ ghost use Rattle.node_keepers.specs.Keeping.{
   keeping_of,
 };
 ghost use Rattle.node_keepers.specs.declared.keeping.KeptNode.{KeptNode as KeptNodeOf};
-ghost use Rattle.node_store.specs.Faults.{IsCommitFault};
-ghost use Rattle.node_store.specs.declared.fault.Cause.TheVariants.{NotEmpty};
-ghost use Rattle.node_store.specs.declared.fault.StoreFault.TheVariants.{Refused};
-ghost use Rattle.ocpi_types.specs.Setups.{party_of};
+ghost use Rattle.node_store.specs.{IsCommitFault, NotEmpty, Refused};
+ghost use Rattle.ocpi_types.specs.{party_of};
 
 use crate::keeps::Keeps;
 use node_store::{Cause, Keep, StoreFault};

@@ -2,9 +2,8 @@
 
 ghost use Rattle.std.specs.FinMap.{empty};
 ghost use Rattle.std.specs.Prelude.{◌≡◌, ◌++◌, ◌∷◌, [], ℕ, IfErr, IfOk, List, ⊤};
-ghost use Rattle.node_store.specs.Faults.{IsCommitFault};
+ghost use Rattle.node_store.specs.{IsCommitFault, StoreFault as StoreFaultOf};
 ghost use Rattle.node_keepers.specs.Opening.{IsSettled};
-ghost use Rattle.node_store.specs.declared.fault.StoreFault.{StoreFault as StoreFaultOf};
 
 use node_store::{Keep, ListKeep, StoreFault};
 use row_table::Past;

@@ -1,18 +1,17 @@
 -- What a node does at once, one thing each: it keeps a reply and sends it, sends it again, makes a request, sends a
 -- request again, or lets one go that is settled. Each is a step; what does several is a step by `join`.
-use Rattle.std.proofs.Common.{◌≡◌, ◌≢◌, ◌⊎◌, zero, suc, ℕ, ◌+◌, ◌<◌, ◌≤◌, List, [], ◌∷◌, length, inl, inr, refl, sym, ap, subst, ◌∙◌, arith}
-use Rattle.std.specs.Prelude.{Some, None, Contains, slice_get}
+use Rattle.std.proofs.Common.{◌≡◌, ◌≢◌, ◌⊎◌, zero, suc, ℕ, ◌+◌, ◌<◌, ◌≤◌, List, [], ◌∷◌, length, inl, inr, refl, sym}
+use Rattle.std.proofs.Common.{ap, subst, ◌∙◌, arith, Some, None, Contains, slice_get}
 use Rattle.std.specs.Cmp.{nat_cmp_total}
 use Rattle.std.specs.FinMap.{get, insert, nat_cmp-IsAntisymmetric}
-use Rattle.ocpi_text.specs.Text.{key}
-use Rattle.ocpi_types.specs.Stored.{body_of_reply}
-use Rattle.ocpi_types.specs.declared.packet.Packet.{Packet}
-use Rattle.ocpi_types.specs.declared.stored.Reply.{Reply}
-use Rattle.tables.specs.Keys.{text_number_total, text_number_exact}
+use Rattle.ocpi_text.specs.{key}
+use Rattle.ocpi_types.specs.{Packet, Reply, body_of_reply}
+use Rattle.tables.specs.{text_number_exact, text_number_total}
 use Rattle.tables.proofs.Elements.{in_none, in_single}
 use Rattle.tables.proofs.Maps.{get-insert_same, get-insert_other, told}
 use Rattle.tables.proofs.Options.{not_both}
-use Rattle.node_laws.specs.Nodes.{Node, Exchange, Request, request_of, IsReply, IsRepeated, IsNumbered, CountsPackets, IsAnswer, KeepsReplies, IsSettled, IsMade, KeepsRequests, AreGiven, NodeStep}
+use Rattle.node_laws.specs.Nodes.{Node, Exchange, Request, request_of, IsReply, IsNumbered, CountsPackets, IsAnswer}
+use Rattle.node_laws.specs.Nodes.{KeepsReplies, IsSettled, IsMade, KeepsRequests, AreGiven, NodeStep}
 use Rattle.node_laws.proofs.Joining.{IsPart, answer_of_part, settled_of_part, one_value}
 use Rattle.node_laws.proofs.BodyKinds.{one_reply, reply_or_repeated}
 
@@ -148,17 +147,6 @@ module _ (s t : Node) (came : List Packet) (x : Packet) (among : StaysAmong s t)
 
       made_by : (n : ℕ) (r : Request) → t.standing n ≡ Some r → (s.standing n ≡ Some r) ⊎ IsMade s (sends_one came x) t n r
       made_by n r has = elim (told nat_cmp_total nat_cmp-IsAntisymmetric n x.request) [ inl same ↦ inr (made_at n r has same) | inr other ↦ inl (old n r other has) ]
-
-  -- it is new, and is sent once
-  pub ask_step : Contains s.peers x.to → t.last ≡ s.last + 1 → x.request ≡ s.last + 1 → ¬ IsRepeated x.body → SameStanding s t → NodeStep s (sends_one came x) t
-  ask_step peer last number once standing = request_step (omega (arith, last)) (λ given. record {
-    to_peer = λ y i. subst (λ (z : Packet). Contains s.peers z.to) (in_single x y i) peer;
-    own = λ y i other. subst (λ (z : Packet). (s.standing z.request ≡ Some (request_of z)) ⊎ ((s.last < z.request) × (z.request ≤ t.last))) (in_single x y i) (inr (omega (arith, number), omega (arith, number, last)));
-    one = λ y z i j y_apart z_apart equal. ap request_of (sym (in_single x y i) ∙ in_single x z j);
-    made = λ n r has. inl (sym (standing n) ∙ has);
-    stays = λ n r has. inl (standing n ∙ has);
-    stands = λ y i repeated. absurd (once (subst (λ (z : Packet). IsRepeated z.body) (sym (in_single x y i)) repeated));
-  })
 
 -- a request that is settled stands no more
 pub settle_step : (s t : Node) (came : List Packet) → StaysAmong s t → t.serial ≡ s.serial → t.last ≡ s.last → t.replies ≡ s.replies → (m : ℕ) →

@@ -1,14 +1,9 @@
 -- Which bodies are replies, and which are requests.
 use Rattle.std.proofs.Common.{◌≡◌, inl, inr, sym, ap, ◌∙◌}
-use Rattle.ocpi_types.specs.Stored.{body_of_reply, body_of_push}
-use Rattle.ocpi_types.specs.declared.authorizations.Authorize.{Authorize}
-use Rattle.ocpi_types.specs.declared.packet.Body.{Body}
-use Rattle.ocpi_types.specs.declared.packet.Body.TheVariants as body
-use Rattle.ocpi_types.specs.declared.commands.Command.{Command}
-use Rattle.ocpi_types.specs.declared.stored.Push.{Push}
-use Rattle.ocpi_types.specs.declared.stored.Push.TheVariants as push
-use Rattle.ocpi_types.specs.declared.stored.Reply.{Reply}
-use Rattle.ocpi_types.specs.declared.stored.Reply.TheVariants as reply
+use Rattle.ocpi_types.specs.{Authorize, Body, Command, Push, Reply, body_of_push, body_of_reply}
+use Rattle.ocpi_types.specs.body
+use Rattle.ocpi_types.specs.push
+use Rattle.ocpi_types.specs.reply
 use Rattle.node_laws.specs.Nodes.{IsReply, IsRepeated}
 
 -- a body is that of one reply at most

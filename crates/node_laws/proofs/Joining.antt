@@ -1,10 +1,9 @@
 -- Two steps of a node are one, by both exchanges.
 use Rattle.std.proofs.Common.{◌≡◌, ◌⊎◌, ℕ, ◌≤◌, List, [], inl, inr, refl, sym, ap, subst, ◌∙◌, arith, length-append}
-use Rattle.std.specs.Prelude.{Some, Contains}
+use Rattle.std.proofs.Common.{Some, Contains}
 use Rattle.std.proofs.lemmas.List.Elements.{Contains-append_cases, Contains-append_left, Contains-append_right}
-use Rattle.ocpi_text.specs.Text.{key}
-use Rattle.ocpi_types.specs.declared.packet.Packet.{Packet}
-use Rattle.ocpi_types.specs.declared.stored.Reply.{Reply}
+use Rattle.ocpi_text.specs.{key}
+use Rattle.ocpi_types.specs.{Packet, Reply}
 use Rattle.tables.proofs.Elements.{in_none}
 use Rattle.node_laws.specs.Nodes.{Node, Exchange, Request, both, request_of, IsReply, IsRepeated, CountsPackets, IsAnswer, KeepsReplies, IsSettled, Acknowledged, Replaced, Responded, Resulted, IsMade, IsOwn, KeepsRequests, AreGiven, NodeStep}
 use Rattle.node_laws.proofs.Lists.{in_joined}

@@ -1,10 +1,8 @@
 -- What every node keeps to over all runs, from any state to any later one.
 use Rattle.std.specs.Prelude.{◌≡◌, ◌⊎◌, ℕ, ◌+◌, List, Some, length, Contains, slice_get}
 use Rattle.std.specs.FinMap.{get}
-use Rattle.ocpi_text.specs.Text.{key}
-use Rattle.ocpi_types.specs.Stored.{body_of_reply}
-use Rattle.ocpi_types.specs.declared.packet.Packet.{Packet}
-use Rattle.ocpi_types.specs.declared.stored.Reply.{Reply}
+use Rattle.ocpi_text.specs.{key}
+use Rattle.ocpi_types.specs.{Packet, Reply, body_of_reply}
 use Rattle.node_laws.specs.Runs.{Run}
 use Rattle.node_laws.specs.Nodes.{Node, Exchange, Request, NodeStep, AreGiven, IsReply, IsRepeated, IsNumbered, IsAnswer, IsMade, IsSettled, request_of, exchanged}
 

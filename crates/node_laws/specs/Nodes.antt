@@ -2,23 +2,13 @@
 use Rattle.std.specs.Prelude.{◌≡◌, ◌⊎◌, ℕ, ◌+◌, ◌<◌, ◌≤◌, List, [], ◌++◌, length, Option, Some, Contains, slice_get}
 use Rattle.std.specs.List.{flat_map}
 use Rattle.std.specs.FinMap.{FinMap, get}
-use Rattle.ocpi_text.specs.Text.{key}
-use Rattle.tables.specs.Keys.{text_number_cmp}
-use Rattle.ocpi_types.specs.Stored.{body_of_reply, body_of_push}
-use Rattle.ocpi_types.specs.declared.authorizations.Authorize.{Authorize}
-use Rattle.ocpi_types.specs.declared.packet.Packet.{Packet}
-use Rattle.ocpi_types.specs.declared.packet.Body.{Body}
-use Rattle.ocpi_types.specs.declared.packet.Body.TheVariants as body
-use Rattle.ocpi_types.specs.declared.replies.Ack.{Ack}
-use Rattle.ocpi_types.specs.declared.replies.CommandResponse.{CommandResponse}
-use Rattle.ocpi_types.specs.declared.replies.CommandResult.{CommandResult}
-use Rattle.ocpi_types.specs.declared.sessions.Session.{Session}
-use Rattle.ocpi_types.specs.declared.commands.Command.{Command}
-use Rattle.ocpi_types.specs.declared.commands.Command.TheVariants as command
-use Rattle.ocpi_types.specs.declared.stored.Push.{Push}
-use Rattle.ocpi_types.specs.declared.stored.Reply.{Reply}
-use Rattle.ocpi_types.specs.declared.stored.Reply.TheVariants as reply
-use Rattle.ocpi_types.specs.declared.token.Token.{Token}
+use Rattle.ocpi_text.specs.{key}
+use Rattle.tables.specs.{text_number_cmp}
+use Rattle.ocpi_types.specs.{Ack, Authorize, Body, Command, CommandResponse, CommandResult, Packet, Push, Reply}
+use Rattle.ocpi_types.specs.{Session, Token, body_of_push, body_of_reply}
+use Rattle.ocpi_types.specs.body
+use Rattle.ocpi_types.specs.command
+use Rattle.ocpi_types.specs.reply
 
 -- what a node asks of another
 pub record Request : Type 0 where

@@ -1,6 +1,6 @@
 -- A text whose first token begins an array begins as a JSON array does.
-use Rattle.std.proofs.Common.{◌≡◌, ◌≤◌, ◌==◌, ℕ, length, arith, Bool, true, false, cond, List, [], ◌∷◌, Option, None, Some, Ok, option_map, inl, inr, refl, sym, ap, subst, ◌∙◌}
-use Rattle.std.specs.Prelude.{◌||◌, ◌&&◌, drop, nat_eq}
+use Rattle.std.proofs.Common.{◌≡◌, ◌≤◌, ◌==◌, ℕ, length, arith, Bool, true, false, cond, List, [], ◌∷◌, Option, None}
+use Rattle.std.proofs.Common.{Some, Ok, option_map, inl, inr, refl, sym, ap, subst, ◌∙◌, ◌||◌, ◌&&◌, drop, nat_eq}
 use Rattle.std.specs.List.{starts_with}
 use Rattle.std.specs.Str.{IsUtf8}
 use Rattle.std.proofs.lemmas.List.{append-nil}
@@ -15,9 +15,7 @@ use Rattle.json.proofs.Nesting.{value-depth}
 use Rattle.json.proofs.Unique.Spelling.{value-json_tokens_back}
 use Rattle.serde_json.specs.Data.{array, object, string, Items, Members, no_members}
 use Rattle.serde_json.specs.Read.{max_depth}
-use Rattle.json_text.specs.Line.{tree_at}
-use Rattle.json_text.specs.Tag.{is_tagged}
-use Rattle.json_text.specs.Tagged.{tagged, tagged_items, tagged_members}
+use Rattle.json_text.specs.{is_tagged, tagged, tagged_items, tagged_members, tree_at}
 use Rattle.json_text.proofs.Steps.{test_is}
 use Rattle.json_text.proofs.FaultyTrees.{tree_at_once}
 use Rattle.json_text.proofs.LineTrees.{named_complete, tree_sound}

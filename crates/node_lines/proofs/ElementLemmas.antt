@@ -16,14 +16,12 @@ use Rattle.json.specs.Word.{is_operator, is_space}
 use Rattle.json.proofs.Printed.Trees.{value-json_tokens}
 use Rattle.serde_json.specs.Data.{Data, Items, no_items, item}
 use Rattle.serde_json.specs.Read.{converted}
-use Rattle.json_text.specs.Fault.{Read, ◌>>=◌}
-use Rattle.json_text.specs.Line.{tree_at}
-use Rattle.json_text.specs.Tagged.{tagged, tagged_items, tree_in}
+use Rattle.json_text.specs.{Read, tagged, tagged_items, tree_at, tree_in, ◌>>=◌}
 use Rattle.json_text.proofs.TaggedLines.{read_at_once, then_some}
 use Rattle.json_text.proofs.TaggedTexts.{lex_as}
 use Rattle.json_text.proofs.TextBytes.{is_text}
-use Rattle.ocpi_json.specs.NodeEventForms.{node_event_in, node_event_of_line}
-use Rattle.ocpi_types.specs.declared.node_events.NodeEvent.{NodeEvent}
+use Rattle.ocpi_json.specs.{node_event_in, node_event_of_line}
+use Rattle.ocpi_types.specs.{NodeEvent}
 use Rattle.node_lines.specs.declared.node_line.NodeLine.TheVariants.{Several}
 use Rattle.node_lines.specs.declared.array_texts.Spot.TheVariants.{Outside}
 use Rattle.node_lines.specs.ElementReading.{each_read}

@@ -1,19 +1,15 @@
 -- What a line holds, by its tree.
-use Rattle.std.proofs.Common.{◌≡◌, ◌↔◌, ℕ, ◌≤◌, Bool, true, false, cond, List, [], ◌∷◌, length, map, take, Ok, Err, refl, sym, subst, ap, arith}
-use Rattle.std.specs.Prelude.{nat_le}
+use Rattle.std.proofs.Common.{◌≡◌, ◌↔◌, ℕ, ◌≤◌, Bool, true, false, cond, List, [], ◌∷◌, length, map, take, Ok, Err}
+use Rattle.std.proofs.Common.{refl, sym, subst, ap, arith, nat_le}
 use Rattle.std.proofs.lemmas.Bool.Decides.{nat_tests}
 use Rattle.std.proofs.lemmas.List.{take-take, take_all}
 use Rattle.serde_json.specs.Data.{Data, null, boolean, number, string, array, object, Items}
 use Rattle.line_runs.specs.declared.lines.TheConstants.{KEPT_BYTES}
-use Rattle.json_text.specs.declared.trees.Tree.{Tree}
-use Rattle.json_text.specs.declared.fault.JsonFault.TheVariants.{Syntax}
-use Rattle.json_text.specs.Fault.{Read, ◌>>=◌}
-use Rattle.json_text.specs.Line.{tree_at}
-use Rattle.json_text.specs.Trees.{items_view}
+use Rattle.json_text.specs.{Read, Syntax, Tree, items_view, tree_at, ◌>>=◌}
 use Rattle.json_text.proofs.Exact.{bind_ok, both_steps}
 use Rattle.json_text.proofs.LineTrees.{tree_sound}
-use Rattle.ocpi_json.specs.NodeEventForms.{node_event_in, node_event_of_line}
-use Rattle.ocpi_types.specs.declared.node_events.NodeEvent.{NodeEvent}
+use Rattle.ocpi_json.specs.{node_event_in, node_event_of_line}
+use Rattle.ocpi_types.specs.{NodeEvent}
 use Rattle.program_lines.specs.Cut.{tree-cut}
 use Rattle.node_lines.specs.declared.node_line.NodeLine.TheVariants.{One, Several}
 use Rattle.node_lines.specs.ElementReading.{each_read, read_tree}

@@ -1,14 +1,15 @@
 -- A text of JSON, cut before the first comma or closing bracket outside its arrays and objects: each half has its own
 -- lexemes.
-use Rattle.std.proofs.Common.{◌≡◌, ◌≢◌, ◌==◌, ◌+◌, ◌-◌, ◌<◌, ◌≤◌, ℕ, zero, suc, Bool, true, false, cond, List, [], ◌∷◌, ◌++◌, length, Option, None, Some, option_and_then, refl, sym, ap, ap₂, subst, ◌∙◌, append_assoc, length-append, arith}
-use Rattle.std.specs.Prelude.{◌&&◌, ◌||◌}
+use Rattle.std.proofs.Common.{◌≡◌, ◌≢◌, ◌==◌, ◌+◌, ◌-◌, ◌<◌, ◌≤◌, ℕ, zero, suc, Bool, true, false, cond, List, [], ◌∷◌}
+use Rattle.std.proofs.Common.{◌++◌, length, Option, None, Some, option_and_then, refl, sym, ap, ap₂, subst, ◌∙◌}
+use Rattle.std.proofs.Common.{append_assoc, length-append, arith, ◌&&◌, ◌||◌}
 use Rattle.std.proofs.lemmas.Bool.Decides.{nat_tests}
 use Rattle.json.specs.Token.{begin_object, end_object, begin_array, end_array, string, bad}
 use Rattle.json.specs.Text.{content, plain}
 use Rattle.json.specs.Word.{ends_word, is_operator, is_space, word}
 use Rattle.json.specs.Lex.{Lexeme, Mode, token, comma, colon, quote, backslash, operator, space, other, between, class, lex, operator_lexeme, string_token}
 use Rattle.json_text.specs.Pieces as pieces
-use Rattle.json_text.specs.Pieces.{AreCharacters, Character, characters_text, escaped}
+use Rattle.json_text.specs.{AreCharacters, Character, characters_text, escaped}
 use Rattle.json_text.proofs.FaultyTexts.{IsGood}
 use Rattle.json_text.proofs.Steps.{is_not_test, test_is}
 use Rattle.json_text.proofs.TaggedLines.{then_some}

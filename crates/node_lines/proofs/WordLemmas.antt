@@ -1,6 +1,6 @@
 -- What the search for the end of an element passes over: JSON spaces, words and numbers.
-use Rattle.std.proofs.Common.{◌≡◌, ◌==◌, ◌+◌, ◌-◌, ◌≤◌, ℕ, suc, Bool, true, false, cond, List, [], ◌∷◌, ◌++◌, length, drop, Option, None, Some, refl, sym, ap, ap₂, ◌∙◌, arith}
-use Rattle.std.specs.Prelude.{◌&&◌, ◌||◌, nat_eq}
+use Rattle.std.proofs.Common.{◌≡◌, ◌==◌, ◌+◌, ◌-◌, ◌≤◌, ℕ, suc, Bool, true, false, cond, List, [], ◌∷◌, ◌++◌, length}
+use Rattle.std.proofs.Common.{drop, Option, None, Some, refl, sym, ap, ap₂, ◌∙◌, arith, ◌&&◌, ◌||◌, nat_eq}
 use Rattle.std.specs.List.{list_all, starts_with}
 use Rattle.std.proofs.lemmas.Bool.{and_parts}
 use Rattle.std.proofs.lemmas.Bool.Decides.{nat_tests}
@@ -9,8 +9,7 @@ use Rattle.json.specs.Word.{after_number, ends_word, head, is_space, literal, nu
 use Rattle.json.specs.Lex.{Lexeme, token, comma, colon, space, between, class, lex}
 use Rattle.json.specs.Print.{IsNumber}
 use Rattle.json.proofs.Printed.Numbers.{in_word-ended, lex-number, number_alone}
-use Rattle.json_text.specs.Numbers.{IsJsonNumber}
-use Rattle.json_text.specs.Quote.{is_digit, is_number_char}
+use Rattle.json_text.specs.{IsJsonNumber, is_digit, is_number_char}
 use Rattle.json_text.proofs.FaultyTexts.{IsGood}
 use Rattle.json_text.proofs.JsonNumbers.{no_empty_number, number_from_json}
 use Rattle.json_text.proofs.TaggedNumbers.{number_first}

@@ -1,11 +1,9 @@
 -- What the elements of an array are read as: each as the line of its own text is.
 use Rattle.std.specs.Prelude.{List, [], ◌∷◌}
 use Rattle.serde_json.specs.Data.{Items, no_items, item}
-use Rattle.json_text.specs.declared.trees.Tree.{Tree}
-use Rattle.json_text.specs.Fault.{Read}
-use Rattle.json_text.specs.Trees.{view}
-use Rattle.ocpi_json.specs.NodeEventForms.{node_event_of_line}
-use Rattle.ocpi_types.specs.declared.node_events.NodeEvent.{NodeEvent}
+use Rattle.json_text.specs.{Read, Tree, view}
+use Rattle.ocpi_json.specs.{node_event_of_line}
+use Rattle.ocpi_types.specs.{NodeEvent}
 
 -- the event that a tree spells, or the first refusal
 abbrev pub read_tree : Tree → Read NodeEvent

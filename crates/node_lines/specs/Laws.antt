@@ -1,11 +1,10 @@
 -- What holds of lines behind the setup, whatever they hold.
 use Rattle.std.specs.Prelude.{◌≡◌, ◌≤◌, ◌↔◌, ℕ, List, Ok, length, take}
 use Rattle.serde_json.specs.Data.{Items, array}
-use Rattle.json_text.specs.Fault.{Read}
-use Rattle.json_text.specs.Line.{tree_at}
+use Rattle.json_text.specs.{Read, tree_at}
 use Rattle.line_runs.specs.declared.lines.TheConstants.{KEPT_BYTES}
-use Rattle.ocpi_json.specs.NodeEventForms.{node_event_in}
-use Rattle.ocpi_types.specs.declared.node_events.NodeEvent.{NodeEvent}
+use Rattle.ocpi_json.specs.{node_event_in}
+use Rattle.ocpi_types.specs.{NodeEvent}
 use Rattle.node_lines.specs.declared.node_line.NodeLine.TheVariants.{One, Several}
 use Rattle.node_lines.specs.ListLines.{IsListLine}
 use Rattle.node_lines.specs.NodeLines.{max_events, node_line_in, one_of}

@@ -1,11 +1,9 @@
 -- What a line behind the setup holds: one event, or the elements of an array, each with its event or its refusal.
 use Rattle.std.specs.Prelude.{ℕ, List, length, nat_le, Ok, Err, if◌then◌else◌}
 use Rattle.serde_json.specs.Data.{Data, null, boolean, number, string, array, object}
-use Rattle.json_text.specs.declared.fault.JsonFault.TheVariants.{Syntax}
-use Rattle.json_text.specs.Fault.{Read, ◌>>=◌}
-use Rattle.json_text.specs.Line.{tree_at}
-use Rattle.ocpi_json.specs.NodeEventForms.{node_event_of_line}
-use Rattle.ocpi_types.specs.declared.node_events.NodeEvent.{NodeEvent}
+use Rattle.json_text.specs.{Read, Syntax, tree_at, ◌>>=◌}
+use Rattle.ocpi_json.specs.{node_event_of_line}
+use Rattle.ocpi_types.specs.{NodeEvent}
 use Rattle.node_lines.specs.declared.node_line.NodeLine.{NodeLine}
 use Rattle.node_lines.specs.declared.node_line.NodeLine.TheVariants.{One, Several}
 use Rattle.node_lines.specs.ElementReading.{each_read}

@@ -19,9 +19,9 @@ ghost use Rattle.std.specs.Prelude.{
   length,
   map,
 };
-ghost use Rattle.json_text.specs.Fault.{Read};
-ghost use Rattle.ocpi_json.specs.NodeEventForms.{node_event_in};
-ghost use Rattle.ocpi_types.specs.declared.node_events.NodeEvent.{NodeEvent};
+ghost use Rattle.json_text.specs.{Read};
+ghost use Rattle.ocpi_json.specs.{node_event_in};
+ghost use Rattle.ocpi_types.specs.{NodeEvent};
 ghost use Rattle.node_lines.specs.ElementTexts.{
   AreElementsOf,
   behind_element,

@@ -2,8 +2,8 @@
 
 ghost use Rattle.std.specs.Prelude.{◌≡◌, ◌<◌, Some, length, map, slice_get};
 ghost use Rattle.node_lines.specs.ElementReading.{read_tree};
-ghost use Rattle.json_text.specs.Fault.{Gives, Read};
-ghost use Rattle.ocpi_types.specs.declared.node_events.NodeEvent.{NodeEvent};
+ghost use Rattle.json_text.specs.{Gives, Read};
+ghost use Rattle.ocpi_types.specs.{NodeEvent};
 
 use json_text::{JsonFault, Tree};
 use ocpi_json::node_event_of_line;
@@ -20,8 +20,8 @@ pub struct Elements<'a> {
 
 impl<'a> Model for Elements<'a> {
     ghost use Rattle.std.specs.Prelude.{List, map};
-    ghost use Rattle.json_text.specs.Fault.{Read};
-    ghost use Rattle.ocpi_types.specs.declared.node_events.NodeEvent.{NodeEvent};
+    ghost use Rattle.json_text.specs.{Read};
+    ghost use Rattle.ocpi_types.specs.{NodeEvent};
     ghost use Rattle.node_lines.specs.ElementReading.{read_tree};
 
     ghost Value = { List (Read NodeEvent) };

@@ -1,10 +1,7 @@
 //! A line behind the setup, read in one pass over its text.
 
 ghost use Rattle.std.specs.Prelude.{◌≡◌, Err, map};
-ghost use Rattle.json_text.specs.declared.fault.JsonFault.TheVariants.{Syntax};
-ghost use Rattle.json_text.specs.Fault.{Gives};
-ghost use Rattle.json_text.specs.Line.{IsNoText};
-ghost use Rattle.json_text.specs.Trees.{view};
+ghost use Rattle.json_text.specs.{Gives, IsNoText, Syntax, view};
 ghost use Rattle.node_lines.specs.ElementReading.{read_tree};
 ghost use Rattle.node_lines.specs.NodeLines.{node_line_in, node_line_of, several_of};
 

@@ -1,17 +1,12 @@
 -- What is known of a run that a store may have stopped, from what is known of the run over its lines.
-use Rattle.std.proofs.Common.{◌≡◌, ◌≢◌, ◌∙◌, ℕ, false, true, List, Option, Some, None, IfErr, IfOk, Result, Ok, Err, refl, sym, ap, subst}
-use Rattle.std.specs.Prelude.{IsOk}
-use Rattle.line_runs.specs.Lines.{lines_of}
-use Rattle.line_runs.specs.Run.{AreAnswered, Begins, IsRun, Outputs, StopsReading, at_end, none_yet, refused, stopped as ended_by, taken}
-use Rattle.line_runs.specs.declared.outcome.Ran.{Ran}
-use Rattle.line_runs.specs.declared.outcome.Ran.TheVariants.{WithRefusals}
-use Rattle.line_runs.specs.declared.outcome.RunFault.{RunFault}
-use Rattle.line_runs.specs.declared.outcome.RunFault.TheVariants.{WriteFailed}
-use Rattle.line_runs.specs.declared.run.Turn.{Turn}
-use Rattle.line_runs.specs.declared.run.Turn.TheVariants.{Taken, Refused, Ended}
-use Rattle.node_store.specs.declared.fault.StoreFault.{StoreFault}
+use Rattle.std.proofs.Common.{◌≡◌, ◌≢◌, ◌∙◌, ℕ, false, true, List, Option, Some, None, IfErr, IfOk, Result, Ok, Err}
+use Rattle.std.proofs.Common.{refl, sym, ap, subst, IsOk}
+use Rattle.line_runs.specs.{AreAnswered, Begins, Ended, IsRun, Outputs, Ran, Refused, RunFault, StopsReading, Taken}
+use Rattle.line_runs.specs.{Turn, WithRefusals, WriteFailed, at_end, lines_of, none_yet, refused, stopped as ended_by}
+use Rattle.line_runs.specs.{taken}
+use Rattle.node_store.specs.{StoreFault}
 use Rattle.node_keepers.specs.Keeping.{Keeping}
-use Rattle.node_keepers.specs.declared.keeping.KeptNode.{KeptNode}
+use Rattle.node_keepers.specs.{KeptNode}
 use Rattle.node_programs.specs.Play.{Happened, Lost, NoSetup, Opened, PlayBegins, PlayEndGives, PlayLineGives, PlayOutputs, PlayStops, PlayTurn, Playing, Stage, Starved, Unkept, Unread, kept_in, opening}
 use Rattle.node_programs.specs.Stops.{IfRun, IfStore}
 use Rattle.node_programs.specs.declared.fault.PlayFault.{PlayFault}

@@ -2,20 +2,18 @@
 use Rattle.std.proofs.Common.{◌≡◌, ◌≢◌, ◌∙◌, ℕ, List, [], Option, Some, None, Result, Ok, Err, IfErr, refl, sym, ap, subst}
 use Rattle.std.proofs.lemmas.Result.{err_from_is_err_and}
 use Rattle.std.specs.Result.{IsErrAnd}
-use Rattle.json_text.specs.declared.fault.JsonFault.{JsonFault}
-use Rattle.ocpi_json.specs.EventForms.{event_in}
-use Rattle.ocpi_json.specs.SetupForms.{setup_in}
-use Rattle.ocpi_types.specs.declared.events.Event.{Event}
-use Rattle.ocpi_types.specs.declared.packet.Packet.{Packet}
-use Rattle.ocpi_types.specs.declared.rows.Change.{Change}
-use Rattle.ocpi_types.specs.declared.setup.Node.{Node}
-use Rattle.node_store.specs.declared.fault.StoreFault.{StoreFault}
-use Rattle.line_runs.specs.declared.run.Turn.TheVariants.{Taken, Ended}
+use Rattle.json_text.specs.{JsonFault}
+use Rattle.ocpi_json.specs.{event_in, setup_in}
+use Rattle.ocpi_types.specs.{Change, Event, Node, Packet}
+use Rattle.node_store.specs.{StoreFault}
+use Rattle.line_runs.specs.{Ended, Taken}
 use Rattle.world.specs.Seen.{told}
 use Rattle.world.specs.declared.planned.Outcome.{Outcome}
 use Rattle.world.specs.declared.planned.Outcome.TheVariants.{Stepped, Skipped, Refused}
-use Rattle.world_steps.specs.World.{World, opened}
-use Rattle.node_keepers.specs.Keeping.{AreOpened, AreUnopened, Keeping}
+use Rattle.world_steps.specs.{opened}
+use Rattle.world_steps.specs.World.{World}
+use Rattle.node_keepers.specs.{AreOpened, AreUnopened}
+use Rattle.node_keepers.specs.Keeping.{Keeping}
 use Rattle.node_programs.specs.Play.{Opened, Playing, SetupTurn, Stage, changes_told, played_from}
 
 -- a world was opened, and its keepers

@@ -1,23 +1,14 @@
 -- What the program `answer` writes for what it reads: the site line, and then packets at that line's moment.
 use Rattle.std.specs.Prelude.{◌≡◌, ℕ, List, [], Option, None, Some, Ok}
 use Rattle.program_lines.specs.Writing.{packet_lines, refusal_line}
-use Rattle.ocpi_types.specs.declared.packet.Packet.{Packet}
-use Rattle.ocpi_types.specs.declared.site.SiteLine.{SiteLine}
-use Rattle.json_text.specs.declared.fault.JsonFault.{JsonFault}
-use Rattle.json_text.specs.declared.fault.JsonFault.TheVariants.{Syntax}
-use Rattle.json_text.specs.Fault.{Fails, fault_text as json_fault_text}
-use Rattle.ocpi_json.specs.Packets.{packet_in}
-use Rattle.ocpi_json.specs.SiteLines.{site_in}
-use Rattle.node_steps.specs.declared.fault.NodeFault.{NodeFault}
-use Rattle.node_steps.specs.FaultText.{fault_text as node_fault_text}
-use Rattle.operator_rows.specs.State.{State, opening}
-use Rattle.operator_steps.specs.Faults.{IsDue}
-use Rattle.operator_steps.specs.Moves.{Out}
-use Rattle.operator_steps.specs.Steps.{OperatorStep}
-use Rattle.line_runs.specs.declared.outcome.Ran.{Ran}
-use Rattle.line_runs.specs.declared.outcome.Ran.TheVariants.{Whole, WithRefusals}
-use Rattle.line_runs.specs.declared.run.Turn.{Turn}
-use Rattle.line_runs.specs.declared.run.Turn.TheVariants.{Taken, Refused, Ended}
+use Rattle.ocpi_types.specs.{Packet, SiteLine}
+use Rattle.json_text.specs.{Fails, JsonFault, Syntax, fault_text as json_fault_text}
+use Rattle.ocpi_json.specs.{packet_in, site_in}
+use Rattle.node_steps.specs.{NodeFault, fault_text as node_fault_text}
+use Rattle.operator_rows.specs.{opening}
+use Rattle.operator_rows.specs.State.{State}
+use Rattle.operator_steps.specs.{IsDue, OperatorStep, Out}
+use Rattle.line_runs.specs.{Ended, Ran, Refused, Taken, Turn, Whole, WithRefusals}
 
 -- an operator, and the moment at which each packet comes
 pub record Answering : Type 0 where

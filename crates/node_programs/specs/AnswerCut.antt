@@ -1,11 +1,10 @@
 -- A line of `answer` that is too long is refused whatever comes after its first bytes.
 use Rattle.std.specs.Prelude.{◌≡◌, ℕ, List, Option, None, Some, take}
 use Rattle.std.proofs.Common.{sym, ap, subst, ◌∙◌}
-use Rattle.json_text.specs.Fault.{◌>>=◌, Fails}
-use Rattle.ocpi_json.specs.Packets.{packet_in, packet_of_line}
-use Rattle.ocpi_json.specs.SiteLines.{site_in}
+use Rattle.json_text.specs.{Fails, ◌>>=◌}
+use Rattle.ocpi_json.specs.{packet_in, packet_of_line, site_in}
 use Rattle.ocpi_forms.specs.Sites.{site_of_line}
-use Rattle.line_runs.specs.declared.run.Turn.{Turn}
+use Rattle.line_runs.specs.{Turn}
 use Rattle.line_runs.specs.declared.lines.TheConstants.{KEPT_BYTES}
 use Rattle.node_programs.specs.Answer.{Answering, LineGives, Opened, NoSite, Answered, Unanswered, Unread}
 use Rattle.program_lines.specs.Cut.{tree-cut}

@@ -1,33 +1,22 @@
 -- What the program `play` writes for what it reads: a setup line, then events at its nodes, and at the end what is
 -- owed.
 use Rattle.std.specs.Prelude.{◌≡◌, ◌≢◌, ℕ, ℤ, List, [], ◌∷◌, ◌++◌, Option, None, Some, Ok, codes, flat_map}
-use Rattle.ocpi_text.specs.Decimal.{sum_text}
-use Rattle.ocpi_text.specs.Text.{key}
-use Rattle.ocpi_types.specs.declared.events.Event.{Event}
-use Rattle.ocpi_types.specs.declared.rows.Change.{Change}
-use Rattle.ocpi_types.specs.declared.setup.Node.{Node}
-use Rattle.ocpi_types.specs.declared.setup.Node.TheVariants as node
-use Rattle.json_text.specs.declared.fault.JsonFault.{JsonFault}
-use Rattle.json_text.specs.declared.fault.JsonFault.TheVariants.{Syntax}
-use Rattle.json_text.specs.Fault.{Fails, fault_text as json_fault_text}
-use Rattle.ocpi_json.specs.EventForms.{event_in}
-use Rattle.ocpi_json.specs.SetupForms.{setup_in}
-use Rattle.node_steps.specs.declared.fault.NodeFault.TheVariants.{Memory}
-use Rattle.node_steps.specs.FaultText.{fault_text as node_fault_text}
-use Rattle.world_steps.specs.Steps.{Gives, Outcome}
+use Rattle.ocpi_text.specs.{key, sum_text}
+use Rattle.ocpi_types.specs.{Change, Event, Node}
+use Rattle.ocpi_types.specs.node
+use Rattle.json_text.specs.{Fails, JsonFault, Syntax, fault_text as json_fault_text}
+use Rattle.ocpi_json.specs.{event_in, setup_in}
+use Rattle.node_steps.specs.{Memory, fault_text as node_fault_text}
+use Rattle.world_steps.specs.{Gives, Outcome, opened}
 use Rattle.world_steps.specs.Steps as outcome
-use Rattle.world_steps.specs.World.{World, opened}
+use Rattle.world_steps.specs.World.{World}
 use Rattle.world.specs.State.{owed_by}
-use Rattle.line_runs.specs.Run.{Begins, Outputs, StopsReading}
-use Rattle.line_runs.specs.declared.outcome.Ran.{Ran}
-use Rattle.line_runs.specs.declared.outcome.Ran.TheVariants.{Whole, WithRefusals}
-use Rattle.line_runs.specs.declared.outcome.RunFault.{RunFault}
-use Rattle.line_runs.specs.declared.run.Turn.{Turn}
-use Rattle.line_runs.specs.declared.run.Turn.TheVariants.{Taken, Refused, Ended}
-use Rattle.node_store.specs.declared.fault.StoreFault.{StoreFault}
-use Rattle.node_keepers.specs.Keeping.{AreOpened, AreUnopened, KeeperRefuses, KeeperTakes, Keeping}
+use Rattle.line_runs.specs.{Begins, Ended, Outputs, Ran, Refused, RunFault, StopsReading, Taken, Turn, Whole}
+use Rattle.line_runs.specs.{WithRefusals}
+use Rattle.node_store.specs.{StoreFault}
+use Rattle.node_keepers.specs.{AreOpened, AreUnopened, KeeperRefuses, KeeperTakes, KeptNode}
+use Rattle.node_keepers.specs.Keeping.{Keeping}
 use Rattle.program_lines.specs.Writing.{packet_lines, refusal_line}
-use Rattle.node_keepers.specs.declared.keeping.KeptNode.{KeptNode}
 
 -- a world, the setup that it was opened from, and the keepers of its nodes, which are of type K
 pub record Playing (K : Type 0) : Type 0 where

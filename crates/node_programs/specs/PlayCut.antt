@@ -1,12 +1,11 @@
 -- A line of `play` that is too long is refused whatever comes after its first bytes.
 use Rattle.std.specs.Prelude.{ℕ, ◌≡◌, List, Option, None, Some, take}
 use Rattle.std.proofs.Common.{sym, ap, subst, ◌∙◌}
-use Rattle.json_text.specs.Fault.{◌>>=◌, Fails}
-use Rattle.ocpi_json.specs.EventForms.{event_in, event_of_line}
-use Rattle.ocpi_json.specs.SetupForms.{setup_in, setup_of_line}
-use Rattle.line_runs.specs.declared.run.Turn.{Turn}
+use Rattle.json_text.specs.{Fails, ◌>>=◌}
+use Rattle.ocpi_json.specs.{event_in, event_of_line, setup_in, setup_of_line}
+use Rattle.line_runs.specs.{Turn}
 use Rattle.line_runs.specs.declared.lines.TheConstants.{KEPT_BYTES}
-use Rattle.node_store.specs.declared.fault.StoreFault.{StoreFault}
+use Rattle.node_store.specs.{StoreFault}
 use Rattle.program_lines.specs.Cut.{tree-cut}
 use Rattle.node_keepers.specs.Keeping.{Keeping}
 use Rattle.node_programs.specs.Play.{Playing, Stage, PlayLineGives, PlayTurn, Opened, Unkept, NoSetup, Happened, Lost, Starved, Unread}

@@ -1,12 +1,11 @@
 -- What the program `settle` writes for the rows of a store.
 use Rattle.std.specs.Prelude.{◌≡◌, ℕ, ℤ, List, [], ◌∷◌, ◌++◌, codes, flat_map}
 use Rattle.std.specs.FinMap.{FinMap, entries}
-use Rattle.tables.specs.Keys.{text_pair_cmp}
-use Rattle.handover.specs.Owed.{Account, AreOwed}
-use Rattle.ocpi_text.specs.Decimal.{sum_text}
-use Rattle.ocpi_types.specs.declared.cdrs.Cdr.{Cdr}
-use Rattle.ocpi_types.specs.declared.rows.Row.{Row}
-use Rattle.ocpi_types.specs.declared.rows.Row.TheVariants as row
+use Rattle.tables.specs.{text_pair_cmp}
+use Rattle.handover.specs.{Account, AreOwed}
+use Rattle.ocpi_text.specs.{sum_text}
+use Rattle.ocpi_types.specs.{Cdr, Row}
+use Rattle.ocpi_types.specs.row
 
 -- the charge detail record of a row, where it is one of a record
 abbrev pub cdr_of : Row → List Cdr

@@ -1,10 +1,9 @@
 -- What is said of what stopped a run, and the exit status.
 use Rattle.std.specs.Prelude.{ℕ, List, ◌++◌, Result, Ok, Err, codes}
 use Rattle.line_runs.specs.Outcome as run
-use Rattle.line_runs.specs.declared.outcome.Ran.{Ran}
-use Rattle.line_runs.specs.declared.outcome.RunFault.{RunFault}
+use Rattle.line_runs.specs.{Ran, RunFault}
 use Rattle.node_store.specs.Faults as store
-use Rattle.node_store.specs.declared.fault.StoreFault.{StoreFault}
+use Rattle.node_store.specs.{StoreFault}
 use Rattle.node_programs.specs.declared.fault.PlayFault.{PlayFault}
 use Rattle.node_programs.specs.declared.fault.PlayFault.TheVariants.{Run, Store}
 

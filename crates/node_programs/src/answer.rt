@@ -2,13 +2,11 @@
 
 ghost use Rattle.std.specs.Prelude.{◌≡◌, ◌≢◌, ◌++◌, ◌∷◌, ℕ, List, [], Option, None, Some, Ok, Err, true};
 ghost use Rattle.std.specs.Prelude.{IfOk, IfErr, OnErr, OnOk, codes, string_bytes};
-ghost use Rattle.json_text.specs.Fault.{Fails};
-ghost use Rattle.ocpi_json.specs.Packets.{packet_in};
-ghost use Rattle.ocpi_json.specs.SiteLines.{site_in};
-ghost use Rattle.ocpi_types.specs.declared.site.SiteLine.{SiteLine as SiteLineOf};
+ghost use Rattle.json_text.specs.{Fails};
+ghost use Rattle.ocpi_json.specs.{packet_in, site_in};
+ghost use Rattle.ocpi_types.specs.{SiteLine as SiteLineOf};
 ghost use Rattle.node_programs.specs.Answer.{Answering, EndGives, LineGives, PacketTurn, SiteTurn, made_by};
-ghost use Rattle.line_runs.specs.Run.{Begins, Outputs, ReadsFewLines, StopsReading};
-ghost use Rattle.line_runs.specs.declared.run.Turn.{Turn as TurnOf};
+ghost use Rattle.line_runs.specs.{Begins, Outputs, ReadsFewLines, StopsReading, Turn as TurnOf};
 
 use line_runs::{AnswerLines, LineReader, Ran, RunFault, Turn, run_whole};
 use node_steps::{NodeFault, Stepped};
@@ -50,8 +48,7 @@ impl Model for Running {
 
 impl Running {
     ghost use Rattle.operator_core.specs.Requests.{out_of};
-    ghost use Rattle.operator_steps.specs.Faults.{IsDue};
-    ghost use Rattle.operator_steps.specs.Steps.{OperatorStep};
+    ghost use Rattle.operator_steps.specs.{IsDue, OperatorStep};
 
     /// A packet comes to the operator. A refusal changes nothing and sends nothing.
     fn on_packet(&mut self, packet: &Packet) -> Result<Stepped, NodeFault>

@@ -2,7 +2,7 @@
 
 ghost use Rattle.std.specs.Prelude.{◌≡◌, ◌++◌, OnOk, flat_map, string_bytes};
 ghost use Rattle.node_programs.specs.Play.{debt_line, debt_lines, debts_of};
-ghost use Rattle.ocpi_text.specs.Text.{key};
+ghost use Rattle.ocpi_text.specs.{key};
 ghost use Rattle.world.specs.State.{owed_by};
 
 use ocpi_text::{FreeText, Party, ShortText, write_sum};

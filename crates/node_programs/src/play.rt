@@ -2,12 +2,10 @@
 
 ghost use Rattle.std.specs.Prelude.{◌≡◌, ◌≢◌, ◌++◌, ℕ, List, Option, None, Some, Ok, Err, true};
 ghost use Rattle.std.specs.Prelude.{IfOk, IfErr, IsOk, OnOk, codes, string_bytes};
-ghost use Rattle.json_text.specs.Fault.{Fails};
-ghost use Rattle.ocpi_json.specs.EventForms.{event_in};
-ghost use Rattle.ocpi_json.specs.SetupForms.{setup_in};
-ghost use Rattle.ocpi_types.specs.declared.rows.Change.{Change as ChangeOf};
-ghost use Rattle.ocpi_types.specs.declared.setup.Node.{Node as NodeOf};
-ghost use Rattle.node_keepers.specs.Keeping.{AreOpened, AreUnopened, keeping_of};
+ghost use Rattle.json_text.specs.{Fails};
+ghost use Rattle.ocpi_json.specs.{event_in, setup_in};
+ghost use Rattle.ocpi_types.specs.{Change as ChangeOf, Node as NodeOf};
+ghost use Rattle.node_keepers.specs.{AreOpened, AreUnopened, keeping_of};
 ghost use Rattle.node_programs.specs.Play.{EventTurn, PlayBegins, PlayEndGives, PlayLineGives, PlayOutputs, PlayStops};
 ghost use Rattle.node_programs.specs.Play.{
   SetupTurn,
@@ -20,10 +18,8 @@ ghost use Rattle.node_programs.specs.Play.{
   turn_of,
 };
 ghost use Rattle.world.specs.Seen.{told};
-ghost use Rattle.world_steps.specs.World.{opened};
-ghost use Rattle.line_runs.specs.Run.{ReadsFewLines};
-ghost use Rattle.line_runs.specs.declared.outcome.Ran.TheVariants.{WithRefusals};
-ghost use Rattle.line_runs.specs.declared.run.Turn.{Turn as TurnOf};
+ghost use Rattle.world_steps.specs.{opened};
+ghost use Rattle.line_runs.specs.{ReadsFewLines, Turn as TurnOf, WithRefusals};
 ghost use Rattle.node_programs.specs.Stops.{IfRun, IfStore};
 
 use crate::debts::write_all_debts;

@@ -1,12 +1,11 @@
 //! The program `settle`: what is owed by the charge detail records among the rows of a store.
 
 ghost use Rattle.std.specs.Prelude.{◌≡◌, ◌++◌, ℕ, ℤ, List, IfErr, IfOk, OnOk, string_bytes};
-ghost use Rattle.handover.specs.Owed.{Account};
-ghost use Rattle.line_runs.specs.Run.{gives_beginning};
+ghost use Rattle.handover.specs.{Account};
+ghost use Rattle.line_runs.specs.{gives_beginning};
 ghost use Rattle.node_programs.specs.Settle.{Settles, account_line, cdr_of, cdrs_of, sum_lines};
 ghost use Rattle.std.specs.Io.KnownBytes.{Appends};
-ghost use Rattle.tables.specs.Keys.{text_pair_cmp};
-ghost use Rattle.tables.specs.Tables.{shown_of};
+ghost use Rattle.tables.specs.{shown_of, text_pair_cmp};
 
 use handover::{Currency, Sums, settle_all};
 use line_runs::{RunFault, flush, write_whole};

@@ -1,19 +1,14 @@
 -- What comes of an event at a node is a step of its entry, and so a replay stays one.
 use Rattle.std.proofs.Common.{◌≡◌, ◌≢◌, ◌∙◌, ◌↔◌, List, [], Bool, IsTrue, false, true, inl, refl, sym, subst}
-use Rattle.ocpi_types.specs.declared.node_events.NodeEventKind.{NodeEventKind}
+use Rattle.ocpi_types.specs.{Change, NodeEventKind, Packet}
 use Rattle.ocpi_types.specs.declared.node_events.NodeEventKind.TheVariants as event
-use Rattle.ocpi_types.specs.declared.packet.Packet.{Packet}
-use Rattle.ocpi_types.specs.declared.rows.Change.{Change}
-use Rattle.node_steps.specs.declared.fault.NodeFault.{NodeFault}
+use Rattle.node_steps.specs.{NodeFault}
 use Rattle.node_core.specs.Works as works
-use Rattle.node_core.specs.Works.{IsWork, changes_by, node_after, packets_by}
-use Rattle.node_core.specs.declared.input.NodeInput.{NodeInput}
-use Rattle.node_core.specs.declared.work.NodeWork.{NodeWork}
+use Rattle.node_core.specs.{IsWork, NodeInput, NodeWork, changes_by, node_after, packets_by}
 use Rattle.node_core.proofs.Doing.{does}
-use Rattle.node_cell.specs.Stored.{SaysTheSame}
+use Rattle.node_cell.specs.{SaysTheSame}
 use Rattle.history_laws.specs.Replays as entries
-use Rattle.world_steps.specs.Steps.{NodeStep, input_of}
-use Rattle.world_steps.specs.World.{NodeState}
+use Rattle.world_steps.specs.{NodeState, NodeStep, input_of}
 use Rattle.node_replay.specs.Replayed.{Leads, Refuses}
 
 -- work that is done is the step of an entry

@@ -1,18 +1,16 @@
 -- A replay stays one: after each event, whether it is entered or not, and as its node starts again.
 use Rattle.std.proofs.Common.{◌≡◌, ◌++◌, ◌∷◌, List, [], refl, sym, subst, Result, Ok, Err, IfOk, OnErr, OnOk}
-use Rattle.ocpi_types.specs.declared.node_events.NodeEventKind.{NodeEventKind}
-use Rattle.ocpi_types.specs.declared.setup.Node.{Node}
-use Rattle.histories.specs.declared.entry.Entry.{Entry}
+use Rattle.ocpi_types.specs.{Node, NodeEventKind}
+use Rattle.histories.specs.{Entry}
 use Rattle.history_laws.specs.Replays as entries
 use Rattle.history_laws.specs.Replays.{EntryStep, Replays}
 use Rattle.node_laws.proofs.Runs.{run_join}
-use Rattle.node_rows.specs.Laws.{NodesKeepOpenings, RestartsCanStartAgain}
+use Rattle.node_rows.specs.{NodesKeepOpenings, RestartsCanStartAgain}
 use Rattle.operator_steps.specs.Events as operator
 use Rattle.provider_steps.specs.Events as provider
-use Rattle.stored_laws.specs.Nodes.{CanStartAgain, IsOfOpening, NodesCanStartAgain, restarted}
+use Rattle.stored_laws.specs.{CanStartAgain, IsOfOpening, NodesCanStartAgain, restarted}
 use Rattle.world_steps.specs.Steps as steps
-use Rattle.world_steps.specs.Steps.{AtOperator, AtProvider}
-use Rattle.world_steps.specs.World.{NodeState, Operates, Provides, opening_of}
+use Rattle.world_steps.specs.{AtOperator, AtProvider, NodeState, Operates, Provides, opening_of}
 use Rattle.node_replay.specs.Replayed.{Adds, IsReplay, Replay, restart_entry}
 use Rattle.node_replay.specs.declared.outcome.ReplayFault.{ReplayFault}
 use Rattle.node_replay.specs.declared.outcome.Replayed.{Replayed}

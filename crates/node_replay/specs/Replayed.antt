@@ -1,18 +1,13 @@
 -- A node of a setup with all that happened at it: what holds of it at any time, and what an event makes of it.
 use Rattle.std.specs.Prelude.{◌≡◌, ◌≢◌, ◌↔◌, List, [], ◌∷◌, ◌++◌, Option, None, Some, Bool, false, IsTrue, Contains}
-use Rattle.ocpi_types.specs.declared.node_events.NodeEventKind.{NodeEventKind}
+use Rattle.ocpi_types.specs.{Node, NodeEventKind, Packet}
 use Rattle.ocpi_types.specs.declared.node_events.NodeEventKind.TheVariants as event
-use Rattle.ocpi_types.specs.declared.packet.Packet.{Packet}
-use Rattle.ocpi_types.specs.declared.setup.Node.{Node}
-use Rattle.node_steps.specs.declared.fault.NodeFault.{NodeFault}
-use Rattle.node_steps.specs.declared.fault.NodeFault.TheVariants.{Memory}
-use Rattle.world_laws.specs.Laws.{IsSetup}
-use Rattle.world_steps.specs.Network.{Input}
-use Rattle.world_steps.specs.Steps.{NodeRefuses, changes_of}
-use Rattle.world_steps.specs.World.{NodeState, opening_of}
-use Rattle.histories.specs.declared.entry.Entry.{Entry}
+use Rattle.node_steps.specs.{Memory, NodeFault}
+use Rattle.world_laws.specs.{IsSetup}
+use Rattle.world_steps.specs.{Input, NodeRefuses, NodeState, changes_of, opening_of}
+use Rattle.histories.specs.{Entry}
 use Rattle.history_laws.specs.Replays.{Brings, Does, EntryStep, Idle, Replays}
-use Rattle.stored_laws.specs.Nodes.{CanStartAgain, IsOfOpening, restarted}
+use Rattle.stored_laws.specs.{CanStartAgain, IsOfOpening, restarted}
 use Rattle.node_replay.specs.declared.outcome.ReplayFault.{ReplayFault}
 use Rattle.node_replay.specs.declared.outcome.ReplayFault.TheVariants as fault
 use Rattle.node_replay.specs.declared.stepping.Done.{Done}

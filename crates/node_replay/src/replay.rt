@@ -1,13 +1,12 @@
 //! A node of a setup, with all that happened at it.
 
 ghost use Rattle.std.specs.Prelude.{◌≡◌, Contains, IfErr, IfOk, List, OnErr, OnOk, [], length};
-ghost use Rattle.node_core.specs.States.{state_of};
+ghost use Rattle.node_core.specs.{state_of};
 ghost use Rattle.node_replay.specs.Replayed.{Answers, Foretells, IsNotEntered, IsReplay, started_again};
-ghost use Rattle.ocpi_types.specs.Setups.{party_of};
-ghost use Rattle.ocpi_types.specs.declared.rows.Row.{Row as RowOf};
-ghost use Rattle.stored_laws.specs.Nodes.{AreNodeRows, CanStartAgain, IsOfOpening, last_serial, restarted};
-ghost use Rattle.world_laws.specs.Laws.{IsSetup};
-ghost use Rattle.world_steps.specs.World.{opening_of};
+ghost use Rattle.ocpi_types.specs.{Row as RowOf, party_of};
+ghost use Rattle.stored_laws.specs.{AreNodeRows, CanStartAgain, IsOfOpening, last_serial, restarted};
+ghost use Rattle.world_laws.specs.{IsSetup};
+ghost use Rattle.world_steps.specs.{opening_of};
 
 use crate::outcome::{ReplayFault, Replayed};
 use crate::stepping::{enter, enter_restart, foretell, restarted_copies};
@@ -48,7 +47,7 @@ impl<'a> Drop for NodeReplay<'a> {
 impl<'a> Model for NodeReplay<'a> {
     ghost use Rattle.std.specs.Coded.{codes};
     ghost use Rattle.std.specs.FinMap as map;
-    ghost use Rattle.node_core.specs.States.{state_of};
+    ghost use Rattle.node_core.specs.{state_of};
     ghost use Rattle.node_replay.specs.Replayed.{IsReplay, Replay};
 
     ghost Value = { Replay };

@@ -1,11 +1,9 @@
 //! What an event makes of a node, with all memory for its entry taken before.
 
 ghost use Rattle.std.specs.Prelude.{◌≡◌, ◌≢◌, ◌≤◌, ◌+◌, ◌++◌, ◌∷◌, ◌↔◌, [], IfErr, IfOk, IsTrue, List, OnErr, OnOk, length, vec_capacity};
-ghost use Rattle.node_core.specs.States.{state_of};
-ghost use Rattle.node_core.specs.Works.{IsWork, changes_by, node_after, packets_by};
-ghost use Rattle.node_core.specs.declared.input.NodeInput.{NodeInput as NodeInputOf};
+ghost use Rattle.node_core.specs.{IsWork, NodeInput as NodeInputOf, changes_by, node_after, packets_by, state_of};
 ghost use Rattle.node_replay.specs.Replayed.{Adds, Fails, Foretells, IsStep, restart_entry};
-ghost use Rattle.stored_laws.specs.Nodes.{restarted};
+ghost use Rattle.stored_laws.specs.{restarted};
 
 use crate::outcome::{ReplayFault, Replayed};
 use histories::{Entry, Packets};

@@ -1,23 +1,17 @@
 -- What changes make of what a content keeps.
-use Rattle.std.proofs.Common.{◌≡◌, ◌≢◌, ◌⊎◌, List, [], ◌∷◌, map, All, inl, inr, sym, ap, subst, ◌∙◌}
-use Rattle.std.specs.Prelude.{◌↔◌, Contains}
+use Rattle.std.proofs.Common.{◌≡◌, ◌≢◌, ◌⊎◌, List, [], ◌∷◌, map, All, inl, inr, sym, ap, subst, ◌∙◌, ◌↔◌, Contains}
 use Rattle.std.specs.FinMap.{get, insert}
 use Rattle.std.proofs.lemmas.List.Elements.{All-head, All-tail}
 use Rattle.std.proofs.lemmas.Option.{same_Some}
-use Rattle.tables.specs.Keys.{text_pair_cmp, text_pair_total, text_pair_exact}
+use Rattle.tables.specs.{text_pair_cmp, text_pair_exact, text_pair_total}
 use Rattle.tables.proofs.Elements.{in_front, in_none, of_map}
 use Rattle.tables.proofs.Maps.{get-insert_other, get-insert_same, get-remove_other, of_remove, told}
-use Rattle.ocpi_types.specs.Rows.{key_of}
-use Rattle.ocpi_types.specs.declared.rows.Change.{Change}
-use Rattle.ocpi_types.specs.declared.rows.Change.TheVariants.{Put, Drop}
-use Rattle.ocpi_types.specs.declared.rows.Row.{Row}
-use Rattle.ocpi_types.specs.declared.rows.RowKey.{RowKey}
-use Rattle.ocpi_json.specs.RowForms.{row_text}
-use Rattle.ocpi_json.specs.RowKeys.{KeyFits}
+use Rattle.ocpi_types.specs.{Change, Drop, Put, Row, RowKey, key_of}
+use Rattle.ocpi_json.specs.{KeyFits, row_text}
 use Rattle.ocpi_json.proofs.ReadKeys.{read_keys_fit}
 use Rattle.ocpi_json.proofs.RowKeyLemmas.{keys_are_apart}
-use Rattle.node_steps.specs.Changes.{AreApart, Each, change_key}
-use Rattle.node_store.specs.Contents.{Content, IsReadAgain, RowPlace, changed, changed_all, place_of}
+use Rattle.node_steps.specs.{AreApart, Each, change_key}
+use Rattle.node_store.specs.{Content, IsReadAgain, RowPlace, changed, changed_all, place_of}
 use Rattle.operator_rows.proofs.RowChanges.{each_of, in_later, of_cons}
 use Rattle.node_rows.proofs.Readings.{IsKept, read_at, same_ok}
 

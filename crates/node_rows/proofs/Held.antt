@@ -1,13 +1,9 @@
 -- A content that holds rows, whatever has them, and what changes make of it.
-use Rattle.std.proofs.Common.{◌≡◌, ◌⊎◌, List, map, All, IsSome, Option, Some, None, inl, inr, refl}
-use Rattle.std.specs.Prelude.{◌↔◌, Contains}
-use Rattle.ocpi_types.specs.Rows.{key_of}
-use Rattle.ocpi_types.specs.declared.rows.Change.{Change}
-use Rattle.ocpi_types.specs.declared.rows.Change.TheVariants.{Put}
-use Rattle.ocpi_types.specs.declared.rows.Row.{Row}
-use Rattle.node_steps.specs.Changes.{AreApart, change_key}
+use Rattle.std.proofs.Common.{◌≡◌, ◌⊎◌, List, map, All, IsSome, Option, Some, None, inl, inr, refl, ◌↔◌, Contains}
+use Rattle.ocpi_types.specs.{Change, Put, Row, key_of}
+use Rattle.node_steps.specs.{AreApart, change_key}
 use Rattle.stored_rows.proofs.Growing.{AreExactly}
-use Rattle.node_store.specs.Contents.{AreRows, Content, IsReadAgain, changed_all, rows_of}
+use Rattle.node_store.specs.{AreRows, Content, IsReadAgain, changed_all, rows_of}
 use Rattle.node_store.proofs.KeptRows.{all_rows, rows_are}
 use Rattle.node_rows.proofs.Readings.{IsKept, rows_apart, rows_kept, texts_are_rows}
 use Rattle.node_rows.proofs.Changing.{all_changes}

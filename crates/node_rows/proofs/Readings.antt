@@ -1,21 +1,20 @@
 -- The rows of a content: each is what the text in the place of its key is read as.
-use Rattle.std.proofs.Common.{◌≡◌, ◌≢◌, ℕ, List, [], ◌∷◌, ◌++◌, map, true, Option, Some, None, Result, Ok, Err, inl, inr, refl, sym, ap, subst, ◌∙◌}
-use Rattle.std.specs.Prelude.{◌↔◌, Contains}
+use Rattle.std.proofs.Common.{◌≡◌, ◌≢◌, ℕ, List, [], ◌∷◌, ◌++◌, map, true, Option, Some, None, Result, Ok, Err, inl}
+use Rattle.std.proofs.Common.{inr, refl, sym, ap, subst, ◌∙◌, ◌↔◌, Contains}
 use Rattle.std.specs.List.{AllPairs}
 use Rattle.std.specs.FinMap.{entries, get}
 use Rattle.std.proofs.lemmas.List.{append_assoc, append-nil}
 use Rattle.std.proofs.lemmas.List.Elements.{All-contains}
 use Rattle.std.proofs.lemmas.List.Kept.{AllPairs-cons}
 use Rattle.std.proofs.lemmas.Option.{same_Some}
-use Rattle.tables.specs.Keys.{text_pair_cmp, text_pair_total, text_pair_exact}
+use Rattle.tables.specs.{text_pair_cmp, text_pair_exact, text_pair_total}
 use Rattle.tables.proofs.Elements.{all_of, first_pairs, in_front, in_map, in_none, later_pairs, no_pairs}
 use Rattle.tables.proofs.Entries.{all_apart, listed, listed_only}
-use Rattle.json_text.specs.Fault.{Read}
-use Rattle.ocpi_types.specs.Rows.{key_of}
-use Rattle.ocpi_types.specs.declared.rows.Row.{Row}
-use Rattle.ocpi_json.specs.RowForms.{row_in}
+use Rattle.json_text.specs.{Read}
+use Rattle.ocpi_types.specs.{Row, key_of}
+use Rattle.ocpi_json.specs.{row_in}
 use Rattle.ocpi_json.proofs.RowLemmas.{row_found}
-use Rattle.node_store.specs.Contents.{AreRows, Content, RowPlace, after_row, is_row, place_of, rows_after, rows_of}
+use Rattle.node_store.specs.{AreRows, Content, RowPlace, after_row, is_row, place_of, rows_after, rows_of}
 use Rattle.operator_rows.proofs.RowChanges.{in_later, of_cons}
 
 abbrev Entry : Type 0

@@ -1,10 +1,8 @@
 -- Nodes that store alike, and nodes of one opening.
-use Rattle.std.proofs.Common.{◌≡◌, ℕ, List, [], refl, sym, ap, subst, ◌∙◌}
-use Rattle.std.specs.Prelude.{Some}
-use Rattle.ocpi_types.specs.declared.rows.Row.{Row}
-use Rattle.ocpi_types.specs.declared.setup.Node.{Node}
-use Rattle.ocpi_types.specs.declared.setup.Node.TheVariants as node
-use Rattle.node_store.specs.Contents.{Content}
+use Rattle.std.proofs.Common.{◌≡◌, ℕ, List, [], refl, sym, ap, subst, ◌∙◌, Some}
+use Rattle.ocpi_types.specs.{Node, Row}
+use Rattle.ocpi_types.specs.node
+use Rattle.node_store.specs.{Content}
 use Rattle.operator_rows.specs.Rows as operator_rows
 use Rattle.operator_rows.specs.Sound as operator_sound
 use Rattle.operator_rows.specs.State as operator
@@ -21,10 +19,10 @@ use Rattle.provider_rows.specs.Stored as provider_stored
 use Rattle.provider_rows.proofs.KeepingTimes as provider_times
 use Rattle.provider_steps.specs.Events as provider_events
 use Rattle.provider_steps.specs.Moves as provider_moves
-use Rattle.stored_laws.specs.Nodes.{CanStartAgain, IsOfOpening, restarted}
+use Rattle.stored_laws.specs.{CanStartAgain, IsOfOpening, restarted}
 use Rattle.world_steps.specs.Steps as steps
-use Rattle.world_steps.specs.Steps.{AtOperator, AtProvider, NodeEvent, NodeStep, OperatorDoes, ProviderDoes, changes_of}
-use Rattle.world_steps.specs.World.{NodeState, Operates, Provides, opening_of}
+use Rattle.world_steps.specs.{AtOperator, AtProvider, NodeEvent, NodeState, NodeStep, Operates, OperatorDoes}
+use Rattle.world_steps.specs.{ProviderDoes, Provides, changes_of, opening_of}
 use Rattle.node_rows.specs.Holds.{HoldsRows, StoresAlike}
 use Rattle.node_rows.specs.Laws.{AreClasses, NodesKeepOpenings, RestartsAreHeld, RestartsCanStartAgain}
 

@@ -1,11 +1,8 @@
 -- What a step of a node makes of a content that holds its rows.
 use Rattle.std.proofs.Common.{◌≡◌, List, [], All, sym, ap, subst}
-use Rattle.ocpi_types.specs.declared.rows.Change.{Change}
-use Rattle.ocpi_types.specs.declared.rows.Row.{Row}
-use Rattle.node_steps.specs.Acts.{Act}
-use Rattle.node_steps.specs.Changes.{AreApart}
-use Rattle.node_steps.specs.Drafts.{Step}
-use Rattle.node_store.specs.Contents.{Content, IsReadAgain, changed_all}
+use Rattle.ocpi_types.specs.{Change, Row}
+use Rattle.node_steps.specs.{Act, AreApart, Step}
+use Rattle.node_store.specs.{Content, IsReadAgain, changed_all}
 use Rattle.operator_laws.proofs.events.Doing.{asked_may as operator_asked}
 use Rattle.operator_rows.proofs.RowChanges as operator_changes
 use Rattle.operator_rows.specs.Rows as operator_rows
@@ -26,8 +23,7 @@ use Rattle.provider_steps.proofs.PacketSteps.{packets}
 use Rattle.provider_steps.proofs.TickSteps.{ticks}
 use Rattle.provider_steps.proofs.TokenSteps.{tokens}
 use Rattle.world_steps.specs.Steps as steps
-use Rattle.world_steps.specs.Steps.{AtOperator, AtProvider, OperatorDoes, ProviderDoes}
-use Rattle.world_steps.specs.World.{Operates, Provides}
+use Rattle.world_steps.specs.{AtOperator, AtProvider, Operates, OperatorDoes, ProviderDoes, Provides}
 use Rattle.node_rows.specs.Holds.{HoldsRows}
 use Rattle.node_rows.specs.Laws.{ChangesAreHeld, PlansAreHeld}
 use Rattle.node_rows.proofs.Held.{HoldsAll, changes_hold}

@@ -1,16 +1,13 @@
 -- What the rows that are held tell of their node.
-use Rattle.std.proofs.Common.{◌≡◌, List, [], ◌∷◌, refl, sym, ap, subst, ◌∙◌}
-use Rattle.std.specs.Prelude.{Contains, Some}
+use Rattle.std.proofs.Common.{◌≡◌, List, [], ◌∷◌, refl, sym, ap, subst, ◌∙◌, Contains, Some}
 use Rattle.std.specs.FinMap.{empty, get-empty}
 use Rattle.std.proofs.lemmas.Option.{same_Some}
-use Rattle.tables.specs.Keys.{text_pair_cmp}
+use Rattle.tables.specs.{text_pair_cmp}
 use Rattle.tables.proofs.Elements.{in_front}
 use Rattle.tables.proofs.Options.{not_both}
-use Rattle.ocpi_types.specs.declared.rows.Row.{Row}
-use Rattle.ocpi_types.specs.declared.setup.Node.{Node}
-use Rattle.ocpi_types.specs.declared.setup.Node.TheVariants as node
-use Rattle.ocpi_types.specs.declared.site.SiteLine.{SiteLine}
-use Rattle.node_store.specs.Contents.{Content, rows_of}
+use Rattle.ocpi_types.specs.{Node, Row, SiteLine}
+use Rattle.ocpi_types.specs.node
+use Rattle.node_store.specs.{Content, rows_of}
 use Rattle.node_store.proofs.KeptRows.{no_rows, rows_are}
 use Rattle.operator_laws.proofs.nodes.NodeSteps as operator_nodes
 use Rattle.operator_rows.specs.Rows as operator_rows
@@ -28,10 +25,10 @@ use Rattle.provider_steps.specs.Events as provider_events
 use Rattle.provider_stored.specs.Making as provider_making
 use Rattle.provider_stored.proofs.Made.{made_of_none}
 use Rattle.provider_stored.proofs.Told.{tell_all}
-use Rattle.stored_laws.specs.Nodes.{CanStartAgain, IsOfOpening, IsSound}
+use Rattle.stored_laws.specs.{CanStartAgain, IsOfOpening, IsSound}
 use Rattle.world_steps.specs.Steps as steps
-use Rattle.world_steps.specs.Steps.{AtOperator, AtProvider}
-use Rattle.world_steps.specs.World.{NodeState, Operates, Provides, opening_of, operators_of, providers_of}
+use Rattle.world_steps.specs.{AtOperator, AtProvider, NodeState, Operates, Provides, opening_of, operators_of}
+use Rattle.world_steps.specs.{providers_of}
 use Rattle.node_rows.specs.Holds.{HasRow, HoldsRows, StoresAlike}
 use Rattle.node_rows.specs.Laws.{EmptyIsHeld, HeldRowsStartAgain, RowsAreOfOne, SerialsAreInOrder, SerialsFollow}
 use Rattle.node_rows.proofs.Held.{some_of}

@@ -1,11 +1,11 @@
 -- When the content of a keeper holds the rows of a node, and which nodes store alike.
 use Rattle.std.specs.Prelude.{◌≡◌, List, Some}
-use Rattle.ocpi_types.specs.declared.rows.Row.{Row}
-use Rattle.node_store.specs.Contents.{Content, rows_of}
+use Rattle.ocpi_types.specs.{Row}
+use Rattle.node_store.specs.{Content, rows_of}
 use Rattle.operator_rows.specs.Rows as operator_rows
 use Rattle.provider_rows.specs.Rows as provider_rows
-use Rattle.stored_laws.specs.Nodes.{AreNodeRows, restarted}
-use Rattle.world_steps.specs.World.{NodeState, Operates, Provides}
+use Rattle.stored_laws.specs.{AreNodeRows, restarted}
+use Rattle.world_steps.specs.{NodeState, Operates, Provides}
 
 -- the row stands in the node
 abbrev pub HasRow : NodeState → Row → Type 0

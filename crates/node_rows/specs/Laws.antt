@@ -1,12 +1,9 @@
 -- The laws of contents that hold the rows of a node.
 use Rattle.std.specs.Prelude.{◌≡◌, ℕ, ◌+◌, List, [], All, Some, length, slice_get}
 use Rattle.std.specs.FinMap.{empty}
-use Rattle.ocpi_types.specs.declared.packet.Packet.{Packet}
-use Rattle.ocpi_types.specs.declared.rows.Row.{Row}
-use Rattle.ocpi_types.specs.declared.setup.Node.{Node}
-use Rattle.ocpi_types.specs.declared.site.SiteLine.{SiteLine}
-use Rattle.node_steps.specs.Drafts.{Step}
-use Rattle.node_store.specs.Contents.{Content, IsReadAgain, changed_all, rows_of}
+use Rattle.ocpi_types.specs.{Node, Packet, Row, SiteLine}
+use Rattle.node_steps.specs.{Step}
+use Rattle.node_store.specs.{Content, IsReadAgain, changed_all, rows_of}
 use Rattle.operator_rows.specs.Sound as operator_sound
 use Rattle.operator_rows.specs.State as operator
 use Rattle.operator_rows.specs.Steps as operator_steps
@@ -14,9 +11,8 @@ use Rattle.operator_stored.specs.Making as operator_making
 use Rattle.provider_rows.specs.State as provider
 use Rattle.provider_rows.specs.Steps as provider_steps
 use Rattle.provider_stored.specs.Making as provider_making
-use Rattle.stored_laws.specs.Nodes.{CanStartAgain, IsOfOpening, IsSound, last_serial, restarted}
-use Rattle.world_steps.specs.Steps.{NodeEvent, NodeStep, changes_of, packets_of}
-use Rattle.world_steps.specs.World.{NodeState, Operates, Provides, opening_of}
+use Rattle.stored_laws.specs.{CanStartAgain, IsOfOpening, IsSound, last_serial, restarted}
+use Rattle.world_steps.specs.{NodeEvent, NodeState, NodeStep, Operates, Provides, changes_of, opening_of, packets_of}
 use Rattle.node_rows.specs.Holds.{HasRow, HoldsRows, StoresAlike}
 
 -- where a content holds the rows of a node, the changes of a step make it one that holds those of the node after it

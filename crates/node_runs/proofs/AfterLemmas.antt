@@ -3,25 +3,14 @@ use Rattle.std.proofs.Common.{◌≡◌, ◌≢◌, ◌⊎◌, ◌++◌, ◌∙�
 use Rattle.std.specs.declared.alloc.AllocError.{AllocError}
 use Rattle.std.proofs.lemmas.List.{append-nil}
 use Rattle.std.proofs.lemmas.Result.{IfOk-weaker}
-use Rattle.ocpi_types.specs.declared.node_events.NodeEvent.{NodeEvent}
-use Rattle.ocpi_types.specs.declared.rows.Change.{Change}
-use Rattle.json_text.specs.Fault.{Read}
-use Rattle.world_steps.specs.World.{NodeState}
-use Rattle.node_lines.specs.NodeLines.{node_line_in}
-use Rattle.node_lines.specs.declared.node_line.NodeLine.TheVariants.{Several}
-use Rattle.line_runs.specs.declared.run.Turn.{Turn}
-use Rattle.node_keepers.specs.Opening.{Source}
-use Rattle.node_cell.specs.Keepers.{Commits, Declines, Keeper}
-use Rattle.node_cell.specs.Stored.{IsStored}
-use Rattle.node_cell.specs.Transactions.{AppliesInMemory, FailsInMemory, Pending, changes_of_each}
-use Rattle.node_cell.specs.declared.fault.StepFault.{StepFault}
-use Rattle.node_cell.specs.declared.fault.StepFault.TheVariants as step
-use Rattle.node_cell.specs.declared.stored_node.Applied.{Applied}
-use Rattle.node_cell.specs.declared.stored_node.Applied.TheVariants.{Skipped, Stepped}
-use Rattle.node_store.specs.Faults.{IsCommitFault, counted_fault}
-use Rattle.node_store.specs.declared.fault.StoreFault.{StoreFault}
-use Rattle.node_store.specs.declared.fault.StoreFault.TheVariants.{Memory}
-use Rattle.ocpi_types.specs.declared.node_events.NodeEventKind.{NodeEventKind}
+use Rattle.ocpi_types.specs.{Change, NodeEvent}
+use Rattle.json_text.specs.{Read}
+use Rattle.world_steps.specs.{NodeState}
+use Rattle.node_lines.specs.{Several, node_line_in}
+use Rattle.line_runs.specs.{Turn}
+use Rattle.node_keepers.specs.{Source}
+use Rattle.node_cell.specs.{Commits, Declines, IsStored, Keeper, Pending, changes_of_each}
+use Rattle.node_store.specs.{IsCommitFault, Memory, StoreFault, counted_fault}
 use Rattle.program_lines.proofs.FaultLemmas.{if_err_then}
 use Rattle.node_runs.specs.Afters.{CommitsAll, DoesAll, GoesOnWith, IsAfter, IsCommitted}
 use Rattle.node_runs.specs.ListTurns.{CarriesOut}
@@ -33,15 +22,6 @@ use Rattle.node_runs.specs.declared.list_lines.After.{After}
 use Rattle.node_runs.specs.declared.list_lines.After.TheVariants.{Lost, Runs}
 
 -- ---- an event in memory leaves the keeper alone
-
-pub applies_keep : {K : Type 0} (old new : Pending K) (k : NodeEventKind) (a : Applied) → AppliesInMemory old k a new → new.keep ≡ old.keep
-applies_keep {K} old new k Skipped passes = ap (λ (p : Pending K). p.keep) passes.same
-applies_keep {K} old new k (Stepped packets changed) (inl does) = does.keep
-applies_keep {K} old new k (Stepped packets changed) (inr none) = ap (λ (p : Pending K). p.keep) none.3
-
-pub fails_keep : {K : Type 0} (old new : Pending K) (k : NodeEventKind) (f : StepFault) → FailsInMemory old k f new → new.keep ≡ old.keep
-fails_keep {K} old new k (step.Core fault) refuses = ap (λ (p : Pending K). p.keep) refuses.same
-fails_keep {K} old new k step.Memory same = ap (λ (p : Pending K). p.keep) same
 
 -- ---- a line of several events
 

@@ -1,16 +1,12 @@
 -- What is known of a run that the node may have stopped, from what is known of the run over its lines.
-use Rattle.std.proofs.Common.{◌≡◌, ◌≢◌, ◌⊎◌, ◌∙◌, inl, inr, ℕ, false, true, Bool, List, Option, Some, None, IfErr, IfOk, Result, Ok, Err, refl, sym, ap, subst}
-use Rattle.std.specs.Prelude.{IsOk}
+use Rattle.std.proofs.Common.{◌≡◌, ◌≢◌, ◌⊎◌, ◌∙◌, inl, inr, ℕ, false, true, Bool, List, Option, Some, None, IfErr, IfOk}
+use Rattle.std.proofs.Common.{Result, Ok, Err, refl, sym, ap, subst, IsOk}
 use Rattle.std.specs.Str.Lines.{lines}
-use Rattle.line_runs.specs.Numbered.{AreNumbered, IsNumberedRun, NumberedBegins, NumberedOutputs, NumberedStops, empty_line, none_numbered, numbered_end, numbered_stop, refused_line, taken_line}
-use Rattle.line_runs.specs.declared.outcome.Ran.{Ran}
-use Rattle.line_runs.specs.declared.outcome.Ran.TheVariants.{WithRefusals}
-use Rattle.line_runs.specs.declared.outcome.RunFault.{RunFault}
-use Rattle.line_runs.specs.declared.outcome.RunFault.TheVariants.{WriteFailed}
-use Rattle.line_runs.specs.declared.run.Turn.{Turn}
-use Rattle.line_runs.specs.declared.run.Turn.TheVariants.{Taken, Refused, Ended}
-use Rattle.node_keepers.specs.Opening.{Source}
-use Rattle.node_cell.specs.Keepers.{Keeper}
+use Rattle.line_runs.specs.{AreNumbered, Ended, IsNumberedRun, NumberedBegins, NumberedOutputs, NumberedStops, Ran}
+use Rattle.line_runs.specs.{Refused, RunFault, Taken, Turn, WithRefusals, WriteFailed, empty_line, none_numbered}
+use Rattle.line_runs.specs.{numbered_end, numbered_stop, refused_line, taken_line}
+use Rattle.node_keepers.specs.{Source}
+use Rattle.node_cell.specs.{Keeper}
 use Rattle.node_runs.specs.NodeOutputs.{IsKept, NodeBegins, NodeOutputs, NodeStops, asked_for}
 use Rattle.node_runs.specs.NodeAnswers.{Ends, GoesOn, LineTurn, NodeEndGives, NodeLineGives, NodeTurn}
 use Rattle.node_runs.specs.NodeAnswers as answers

@@ -1,36 +1,27 @@
 -- What the lines of a run make of its node.
 use Rattle.std.proofs.Common.{◌≡◌, ◌⊎◌, ◌++◌, ◌∙◌, ℕ, Bool, List, [], ◌∷◌, Option, Some, None, refl, sym, ap, subst, inl, inr}
 use Rattle.node_laws.specs.Runs.{Run}
-use Rattle.json_text.specs.Fault.{Read}
-use Rattle.ocpi_types.specs.Setups.{party_of}
-use Rattle.ocpi_types.specs.declared.node_events.NodeEvent.{NodeEvent as Event}
-use Rattle.ocpi_types.specs.declared.rows.Row.{Row}
-use Rattle.ocpi_types.specs.declared.setup.Node.{Node}
-use Rattle.ocpi_types.specs.declared.setup.Node.TheVariants as node
+use Rattle.json_text.specs.{Read}
+use Rattle.ocpi_types.specs.{Node, NodeEvent as Event, Row, party_of}
+use Rattle.ocpi_types.specs.node
 use Rattle.operator_rows.specs.Steps as operator_steps
 use Rattle.provider_rows.specs.Steps as provider_steps
-use Rattle.world_steps.specs.Steps.{AtOperator, AtProvider, NodeEvent, NodeStep}
+use Rattle.world_steps.specs.{AtOperator, AtProvider, NodeEvent, NodeState, NodeStep, Operates, Provides, opening_of}
 use Rattle.world_steps.specs.Steps as steps
-use Rattle.world_steps.specs.World.{NodeState, Operates, Provides, opening_of}
-use Rattle.line_runs.specs.Numbered.{AreNumbered, empty_line, none_numbered, refused_line, taken_line}
-use Rattle.line_runs.specs.declared.outcome.Ran.{Ran}
-use Rattle.line_runs.specs.declared.run.Turn.{Turn}
-use Rattle.line_runs.specs.declared.run.Turn.TheVariants.{Refused, Taken}
-use Rattle.node_keepers.specs.Opening.{Source}
-use Rattle.node_cell.specs.Keepers.{Keeper}
-use Rattle.node_cell.specs.Stored.{HoldsOneMore, IsStored, Stored}
-use Rattle.node_core.specs.Members.{IsMadeOfRows}
-use Rattle.node_rows.specs.Holds.{HoldsRows}
-use Rattle.node_rows.specs.Laws.{NodesKeepOpenings}
-use Rattle.node_store.specs.declared.fault.StoreFault.{StoreFault}
-use Rattle.stored_laws.specs.Nodes.{CanStartAgain, IsOfOpening, restarted}
+use Rattle.line_runs.specs.{AreNumbered, Ran, Refused, Taken, Turn, empty_line, none_numbered, refused_line, taken_line}
+use Rattle.node_keepers.specs.{Source}
+use Rattle.node_cell.specs.{HoldsOneMore, IsStored, Keeper, LeavesAllOrNothing}
+use Rattle.node_cell.specs.Stored.{Stored}
+use Rattle.node_core.specs.{IsMadeOfRows}
+use Rattle.node_rows.specs.{HoldsRows, NodesKeepOpenings}
+use Rattle.node_store.specs.{StoreFault}
+use Rattle.stored_laws.specs.{CanStartAgain, IsOfOpening, restarted}
 use Rattle.node_runs.specs.ListTurns.{AreDone, LosesLine, PlacedTurn}
 use Rattle.node_runs.specs.ListTurns as lists
 use Rattle.node_runs.specs.NodeAnswers.{Ends, GoesOn, LineTurn, NodeLineGives, NodeTurn}
 use Rattle.node_runs.specs.NodeAnswers as answers
 use Rattle.node_runs.specs.NodeTurns.{EventTurn, IsMember, Running, Stage, Starts, opening}
 use Rattle.node_runs.specs.NodeTurns as turns
-use Rattle.node_cell.specs.Transactions.{LeavesAllOrNothing}
 use Rattle.node_cell.specs.Transactions as transactions
 use Rattle.node_runs.specs.NodeHistories.{As_left, Before_line, Behind_line, GoesOnAtLine, GoesOnFrom, HasHistory, LostLinesGoOn, LostLinesKeepRows, One_more, RunsAreHistories, StopsGoOn, TwoRunsAreOne, WasRun, restart_of}
 use Rattle.node_runs.specs.declared.fault.NodeStop.{NodeStop}

@@ -1,27 +1,21 @@
 -- What a line of several events gives, from what each of them gives.
-use Rattle.std.proofs.Common.{◌≡◌, ◌≢◌, ◌++◌, ◌∙◌, ◌+◌, ◌<◌, ℕ, Bool, true, false, List, [], ◌∷◌, Some, Ok, Err, refl, sym, ap, subst, inl, inr, arith, length, take, get_or, take_all}
+use Rattle.std.proofs.Common.{◌≡◌, ◌≢◌, ◌++◌, ◌∙◌, ◌+◌, ◌<◌, ℕ, Bool, true, false, List, [], ◌∷◌, Some, Ok, Err, refl}
+use Rattle.std.proofs.Common.{sym, ap, subst, inl, inr, arith, length, take, get_or}
 use Rattle.std.proofs.lemmas.Grind.{flat_map-append}
 use Rattle.std.proofs.lemmas.List.{append-nil, append_assoc, length-take-le, take_more}
-use Rattle.ocpi_text.specs.Text.{key}
-use Rattle.ocpi_types.specs.declared.node_events.NodeEvent.{NodeEvent}
-use Rattle.ocpi_types.specs.declared.packet.Packet.{Packet}
-use Rattle.ocpi_types.specs.declared.rows.Change.{Change}
-use Rattle.json_text.specs.Fault.{Fails, Read}
-use Rattle.json_text.specs.declared.fault.JsonFault.{JsonFault}
-use Rattle.json_text.specs.declared.fault.JsonFault.TheVariants.{Memory as LineMemory}
-use Rattle.json_text.specs.declared.fault.JsonFault.TheVariants as line
-use Rattle.line_runs.specs.declared.run.Turn.{Turn}
-use Rattle.line_runs.specs.declared.run.Turn.TheVariants.{Taken, Refused}
-use Rattle.node_steps.specs.declared.fault.NodeFault.{NodeFault}
-use Rattle.world_steps.specs.Steps.{NodeEvent as Deed, changes_of}
-use Rattle.node_cell.specs.Transactions.{AppliesInMemory, FailsInMemory, Pending, RefusesInMemory, changes_of_each}
-use Rattle.node_cell.specs.declared.fault.StepFault.{StepFault}
+use Rattle.ocpi_text.specs.{key}
+use Rattle.ocpi_types.specs.{Change, NodeEvent, Packet}
+use Rattle.json_text.specs.{Fails, JsonFault, Memory as LineMemory, Read}
+use Rattle.json_text.specs.line
+use Rattle.line_runs.specs.{Refused, Taken, Turn}
+use Rattle.node_steps.specs.{NodeFault}
+use Rattle.world_steps.specs.{NodeEvent as Deed, changes_of}
+use Rattle.node_cell.specs.{Applied, AppliesInMemory, FailsInMemory, Pending, RefusesInMemory, Skipped, StepFault}
+use Rattle.node_cell.specs.{Stepped, changes_of_each}
 use Rattle.node_cell.specs.declared.fault.StepFault.TheVariants as step
-use Rattle.node_cell.specs.declared.stored_node.Applied.{Applied}
-use Rattle.node_cell.specs.declared.stored_node.Applied.TheVariants.{Skipped, Stepped}
 use Rattle.program_lines.specs.Writing.{packet_lines}
-use Rattle.node_runs.specs.Afters.{DoesAll, DoesPlaced, TellsRefusal, turn_behind, turn_of}
-use Rattle.node_runs.specs.DoneLines.{all_line, idle_line, malformed_line, refused_line, skipped_line}
+use Rattle.node_runs.specs.Afters.{DoesPlaced, TellsRefusal, turn_behind, turn_of}
+use Rattle.node_runs.specs.DoneLines.{idle_line, malformed_line, refused_line, skipped_line}
 use Rattle.node_runs.specs.ListTurns.{AreDone, IsOwn, PlacedTurn, none_done, one_refused, one_taken}
 use Rattle.node_runs.specs.ListTurns as lists
 use Rattle.node_runs.specs.NodeTurns.{applied_lines, step_line}
@@ -156,19 +150,3 @@ refusal_due (line.Missing field) read other fails = fails
 refusal_due (line.WrongForm field) read other fails = fails
 refusal_due (line.UnknownWord field) read other fails = fails
 refusal_due line.UnknownKind read other fails = fails
-
--- and all
-pub all_done : {K : Type 0} (party : List ℕ) (first p : Pending K) (number : ℕ) (events : List (Read NodeEvent)) (place : ℕ) (turn : Turn) (before between after : List ℕ)
-    → place ≡ length events → DoneSoFar party first number events place turn before between p → after ≡ between ++ all_line number (length events)
-    → DoesAll party first number events turn before after p
-all_done party first p number events place turn before between after last so wrote = record {
-  did = so.did;
-  out = so.out ++ all_line number (length events);
-  carries = record {
-    lines = so.out;
-    done = subst (λ (es : List (Read NodeEvent)). AreDone party first.state number es turn so.out so.did p.state) (take_all place events (omega (arith, last))) so.done;
-    written = refl;
-  };
-  gathers = so.gathers;
-  written = wrote ∙ ap (λ (s : List ℕ). s ++ all_line number (length events)) so.written ∙ append_assoc before so.out (all_line number (length events));
-}

@@ -1,21 +1,14 @@
 -- What a line of `node` gives, from what its parts give.
 use Rattle.std.proofs.Common.{◌≡◌, ◌++◌, ◌∙◌, ℕ, List, [], ◌∷◌, Bool, true, false, Option, Some, None, Ok, refl, ap, inl, inr}
-use Rattle.ocpi_types.specs.declared.node_events.NodeEvent.{NodeEvent}
-use Rattle.ocpi_types.specs.declared.packet.Packet.{Packet}
-use Rattle.line_runs.specs.declared.run.Turn.TheVariants.{Taken}
-use Rattle.node_keepers.specs.Opening.{Source}
-use Rattle.node_cell.specs.Keepers.{Keeper}
-use Rattle.node_cell.specs.Stored.{Applies, Does, Fails, Stored}
-use Rattle.node_cell.specs.declared.fault.ApplyFault.{ApplyFault}
-use Rattle.node_cell.specs.declared.fault.ApplyFault.TheVariants as apply
-use Rattle.node_cell.specs.declared.stored_node.Applied.{Applied}
-use Rattle.node_cell.specs.declared.stored_node.Applied.TheVariants.{Skipped, Stepped}
-use Rattle.stored_laws.specs.Nodes.{last_serial}
+use Rattle.ocpi_types.specs.{Node, NodeEvent, Packet, party_of}
+use Rattle.line_runs.specs.{Taken, Turn}
+use Rattle.node_keepers.specs.{Source}
+use Rattle.node_cell.specs.{Applied, Applies, ApplyFault, Does, Fails, Keeper, Skipped, Stepped}
+use Rattle.node_cell.specs.Stored.{Stored}
+use Rattle.node_cell.specs.apply
+use Rattle.stored_laws.specs.{last_serial}
 use Rattle.program_lines.specs.Writing.{packet_lines}
-use Rattle.ocpi_json.specs.SetupForms.{setup_in}
-use Rattle.ocpi_types.specs.Setups.{party_of}
-use Rattle.ocpi_types.specs.declared.setup.Node.{Node}
-use Rattle.line_runs.specs.declared.run.Turn.{Turn}
+use Rattle.ocpi_json.specs.{setup_in}
 use Rattle.node_runs.specs.DoneLines.{opened_line}
 use Rattle.node_runs.specs.NodeTurns.{Begins, DidStep, EventTurn, IsLost, IsOfNode, IsMember, IsOfOtherRole, IsRefused, IsStarved, Opened, Running, SetupTurn, Stage, WasIdle, WasUnstored, applied_lines, fault_lines, fault_turn, first_place, step_line, stop_after}
 use Rattle.node_runs.specs.declared.fault.NodeStop.{NodeStop}

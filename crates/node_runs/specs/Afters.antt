@@ -1,19 +1,13 @@
 -- What a line behind the setup left, and how the program goes on with it.
 use Rattle.std.specs.Prelude.{◌≡◌, ◌≢◌, ◌⊎◌, ℕ, List, [], ◌++◌, Bool, true, false, Option, None, Some, Result, Ok, IfOk, IfErr}
 use Rattle.std.specs.declared.alloc.AllocError.{AllocError}
-use Rattle.line_runs.specs.declared.run.Turn.{Turn}
-use Rattle.line_runs.specs.declared.run.Turn.TheVariants.{Ended, Refused, Taken}
-use Rattle.json_text.specs.Fault.{Read}
-use Rattle.ocpi_types.specs.declared.node_events.NodeEvent.{NodeEvent}
-use Rattle.world_steps.specs.Steps.{NodeEvent as Deed}
-use Rattle.node_cell.specs.Keepers.{Commits, Declines, Keeper}
-use Rattle.node_cell.specs.Stored.{IsStored}
-use Rattle.node_cell.specs.Transactions.{Pending, changes_of_each}
-use Rattle.node_cell.specs.declared.fault.StepFault.{StepFault}
+use Rattle.line_runs.specs.{Ended, Refused, Taken, Turn}
+use Rattle.json_text.specs.{Read}
+use Rattle.ocpi_types.specs.{NodeEvent}
+use Rattle.world_steps.specs.{NodeEvent as Deed}
+use Rattle.node_cell.specs.{Commits, Declines, IsStored, Keeper, Pending, StepFault, changes_of_each}
 use Rattle.node_cell.specs.declared.fault.StepFault.TheVariants as step
-use Rattle.node_store.specs.Faults.{IsCommitFault, counted_fault}
-use Rattle.node_store.specs.declared.fault.StoreFault.{StoreFault}
-use Rattle.node_store.specs.declared.fault.StoreFault.TheVariants.{Memory}
+use Rattle.node_store.specs.{IsCommitFault, Memory, StoreFault, counted_fault}
 use Rattle.node_runs.specs.DoneLines.{refused_line}
 use Rattle.node_runs.specs.ListTurns.{CarriesOut, LosesLine, PlacedTurn}
 use Rattle.node_runs.specs.NodeAnswers.{LineTurn}

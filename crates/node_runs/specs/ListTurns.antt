@@ -1,28 +1,18 @@
 -- What the program `node` writes for a line of several events, which are carried out one after another and committed
 -- together, and what they make of the node.
 use Rattle.std.specs.Prelude.{◌≡◌, ◌≢◌, ◌↔◌, ℕ, List, [], ◌∷◌, ◌++◌, Bool, IsTrue, Some, Ok, Err, length}
-use Rattle.ocpi_text.specs.Text.{key}
-use Rattle.ocpi_types.specs.declared.node_events.NodeEvent.{NodeEvent}
+use Rattle.ocpi_text.specs.{key}
+use Rattle.ocpi_types.specs.{NodeEvent}
 use Rattle.ocpi_types.specs.declared.node_events.NodeEventKind.TheVariants as event
-use Rattle.json_text.specs.declared.fault.JsonFault.{JsonFault}
-use Rattle.json_text.specs.declared.fault.JsonFault.TheVariants.{Memory as LineMemory}
-use Rattle.json_text.specs.Fault.{Read}
-use Rattle.node_lines.specs.ListLines.{IsListLine}
-use Rattle.node_lines.specs.NodeLines.{node_line_in}
-use Rattle.node_lines.specs.declared.node_line.NodeLine.TheVariants.{Several}
-use Rattle.node_steps.specs.declared.fault.NodeFault.{NodeFault}
-use Rattle.node_steps.specs.declared.fault.NodeFault.TheVariants.{Memory as NodeMemory}
-use Rattle.world_steps.specs.Network.{Input}
-use Rattle.world_steps.specs.Steps.{NodeEvent as Deed, NodeRefuses, NodeStep, changes_of, input_of, packets_of}
-use Rattle.world_steps.specs.World.{NodeState}
+use Rattle.json_text.specs.{JsonFault, Memory as LineMemory, Read}
+use Rattle.node_lines.specs.{IsListLine, Several, node_line_in}
+use Rattle.node_steps.specs.{Memory as NodeMemory, NodeFault}
+use Rattle.world_steps.specs.{Input, NodeEvent as Deed, NodeRefuses, NodeState, NodeStep, changes_of, input_of}
+use Rattle.world_steps.specs.{packets_of}
 use Rattle.history_laws.specs.Replays.{Brings}
-use Rattle.line_runs.specs.declared.run.Turn.{Turn}
-use Rattle.line_runs.specs.declared.run.Turn.TheVariants.{Taken, Refused}
-use Rattle.node_store.specs.Faults.{IsCommitFault, counted_fault}
-use Rattle.node_store.specs.declared.fault.StoreFault.{StoreFault}
-use Rattle.node_store.specs.declared.fault.StoreFault.TheVariants.{Memory}
-use Rattle.node_cell.specs.Keepers.{Commits, Declines, Keeper}
-use Rattle.node_cell.specs.Transactions.{changes_of_each}
+use Rattle.line_runs.specs.{Refused, Taken, Turn}
+use Rattle.node_store.specs.{IsCommitFault, Memory, StoreFault, counted_fault}
+use Rattle.node_cell.specs.{Commits, Declines, Keeper, changes_of_each}
 use Rattle.program_lines.specs.Writing.{packet_lines}
 use Rattle.node_runs.specs.DoneLines.{all_line, idle_line, malformed_line, refused_line, skipped_line}
 use Rattle.node_runs.specs.NodeTurns.{Running, step_line}

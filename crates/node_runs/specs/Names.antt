@@ -1,10 +1,10 @@
 -- The numbers and the names of refusals, and the member that is at fault.
 use Rattle.std.specs.Prelude.{ℕ, List, Option, None, Some, codes}
-use Rattle.json_text.specs.declared.fault.JsonFault.{JsonFault}
-use Rattle.json_text.specs.declared.fault.JsonFault.TheVariants as line
-use Rattle.node_steps.specs.declared.fault.NodeFault.{NodeFault}
-use Rattle.node_steps.specs.declared.fault.NodeFault.TheVariants as event
-use Rattle.ocpi_types.specs.declared.field.Field.{Field}
+use Rattle.json_text.specs.{JsonFault}
+use Rattle.json_text.specs.line
+use Rattle.node_steps.specs.{NodeFault}
+use Rattle.node_steps.specs.node_fault as event
+use Rattle.ocpi_types.specs.{Field}
 
 -- ---- of a line
 

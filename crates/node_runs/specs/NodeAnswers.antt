@@ -1,14 +1,10 @@
 -- What the program `node` gives for each line that it reads, and at the end of its input.
 use Rattle.std.specs.Prelude.{◌≡◌, ◌⊎◌, ℕ, List, [], Option, None, Some}
-use Rattle.json_text.specs.declared.fault.JsonFault.TheVariants.{Syntax}
-use Rattle.line_runs.specs.declared.outcome.Ran.{Ran}
-use Rattle.line_runs.specs.declared.outcome.Ran.TheVariants.{Whole, WithRefusals}
-use Rattle.line_runs.specs.declared.run.Turn.{Turn}
-use Rattle.line_runs.specs.declared.run.Turn.TheVariants.{Ended}
-use Rattle.node_store.specs.declared.fault.StoreFault.{StoreFault}
-use Rattle.node_keepers.specs.Opening.{Source}
-use Rattle.node_cell.specs.Keepers.{Keeper}
-use Rattle.node_cell.specs.Stored.{IsStored}
+use Rattle.json_text.specs.{Syntax}
+use Rattle.line_runs.specs.{Ended, Ran, Turn, Whole, WithRefusals}
+use Rattle.node_store.specs.{StoreFault}
+use Rattle.node_keepers.specs.{Source}
+use Rattle.node_cell.specs.{IsStored, Keeper}
 use Rattle.node_runs.specs.DoneLines.{malformed_line}
 use Rattle.node_runs.specs.ListTurns.{ListTurn, LosesLine}
 use Rattle.node_runs.specs.NodeTurns.{EventTurn, Running, SetupTurn, Stage}

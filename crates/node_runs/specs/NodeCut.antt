@@ -1,16 +1,15 @@
 -- A line of `node` that is too long is refused whatever comes after its first bytes.
 use Rattle.std.specs.Prelude.{ℕ, ◌≡◌, ◌⊎◌, List, Option, None, Some, take}
 use Rattle.std.proofs.Common.{sym, ap, subst, ◌∙◌, arith, inl, inr, take-take}
-use Rattle.json_text.specs.Fault.{◌>>=◌, Fails}
-use Rattle.node_lines.specs.ListLines.{BeginsList, IsListLine}
-use Rattle.node_lines.specs.NodeLines.{node_line_in, node_line_of}
-use Rattle.ocpi_json.specs.SetupForms.{setup_in, setup_of_line}
-use Rattle.ocpi_types.specs.declared.node_events.NodeEvent.{NodeEvent}
-use Rattle.line_runs.specs.declared.run.Turn.{Turn}
+use Rattle.json_text.specs.{Fails, ◌>>=◌}
+use Rattle.node_lines.specs.{BeginsList, IsListLine, node_line_in, node_line_of}
+use Rattle.ocpi_json.specs.{setup_in, setup_of_line}
+use Rattle.ocpi_types.specs.{NodeEvent}
+use Rattle.line_runs.specs.{Turn}
 use Rattle.line_runs.specs.declared.lines.TheConstants.{KEPT_BYTES}
-use Rattle.node_keepers.specs.Opening.{Source}
-use Rattle.node_cell.specs.Keepers.{Keeper}
-use Rattle.node_store.specs.declared.fault.StoreFault.{StoreFault}
+use Rattle.node_keepers.specs.{Source}
+use Rattle.node_cell.specs.{Keeper}
+use Rattle.node_store.specs.{StoreFault}
 use Rattle.program_lines.specs.Cut.{tree-cut}
 use Rattle.node_runs.specs.ListTurns.{ListTurn, LosesLine}
 use Rattle.node_runs.specs.ListTurns as lists

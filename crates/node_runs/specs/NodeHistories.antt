@@ -1,25 +1,19 @@
 -- What a run made of its node, told by the steps that the node did: each run is a chain of them, and two runs over one
 -- store are one chain with a restart between.
 use Rattle.std.specs.Prelude.{◌≡◌, ℕ, Bool, List, [], ◌∷◌, ◌++◌, Option, Some, Ok}
-use Rattle.json_text.specs.Fault.{Read}
-use Rattle.node_lines.specs.NodeLines.{node_line_in}
-use Rattle.node_lines.specs.declared.node_line.NodeLine.TheVariants.{Several}
-use Rattle.ocpi_types.specs.declared.node_events.NodeEvent.{NodeEvent as Event}
-use Rattle.line_runs.specs.declared.run.Turn.{Turn}
+use Rattle.json_text.specs.{Read}
+use Rattle.node_lines.specs.{Several, node_line_in}
+use Rattle.ocpi_types.specs.{Node, NodeEvent as Event, party_of}
+use Rattle.line_runs.specs.{AreNumbered, Ran, Turn}
 use Rattle.node_laws.specs.Runs.{Run}
-use Rattle.ocpi_types.specs.Setups.{party_of}
-use Rattle.ocpi_types.specs.declared.setup.Node.{Node}
 use Rattle.operator_steps.specs.Events as operator
 use Rattle.provider_steps.specs.Events as provider
-use Rattle.world_steps.specs.Steps.{AtOperator, AtProvider, NodeEvent, NodeStep}
-use Rattle.world_steps.specs.World.{NodeState, Operates, Provides}
-use Rattle.line_runs.specs.Numbered.{AreNumbered}
-use Rattle.line_runs.specs.declared.outcome.Ran.{Ran}
-use Rattle.node_keepers.specs.Opening.{Source}
-use Rattle.node_cell.specs.Keepers.{Keeper}
-use Rattle.node_cell.specs.Stored.{IsStored, Stored}
-use Rattle.node_rows.specs.Holds.{StoresAlike}
-use Rattle.stored_laws.specs.Nodes.{restarted}
+use Rattle.world_steps.specs.{AtOperator, AtProvider, NodeEvent, NodeState, NodeStep, Operates, Provides}
+use Rattle.node_keepers.specs.{Source}
+use Rattle.node_cell.specs.{IsStored, Keeper}
+use Rattle.node_cell.specs.Stored.{Stored}
+use Rattle.node_rows.specs.{StoresAlike}
+use Rattle.stored_laws.specs.{restarted}
 use Rattle.node_runs.specs.ListTurns.{CarriesOut}
 use Rattle.node_runs.specs.NodeAnswers.{Ends, NodeLineGives}
 use Rattle.node_runs.specs.NodeTurns.{IsMember, Running, Stage, Starts, opening}

@@ -1,13 +1,9 @@
 -- What a run of one node writes, and what it leaves.
 use Rattle.std.specs.Prelude.{◌≡◌, ℕ, Bool, List, Option, None, Some, Result, Ok, Err}
-use Rattle.ocpi_text.specs.Party.{party_at}
-use Rattle.ocpi_text.specs.declared.fault.TextFault.{TextFault}
-use Rattle.line_runs.specs.Numbered.{NumberedBegins, NumberedOutputs, NumberedStops}
-use Rattle.line_runs.specs.declared.outcome.Ran.{Ran}
-use Rattle.line_runs.specs.declared.outcome.RunFault.{RunFault}
-use Rattle.node_keepers.specs.Opening.{Source}
-use Rattle.node_cell.specs.Keepers.{Keeper}
-use Rattle.node_cell.specs.Stored.{IsStored}
+use Rattle.ocpi_text.specs.{TextFault, party_at}
+use Rattle.line_runs.specs.{NumberedBegins, NumberedOutputs, NumberedStops, Ran, RunFault}
+use Rattle.node_keepers.specs.{Source}
+use Rattle.node_cell.specs.{IsStored, Keeper}
 use Rattle.node_runs.specs.NodeAnswers.{NodeEndGives, NodeLineGives}
 use Rattle.node_runs.specs.NodeTurns.{Running, Stage, keep_in, opening}
 use Rattle.node_runs.specs.declared.fault.NodeStop.{NodeStop}

@@ -1,35 +1,23 @@
 -- What the program `node` writes for a setup, which names the node among others, and for a line that is one event, and
 -- what each makes of the node.
 use Rattle.std.specs.Prelude.{◌≡◌, ◌≢◌, ◌⊎◌, ℕ, List, [], ◌∷◌, ◌++◌, Bool, true, false, Option, None, Some, Ok, Contains, length}
-use Rattle.ocpi_text.specs.Text.{key}
-use Rattle.ocpi_types.specs.Setups.{party_of}
-use Rattle.ocpi_types.specs.declared.node_events.NodeEvent.{NodeEvent}
+use Rattle.ocpi_text.specs.{key}
+use Rattle.ocpi_types.specs.{Node, NodeEvent, Packet, party_of}
 use Rattle.ocpi_types.specs.declared.node_events.NodeEventKind.TheVariants as event
-use Rattle.ocpi_types.specs.declared.packet.Packet.{Packet}
-use Rattle.ocpi_types.specs.declared.setup.Node.{Node}
-use Rattle.json_text.specs.declared.fault.JsonFault.{JsonFault}
-use Rattle.json_text.specs.declared.fault.JsonFault.TheVariants.{Memory as LineMemory}
-use Rattle.json_text.specs.Fault.{Fails as FailsToRead}
-use Rattle.node_lines.specs.ListLines.{IsListLine}
-use Rattle.node_lines.specs.NodeLines.{node_line_in}
-use Rattle.node_lines.specs.declared.node_line.NodeLine.TheVariants.{One}
-use Rattle.ocpi_json.specs.SetupForms.{setup_in}
-use Rattle.node_steps.specs.declared.fault.NodeFault.{NodeFault}
-use Rattle.node_steps.specs.declared.fault.NodeFault.TheVariants.{Memory}
-use Rattle.line_runs.specs.declared.run.Turn.{Turn}
-use Rattle.line_runs.specs.declared.run.Turn.TheVariants.{Taken, Refused, Ended}
-use Rattle.node_store.specs.declared.fault.StoreFault.{StoreFault}
-use Rattle.node_keepers.specs.Opening.{Source}
-use Rattle.node_cell.specs.Keepers.{IsSettled, Keeper, KeepsOn}
-use Rattle.node_cell.specs.Stored.{Does, Fails, IsKeptFor, IsNotBad, IsReopenFault, Passes, Refuses, Reopens, Stored}
-use Rattle.node_cell.specs.declared.fault.ApplyFault.{ApplyFault}
-use Rattle.node_cell.specs.declared.fault.ApplyFault.TheVariants as apply
-use Rattle.node_cell.specs.declared.stored_node.Applied.{Applied}
-use Rattle.node_cell.specs.declared.stored_node.Applied.TheVariants.{Skipped, Stepped}
-use Rattle.node_cell.specs.declared.fault.ReopenFault.{ReopenFault}
+use Rattle.json_text.specs.{Fails as FailsToRead, JsonFault, Memory as LineMemory}
+use Rattle.node_lines.specs.{IsListLine, One, node_line_in}
+use Rattle.ocpi_json.specs.{setup_in}
+use Rattle.node_steps.specs.{Memory, NodeFault}
+use Rattle.line_runs.specs.{Ended, Refused, Taken, Turn}
+use Rattle.node_store.specs.{StoreFault}
+use Rattle.node_keepers.specs.{Source}
+use Rattle.node_cell.specs.{Applied, ApplyFault, Does, Fails, IsKeptFor, IsNotBad, IsReopenFault, IsSettled, Keeper}
+use Rattle.node_cell.specs.{KeepsOn, Passes, Refuses, ReopenFault, Reopens, Skipped, Stepped}
+use Rattle.node_cell.specs.Stored.{Stored}
+use Rattle.node_cell.specs.apply
 use Rattle.program_lines.specs.Writing.{packet_lines}
-use Rattle.stored_laws.specs.Nodes.{last_serial, restarted}
-use Rattle.world_steps.specs.World.{NodeState}
+use Rattle.stored_laws.specs.{last_serial, restarted}
+use Rattle.world_steps.specs.{NodeState}
 use Rattle.node_runs.specs.DoneLines.{idle_line, malformed_line, opened_line, refused_line, skipped_line, stepped_line}
 use Rattle.node_runs.specs.Stops.{stop_of}
 use Rattle.node_runs.specs.declared.fault.NodeStop.{NodeStop}

@@ -1,15 +1,14 @@
 -- What is said of what stopped a run of one node, and the exit status.
 use Rattle.std.specs.Prelude.{ℕ, Result, Ok, Err}
 use Rattle.line_runs.specs.Outcome as run
-use Rattle.line_runs.specs.declared.outcome.Ran.{Ran}
-use Rattle.line_runs.specs.declared.outcome.RunFault.{RunFault}
-use Rattle.node_cell.specs.declared.fault.ReopenFault.{ReopenFault}
+use Rattle.line_runs.specs.{Ran, RunFault}
+use Rattle.node_cell.specs.{ReopenFault}
 use Rattle.node_cell.specs.declared.fault.ReopenFault.TheVariants as reopen
 use Rattle.node_runs.specs.declared.fault.NodeRunFault.{NodeRunFault}
 use Rattle.node_runs.specs.declared.fault.NodeRunFault.TheVariants.{Run, Stop}
 use Rattle.node_runs.specs.declared.fault.NodeStop.{NodeStop}
 use Rattle.node_runs.specs.declared.fault.NodeStop.TheVariants.{UnknownParty, Store, BadRows}
-use Rattle.node_store.specs.declared.fault.StoreFault.TheVariants.{Memory}
+use Rattle.node_store.specs.{Memory}
 
 -- 2 where the setup has no such party, 3 where the store or its rows stopped the run; else 0 where no line was refused,
 -- and 1 where one was, or where reading or writing failed

@@ -2,13 +2,10 @@
 
 ghost use Rattle.std.specs.Prelude.{◌≡◌, ◌++◌, Contains, List, Some, ℕ};
 ghost use Rattle.std.specs.Prelude.{IfErr, IfNone, IfOk, IfSome, OnOk};
-ghost use Rattle.node_cell.specs.Keepers.{IsSettled, keeper_of};
-ghost use Rattle.node_cell.specs.Stored.{IsStored};
-ghost use Rattle.node_cell.specs.declared.fault.ReopenFault.{ReopenFault as ReopenFaultOf};
-ghost use Rattle.ocpi_types.specs.Setups.{party_of};
-ghost use Rattle.ocpi_types.specs.declared.setup.Node.{Node as NodeOf};
-ghost use Rattle.world_laws.specs.Laws.{IsSetup};
-ghost use Rattle.node_keepers.specs.Opening.{source_of};
+ghost use Rattle.node_cell.specs.{IsSettled, IsStored, ReopenFault as ReopenFaultOf, keeper_of};
+ghost use Rattle.ocpi_types.specs.{Node as NodeOf, party_of};
+ghost use Rattle.world_laws.specs.{IsSetup};
+ghost use Rattle.node_keepers.specs.{source_of};
 ghost use Rattle.node_runs.specs.NodeTurns.{Begins, IsMember, IsUnbegun, Starts, Unmade, first_place};
 ghost use Rattle.node_runs.specs.Stops.{stop_of};
 

@@ -1,13 +1,10 @@
 //! What comes of the lines behind the setup, each of which is an event, or an array of events.
 
 ghost use Rattle.std.specs.Prelude.{◌≡◌, ◌↔◌, ◌++◌, List, IfOk, IsTrue, Ok, OnOk, Option, string_bytes, ℕ};
-ghost use Rattle.json_text.specs.Fault.{Fails as FailsToRead};
-ghost use Rattle.json_text.specs.declared.fault.JsonFault.TheVariants.{Memory};
-ghost use Rattle.line_runs.specs.declared.run.Turn.TheVariants.{Refused};
-ghost use Rattle.node_cell.specs.Keepers.{keeper_of};
-ghost use Rattle.node_lines.specs.ListLines.{IsListLine};
-ghost use Rattle.node_lines.specs.NodeLines.{node_line_in};
-ghost use Rattle.node_lines.specs.declared.node_line.NodeLine.TheVariants.{One, Several};
+ghost use Rattle.json_text.specs.{Fails as FailsToRead, Memory};
+ghost use Rattle.line_runs.specs.{Refused};
+ghost use Rattle.node_cell.specs.{keeper_of};
+ghost use Rattle.node_lines.specs.{IsListLine, One, Several, node_line_in};
 ghost use Rattle.node_runs.specs.Afters.{IsAfter};
 ghost use Rattle.node_runs.specs.DoneLines.{malformed_line};
 ghost use Rattle.node_runs.specs.declared.fault.NodeStop.{NodeStop as NodeStopOf};

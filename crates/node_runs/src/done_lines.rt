@@ -4,9 +4,7 @@
 ghost use Rattle.std.specs.Prelude.{◌≡◌, ◌++◌, IfOk, None, OnOk, Some, string_bytes};
 ghost use Rattle.node_runs.specs.DoneLines.{all_line, fault_line, idle_line, malformed_line, opened_line, refused_line, skipped_line, stepped_line, text_json};
 
-use crate::names::{
-    event_fault_name, event_fault_number, line_fault_field, line_fault_name, line_fault_number,
-};
+use crate::names::{event_fault_name, event_fault_number, line_fault_field, line_fault_name, line_fault_number};
 use json::Writer;
 use node_steps::NodeFault;
 use ocpi_json::JsonFault;

@@ -1,13 +1,11 @@
 //! What comes of a line behind the setup that is one event.
 
 ghost use Rattle.std.specs.Prelude.{◌≡◌, ◌++◌, IfErr, IfOk, List, Ok, OnOk, string_bytes, ℕ};
-ghost use Rattle.line_runs.specs.declared.run.Turn.{Turn as TurnOf};
-ghost use Rattle.node_cell.specs.Keepers.{keeper_of};
-ghost use Rattle.node_lines.specs.NodeLines.{node_line_in};
-ghost use Rattle.node_lines.specs.declared.node_line.NodeLine.TheVariants.{One};
+ghost use Rattle.line_runs.specs.{Refused, Taken, Turn as TurnOf};
+ghost use Rattle.node_cell.specs.{keeper_of};
+ghost use Rattle.node_lines.specs.{One, node_line_in};
 ghost use Rattle.program_lines.specs.Writing.{packet_lines};
-ghost use Rattle.line_runs.specs.declared.run.Turn.TheVariants.{Refused, Taken};
-ghost use Rattle.ocpi_text.specs.Text.{key};
+ghost use Rattle.ocpi_text.specs.{key};
 ghost use Rattle.node_runs.specs.DoneLines.{refused_line};
 ghost use Rattle.node_runs.specs.NodeTurns.{EventTurn, applied_lines, fault_lines, fault_turn, step_line, stop_after};
 

@@ -1,7 +1,7 @@
 //! What a run makes of its node.
 
-ghost use Rattle.node_cell.specs.Keepers.{keeper_of};
-ghost use Rattle.node_keepers.specs.Opening.{source_of};
+ghost use Rattle.node_cell.specs.{keeper_of};
+ghost use Rattle.node_keepers.specs.{source_of};
 ghost use Rattle.node_runs.specs.NodeHistories.{LostLinesGoOn, LostLinesKeepRows, RunsAreHistories, StopsGoOn, TwoRunsAreOne};
 
 use node_cell::laws::refused_commits_leave_all_or_nothing;

@@ -1,11 +1,10 @@
 //! What comes of a line of several events, which are carried out one after another and committed together.
 
 ghost use Rattle.std.specs.Prelude.{◌≡◌, ◌≢◌, ◌<◌, ◌+◌, ◌≤◌, ◌++◌, List, IfOk, Ok, Option, Some, false, length, slice_get, string_bytes, string_capacity, string_len, ℕ};
-ghost use Rattle.json_text.specs.Fault.{Read};
-ghost use Rattle.node_cell.specs.Keepers.{keeper_of};
-ghost use Rattle.node_lines.specs.NodeLines.{node_line_in};
-ghost use Rattle.node_lines.specs.declared.node_line.NodeLine.TheVariants.{Several};
-ghost use Rattle.ocpi_types.specs.declared.node_events.NodeEvent.{NodeEvent as NodeEventOf};
+ghost use Rattle.json_text.specs.{Read};
+ghost use Rattle.node_cell.specs.{keeper_of};
+ghost use Rattle.node_lines.specs.{Several, node_line_in};
+ghost use Rattle.ocpi_types.specs.{NodeEvent as NodeEventOf};
 ghost use Rattle.node_runs.specs.Afters.{DoesAll, DoesPlaced, IsAfter, IsCommitted, TellsRefusal, turn_behind};
 ghost use Rattle.node_runs.specs.DoneLines.{malformed_line};
 ghost use Rattle.node_runs.specs.declared.fault.NodeStop.{NodeStop as NodeStopOf};

@@ -2,19 +2,16 @@
 
 ghost use Rattle.std.specs.Prelude.{◌≡◌, ◌≢◌, ◌++◌, List, None, Some, Ok, Err, true, ℕ};
 ghost use Rattle.std.specs.Prelude.{IfErr, IfOk, IsOk, string_bytes};
-ghost use Rattle.line_runs.specs.Run.{ReadsFewLines};
-ghost use Rattle.line_runs.specs.declared.outcome.Ran.TheVariants.{WithRefusals};
-ghost use Rattle.line_runs.specs.declared.run.Turn.{Turn as TurnOf};
-ghost use Rattle.line_runs.specs.declared.run.Turn.TheVariants.{Taken};
-ghost use Rattle.node_cell.specs.Keepers.{keeper_of};
-ghost use Rattle.node_keepers.specs.Opening.{source_of};
+ghost use Rattle.line_runs.specs.{ReadsFewLines, Taken, Turn as TurnOf, WithRefusals};
+ghost use Rattle.node_cell.specs.{keeper_of};
+ghost use Rattle.node_keepers.specs.{source_of};
 ghost use Rattle.node_runs.specs.DoneLines.{opened_line};
 ghost use Rattle.node_runs.specs.NodeOutputs.{IsKept, NodeBegins, NodeOutputs, NodeStops, asked_for};
 ghost use Rattle.node_runs.specs.Afters.{GoesOnWith};
 ghost use Rattle.node_runs.specs.NodeAnswers.{NodeEndGives, NodeLineGives};
 ghost use Rattle.node_runs.specs.NodeTurns.{SetupTurn, keep_in, opening};
 ghost use Rattle.node_runs.specs.Stops.{IfRun, IfStop};
-ghost use Rattle.stored_laws.specs.Nodes.{last_serial};
+ghost use Rattle.stored_laws.specs.{last_serial};
 
 use crate::beginning::{Begun, Running, Unbegun, begin};
 use crate::behind_setup::answer_behind_setup;

@@ -8,12 +8,8 @@ use Rattle.std.proofs.lemmas.List.Sums.{sum_by-cons}
 use Rattle.std.proofs.Math.Nat.{mul-suc}
 use Rattle.std.specs.List.{flat_map, Contains}
 use Rattle.tables.proofs.Elements.{in_front}
-use Rattle.ocpi_types.specs.declared.packet.Packet.{Packet}
-use Rattle.ocpi_types.specs.declared.rows.Change.{Change}
-use Rattle.ocpi_types.specs.declared.rows.Change.TheVariants.{Put}
-use Rattle.ocpi_types.specs.declared.rows.Counter.{Counter}
-use Rattle.ocpi_types.specs.declared.rows.Counter.TheVariants.{Serial, Request}
-use Rattle.ocpi_types.specs.declared.rows.Row.TheVariants as row
+use Rattle.ocpi_types.specs.{Change, Counter, Packet, Put, Request, Serial}
+use Rattle.ocpi_types.specs.row
 use Rattle.node_steps.specs.declared.fault.NodeFault.{NodeFault}
 use Rattle.node_steps.specs.declared.fault.NodeFault.TheVariants.{Memory}
 use Rattle.node_steps.specs.declared.plan.Volatile.{Volatile}
@@ -76,18 +72,6 @@ both first rest d = same d.party d.most _ _ _ _ _ _ _ _ _ _
     (omega (arith, messages_count first rest))
     (omega (arith, requests_append first rest))
 
--- one act that does what two do
-abbrev pub joined : Act → Act → Act
-joined a b = record { changes = a.changes ++ b.changes; messages = a.messages ++ b.messages; volatile = a.volatile ++ b.volatile; requests = a.requests + b.requests }
-
-pub joined_is : (a b : Act) (d : Gathered) → with_acts (b ∷ []) (with_acts (a ∷ []) d) ≡ with_acts (joined a b ∷ []) d
-joined_is a b d = both (a ∷ []) (b ∷ []) d ∙ same d.party d.most _ _ _ _ _ _ _ _ _ _
-    (ap (λ l. d.step.changes ++ l) (sym (append_assoc a.changes b.changes [])))
-    (ap (λ l. d.step.packets ++ numbered d.party d.counters.serial l) (sym (append_assoc a.messages b.messages [])))
-    (ap (λ l. d.step.volatile ++ l) (sym (append_assoc a.volatile b.volatile [])))
-    (ap (λ l. d.counters.serial + length l) (sym (append_assoc a.messages b.messages [])))
-    (omega arith)
-
 -- of counted numbers, those of the first acts, and those of the acts after these
 pub has_first : (first rest : List Act) (d : Gathered) → HasNumbersOf (first ++ rest) d → HasNumbersOf first d
 has_first first rest d h =
@@ -100,13 +84,6 @@ has_rest first rest d h =
     let packets = messages_count first rest in
     let own = requests_append first rest in
     record { serials = omega (arith, h.serials, packets); requests = omega (arith, h.requests, own) }
-
--- for acts that are gathered one by one: the first has its numbers, then the others have, and all were gathered
-pub one_has : (a : Act) (rest : List Act) (d : Gathered) → HasNumbersOf (a ∷ rest) d → HasNumbersOf (a ∷ []) d
-one_has a rest d h = has_first (a ∷ []) rest d h
-
-pub rest_has : (a : Act) (rest : List Act) (d : Gathered) → HasNumbersOf (a ∷ rest) d → HasNumbersOf rest (with_acts (a ∷ []) d)
-rest_has a rest d h = has_rest (a ∷ []) rest d h
 
 pub one_more : (a : Act) (rest : List Act) (d : Gathered) → with_acts rest (with_acts (a ∷ []) d) ≡ with_acts (a ∷ rest) d
 one_more a rest d = both (a ∷ []) rest d

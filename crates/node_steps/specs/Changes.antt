@@ -1,9 +1,6 @@
 -- Changes of rows, each of the row of a key, whatever a node makes of them.
 use Rattle.std.specs.Prelude.{◌≡◌, ◌≢◌, ℕ, List, [], ◌∷◌, Some, slice_get, ⊤}
-use Rattle.ocpi_types.specs.Rows.{key_of}
-use Rattle.ocpi_types.specs.declared.rows.RowKey.{RowKey}
-use Rattle.ocpi_types.specs.declared.rows.Change.{Change}
-use Rattle.ocpi_types.specs.declared.rows.Change.TheVariants.{Put, Drop}
+use Rattle.ocpi_types.specs.{Change, Drop, Put, RowKey, key_of}
 
 abbrev pub change_key : Change → RowKey
 change_key (Put r) = key_of r

@@ -1,12 +1,8 @@
 -- What a step is gathered in. The numbers that it takes are counted first, so that none can be missing later.
 use Rattle.std.specs.Prelude.{◌≤◌, ◌+◌, ◌++◌, ℕ, nat_eq, cond, length, List, [], ◌∷◌}
-use Rattle.ocpi_text.specs.Whole.{max_whole}
-use Rattle.ocpi_types.specs.declared.packet.Packet.{Packet}
-use Rattle.ocpi_types.specs.declared.rows.Change.{Change}
-use Rattle.ocpi_types.specs.declared.rows.Change.TheVariants.{Put}
-use Rattle.ocpi_types.specs.declared.rows.Counter.{Counter}
-use Rattle.ocpi_types.specs.declared.rows.Counter.TheVariants.{Serial, Request}
-use Rattle.ocpi_types.specs.declared.rows.Row.TheVariants as row
+use Rattle.ocpi_text.specs.{max_whole}
+use Rattle.ocpi_types.specs.{Change, Counter, Packet, Put, Request, Serial}
+use Rattle.ocpi_types.specs.row
 use Rattle.node_steps.specs.Messages.{numbered}
 use Rattle.node_steps.specs.Acts.{Act, all_changes, all_messages, all_volatile, all_requests}
 use Rattle.node_steps.specs.declared.fault.NodeFault.{NodeFault}

@@ -1,7 +1,6 @@
 -- What a node sends, before and after it has its serial.
 use Rattle.std.specs.Prelude.{ℕ, ◌+◌, List, [], ◌∷◌}
-use Rattle.ocpi_types.specs.declared.packet.Packet.{Packet}
-use Rattle.ocpi_types.specs.declared.packet.Body.{Body}
+use Rattle.ocpi_types.specs.{Body, Packet}
 
 -- what is sent, before it has its serial
 pub record Message : Type 0 where

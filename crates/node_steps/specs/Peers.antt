@@ -1,6 +1,6 @@
 -- The peers of a node, each found by its key (OCPI 2.2.1, Credentials: country_code and party_id).
 use Rattle.std.specs.Prelude.{◌≡◌, ℕ, List, Contains}
-use Rattle.ocpi_text.specs.Text.{key}
+use Rattle.ocpi_text.specs.{key}
 
 -- a peer of the list that is this party, as the list spells it
 pub record IsPeer (peers : List (List ℕ)) (party p : List ℕ) : Type 0 where

@@ -1,9 +1,9 @@
 -- What a step makes of the moments from which on requests are due again, and the room that this needs.
 use Rattle.std.specs.Prelude.{ℕ, List, [], ◌∷◌, Contains}
 use Rattle.std.specs.FinMap.{get, insert}
-use Rattle.ocpi_types.specs.declared.rows.Change.{Change}
-use Rattle.outbox.specs.Outbox.{request_of, without}
-use Rattle.outbox.specs.Resend.{Resend, SendRooms, HasRoomToSend, due_again, moved_to}
+use Rattle.ocpi_types.specs.{Change}
+use Rattle.outbox.specs.{HasRoomToSend, SendRooms, due_again, moved_to, request_of, without}
+use Rattle.outbox.specs.Resend.{Resend}
 use Rattle.node_steps.specs.Changes.{change_key}
 use Rattle.node_steps.specs.declared.plan.Volatile.{Volatile}
 use Rattle.node_steps.specs.declared.plan.Volatile.TheVariants.{Sent}

@@ -1,7 +1,7 @@
 //! What a step is gathered in, act by act.
 
 ghost use Rattle.std.specs.Prelude.{◌≡◌, ◌≤◌, ◌<◌, ◌++◌, ◌∷◌, ◌+◌, [], OnOk, IfOk, IfErr, SomeIff};
-ghost use Rattle.ocpi_text.specs.Whole.{max_whole};
+ghost use Rattle.ocpi_text.specs.{max_whole};
 ghost use Rattle.node_steps.specs.Acts.{
   acknowledged,
   answered,
@@ -30,9 +30,7 @@ ghost use Rattle.node_steps.specs.Drafts.{
 use crate::fault::NodeFault;
 use crate::plan::{Plan, Volatile};
 use ocpi_text::{Moment, Party, PartyKey, Whole};
-use ocpi_types::{
-    Body, Boxed, Change, Command, Counter, Packet, Push, Reply, Row, RowKey, SentCommand,
-};
+use ocpi_types::{Body, Boxed, Change, Command, Counter, Packet, Push, Reply, Row, RowKey, SentCommand};
 use outbox::Outgoing;
 use std::alloc::{AllocError, Global};
 use std::marker::Model;

@@ -1,7 +1,7 @@
 //! The peers of a node, found without case.
 
 ghost use Rattle.std.specs.Prelude.{◌≡◌, IfSome, IfNone, List, ℕ, Contains};
-ghost use Rattle.ocpi_text.specs.Text.{key};
+ghost use Rattle.ocpi_text.specs.{key};
 ghost use Rattle.node_steps.specs.Peers.{IsPeer};
 
 use ocpi_text::{Party, PartyKey};

@@ -1,11 +1,8 @@
 -- A row that is no charge detail record is of another kind, so it is read alike in both layouts.
-use Rattle.std.proofs.Common.{◌≡◌, false, List, ℕ, Ok, sym, ap, ◌∙◌}
-use Rattle.std.specs.Prelude.{◌≢◌}
-use Rattle.ocpi_types.specs.Rows.{key_of}
-use Rattle.ocpi_types.specs.declared.rows.Row.{Row}
-use Rattle.ocpi_types.specs.declared.rows.Row.TheVariants as row
-use Rattle.ocpi_json.specs.RowForms.{row_in, row_in_1}
-use Rattle.ocpi_json.specs.RowKeys.{kind_of_key, row_kind_word}
+use Rattle.std.proofs.Common.{◌≡◌, false, List, ℕ, Ok, sym, ap, ◌∙◌, ◌≢◌}
+use Rattle.ocpi_types.specs.{Row, key_of}
+use Rattle.ocpi_types.specs.row
+use Rattle.ocpi_json.specs.{kind_of_key, row_in, row_in_1, row_kind_word}
 use Rattle.ocpi_json.specs.declared.row_kinds.RowKind.TheVariants as kind
 use Rattle.ocpi_json.proofs.Layouts.{others_are_alike}
 use Rattle.node_store.specs.Contents.{RowPlace, place_of}

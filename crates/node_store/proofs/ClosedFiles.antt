@@ -12,10 +12,9 @@ use Rattle.sqlite.specs.Effect.{Database, IsDatabase}
 use Rattle.sqlite.specs.Files.{HoldsDatabase, file_state, over_files}
 use Rattle.sqlite.specs.Recovery.{Image}
 use Rattle.sqlite.specs.Schema.{Schema}
-use Rattle.row_table.specs.Contents.{IsWhole, content_of}
+use Rattle.row_table.specs.{IsWhole, content, content_of, no_schema}
 use Rattle.row_table.specs.Contents as table
-use Rattle.row_table.specs.Kept.{Kept, content}
-use Rattle.row_table.specs.Layout.{no_schema}
+use Rattle.row_table.specs.Kept.{Kept}
 use Rattle.node_store.specs.Closed.{ClosedFilesAreFound, MayBeFound}
 use Rattle.node_store.specs.Moved.{OpensAs}
 use Rattle.node_store.proofs.Layouts.{numbered}

@@ -1,9 +1,9 @@
 -- Edits make the changes.
 use Rattle.std.proofs.Common.{◌≡◌, ℕ, ◌+◌, ◌<◌, List, [], ◌∷◌, ◌++◌, get_or, length, map, take, refl, sym, ap, ◌∙◌}
 use Rattle.std.proofs.lemmas.List.{map-append, take_more}
-use Rattle.ocpi_types.specs.declared.rows.Change.{Change}
-use Rattle.ocpi_types.specs.declared.rows.Change.TheVariants as change
-use Rattle.row_table.specs.Effects.{Edit, set, set_all}
+use Rattle.ocpi_types.specs.{Change}
+use Rattle.ocpi_types.specs.change
+use Rattle.row_table.specs.{Edit, set, set_all}
 use Rattle.node_store.specs.Contents.{Content, changed, changed_all}
 use Rattle.node_store.specs.Editing.{edit_of}
 

@@ -5,14 +5,12 @@ use Rattle.std.specs.Ordering.{eq_by_cmp, is_eq}
 use Rattle.std.specs.declared.cmp.Ordering.{Ordering}
 use Rattle.std.specs.declared.cmp.Ordering.TheVariants.{Less, Equal, Greater}
 use Rattle.std.proofs.lemmas.List.Elements.{All-head, All-tail, Contains-get_or}
-use Rattle.tables.specs.Keys.{text_pair_cmp, text_pair_total, text_pair_exact}
+use Rattle.tables.specs.{text_pair_cmp, text_pair_exact, text_pair_total}
 use Rattle.tables.proofs.Entries.{listed_only}
-use Rattle.json_text.specs.Fault.{Read}
-use Rattle.ocpi_types.specs.Rows.{key_of}
-use Rattle.ocpi_types.specs.declared.rows.Change.{Change}
-use Rattle.ocpi_types.specs.declared.rows.Change.TheVariants as change
-use Rattle.ocpi_types.specs.declared.rows.Row.{Row}
-use Rattle.ocpi_json.specs.RowForms.{row_in, row_text}
+use Rattle.json_text.specs.{Read}
+use Rattle.ocpi_types.specs.{Change, Row, key_of}
+use Rattle.ocpi_types.specs.change
+use Rattle.ocpi_json.specs.{row_in, row_text}
 use Rattle.node_store.specs.Contents.{AreRows, Content, IsReadAgain, RowPlace, after_row, changed, changed_all, is_row, place_of, rows_after, rows_of}
 
 abbrev Entry : Type 0

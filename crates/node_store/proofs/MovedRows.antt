@@ -1,27 +1,23 @@
 -- A store that is moved to layout 2 has the same rows.
-use Rattle.std.proofs.Common.{◌≡◌, inl, inr, ℕ, pos, Bool, true, false, cond, ◌&&◌, T, List, [], ◌∷◌, ◌++◌, map, get_or, All, Option, Some, None, option_map, Ok, Err, refl, sym, ap, subst, ◌∙◌}
-use Rattle.std.specs.Prelude.{◌≢◌, codes}
+use Rattle.std.proofs.Common.{◌≡◌, inl, inr, ℕ, pos, Bool, true, false, cond, ◌&&◌, T, List, [], ◌∷◌, ◌++◌, map, get_or}
+use Rattle.std.proofs.Common.{All, Option, Some, None, option_map, Ok, Err, refl, sym, ap, subst, ◌∙◌, ◌≢◌, codes}
 use Rattle.std.specs.FinMap.{entries, entries_sorted, entries-from_sorted, find, from_sorted, get, get-entries, get-from_sorted, is_sorted, same_map}
 use Rattle.std.specs.FinMap.Entries.{below_all}
 use Rattle.std.specs.Ordering.{eq_by_cmp, is_lt}
 use Rattle.std.proofs.lemmas.List.Elements.{All-head, All-tail, Contains-get_or}
-use Rattle.tables.specs.Keys.{text_pair_cmp, text_pair_total, text_pair_exact}
+use Rattle.tables.specs.{text_pair_cmp, text_pair_exact, text_pair_total}
 use Rattle.tables.proofs.Entries.{listed_only}
 use Rattle.tables.proofs.Maps.{equal_of_is_eq}
 use Rattle.sqlite.specs.declared.types.Value.{Value}
 use Rattle.sqlite.specs.declared.types.Value.TheVariants.{Int}
 use Rattle.sqlite.specs.Tree.{Trees}
 use Rattle.sqlite.specs.Effect.{Database}
-use Rattle.json_text.specs.Fault.{Read}
-use Rattle.ocpi_types.specs.Rows.{key_of}
-use Rattle.ocpi_types.specs.declared.rows.Row.{Row}
-use Rattle.ocpi_types.specs.declared.rows.Row.TheVariants as row
-use Rattle.ocpi_json.specs.RowForms.{row_in, row_in_1, row_text}
-use Rattle.ocpi_json.specs.RowKeys.{kind_of_key, row_kind_word}
+use Rattle.json_text.specs.{Read}
+use Rattle.ocpi_types.specs.{Row, key_of}
+use Rattle.ocpi_types.specs.row
+use Rattle.ocpi_json.specs.{kind_of_key, row_in, row_in_1, row_kind_word, row_text}
 use Rattle.ocpi_json.proofs.RowLemmas.{row_found_1}
-use Rattle.row_table.specs.Layout.{both_tables}
-use Rattle.row_table.specs.Texts.{texts_of}
-use Rattle.row_table.specs.Contents.{content_of}
+use Rattle.row_table.specs.{both_tables, content_of, texts_of}
 use Rattle.row_table.specs.Contents as table
 use Rattle.node_store.specs.Contents.{Content, RowPlace, after_row, is_row, rows_after, rows_of, rows_read}
 use Rattle.node_store.specs.Moved.{HasRows, IsMoved, MayBecome, MovesTo, OpeningKeepsRows, OpensAs, is_cdr, moved_text, rows_of_1}

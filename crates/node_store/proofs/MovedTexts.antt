@@ -1,27 +1,23 @@
 -- The edits of a store of layout 1 move its texts to layout 2.
-use Rattle.std.proofs.Common.{◌≡◌, ◌⊎◌, inl, inr, ℕ, ◌+◌, ◌<◌, Bool, true, false, cond, List, [], ◌∷◌, ◌++◌, get_or, length, take, All, IfErr, Option, Some, None, Result, Ok, Err, refl, sym, ap, subst, ◌∙◌}
-use Rattle.std.specs.Prelude.{flat_map}
+use Rattle.std.proofs.Common.{◌≡◌, ◌⊎◌, inl, inr, ℕ, ◌+◌, ◌<◌, Bool, true, false, cond, List, [], ◌∷◌, ◌++◌, get_or}
+use Rattle.std.proofs.Common.{length, take, All, Option, Some, None, Ok, Err, refl, sym, ap, subst, ◌∙◌, flat_map}
 use Rattle.std.specs.FinMap.{entries, find, get, get-entries, get-insert}
 use Rattle.std.specs.Ordering.{eq_by_cmp}
 use Rattle.std.specs.Cmp.{eq_by_cmp_equiv}
 use Rattle.std.proofs.lemmas.List.{take_more}
 use Rattle.std.proofs.lemmas.Grind.{flat_map-append}
 use Rattle.std.proofs.lemmas.List.Elements.{All-head, All-tail, Contains-get_or}
-use Rattle.tables.specs.Keys.{text_pair_cmp, text_pair_total, text_pair_exact}
+use Rattle.tables.specs.{text_pair_cmp, text_pair_exact, text_pair_total}
 use Rattle.tables.proofs.Entries.{listed_only}
 use Rattle.tables.proofs.Maps.{equal_of_is_eq}
-use Rattle.json_text.specs.Fault.{Read}
-use Rattle.ocpi_types.specs.Rows.{key_of}
-use Rattle.ocpi_types.specs.declared.rows.Row.{Row}
-use Rattle.ocpi_json.specs.RowForms.{row_in, row_in_1, row_text}
-use Rattle.row_table.specs.Contents.{at_version}
+use Rattle.json_text.specs.{Read}
+use Rattle.ocpi_types.specs.{Row, key_of}
+use Rattle.ocpi_json.specs.{row_in, row_in_1, row_text}
+use Rattle.row_table.specs.{Edit, at_version, set, set_all}
 use Rattle.row_table.specs.Contents as table
-use Rattle.row_table.specs.Effects.{Edit, set, set_all}
-use Rattle.node_store.specs.Contents.{AnswersRow, Content, RowPlace, after_row, is_row, place_of}
+use Rattle.node_store.specs.Contents.{Content, RowPlace, place_of}
 use Rattle.node_store.specs.Moved.{HasBadText, IsMoved, IsMovedTo, MovesTo, is_cdr, moved_text}
 use Rattle.node_store.specs.Moving.{Entry, HasBadEntry, IsMovable, edits_of_read, text_edits}
-use Rattle.node_store.specs.declared.fault.StoreFault.{StoreFault}
-use Rattle.node_store.specs.declared.fault.StoreFault.TheVariants.{Refused, BadRow, OldLayout, Memory}
 use Rattle.node_store.proofs.Alike.{row_alike}
 
 -- ---- one text
@@ -37,17 +33,6 @@ movable e kind name text r k n t was at again =
     let own : place_of (key_of r) ≡ e.0 = at ∙ (λ i. (k i, n i)) in
     let read : row_in_1 e.0.0 e.0.1 e.1 ≡ Ok r = sym (λ i. row_in_1 (k i) (n i) (t i)) ∙ was in
     record { row = r; was = read; is = written_or_same e.0 e.1 r (is_cdr r) refl own read (λ cdr. subst (λ (p : RowPlace). row_in p.0 p.1 (row_text r) ≡ Ok r) own (again cdr)) }
-
-no_row : (read : Read Row) → after_row read Some ≡ None → is_row read ≡ false
-no_row (Ok r) none = absurd (let h = none in cc)
-no_row (Err fault) none = refl
-
-pub told_bad : (result : Result Row StoreFault) (read : Read Row) → AnswersRow result read → IfErr result (λ e. e ≡ BadRow → is_row read ≡ false)
-told_bad (Ok r) read told = tt
-told_bad (Err (Refused cause)) read told = absurd told
-told_bad (Err BadRow) read told = λ _. no_row read told
-told_bad (Err OldLayout) read told = absurd told
-told_bad (Err Memory) read told = λ is. absurd (let h = is in cc)
 
 -- ---- texts in turn
 

@@ -4,7 +4,7 @@ use Rattle.std.specs.FinMap.{empty}
 use Rattle.sqlite.specs.Schema.{Schema}
 use Rattle.sqlite.specs.Effect.{Database}
 use Rattle.row_table.specs.Contents as table
-use Rattle.row_table.specs.Layout.{both_tables, no_schema}
+use Rattle.row_table.specs.{both_tables, no_schema}
 use Rattle.node_store.specs.Moved.{OpensAs, WasBad}
 
 pub differ : both_tables ≡ no_schema → ⊥

@@ -1,8 +1,8 @@
 -- Texts that are put in their places make the changes.
 use Rattle.std.proofs.Common.{◌≡◌, ℕ, ◌+◌, ◌<◌, List, [], ◌∷◌, ◌++◌, get_or, length, map, take, refl, sym, ap, ◌∙◌}
 use Rattle.std.proofs.lemmas.List.{map-append, take_more}
-use Rattle.ocpi_types.specs.declared.rows.Change.{Change}
-use Rattle.ocpi_types.specs.declared.rows.Change.TheVariants as change
+use Rattle.ocpi_types.specs.{Change}
+use Rattle.ocpi_types.specs.change
 use Rattle.node_store.specs.Contents.{Content, changed, changed_all}
 use Rattle.node_store.specs.Placing.{placed_all, placed_of, set_text}
 use Rattle.node_store.specs.declared.stored.Placed.{Placed}

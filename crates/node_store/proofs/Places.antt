@@ -6,21 +6,15 @@ use Rattle.std.proofs.lemmas.Bool.{and_from, and_parts}
 use Rattle.std.proofs.lemmas.Bool.Decides.{nat_tests}
 use Rattle.std.proofs.lemmas.Fmt.{digits_decimal, length-decimal-le}
 use Rattle.std.proofs.lemmas.List.Folds.{list_all-append}
-use Rattle.ocpi_text.specs.Text.{ci_text, is_ascii_text, is_printable}
-use Rattle.ocpi_text.specs.Whole.{max_whole}
+use Rattle.ocpi_text.specs.{ci_text, is_ascii_text, is_printable, max_whole}
 use Rattle.ocpi_text.proofs.Again.{ci_again}
 use Rattle.ocpi_text.proofs.Digits.{own, digits_same}
 use Rattle.ocpi_text.proofs.Parties.{party_parts}
-use Rattle.ocpi_types.specs.Rows.{counter_name}
-use Rattle.ocpi_types.specs.Words.{token_type_word}
-use Rattle.ocpi_types.specs.declared.rows.Counter.{Counter}
-use Rattle.ocpi_types.specs.declared.rows.Counter.TheVariants as counter
-use Rattle.ocpi_types.specs.declared.rows.RowKey.{RowKey}
-use Rattle.ocpi_types.specs.declared.rows.RowKey.TheVariants as keys
-use Rattle.ocpi_types.specs.declared.words.TokenType.{TokenType}
-use Rattle.ocpi_types.specs.declared.words.TokenType.TheVariants as type
-use Rattle.ocpi_json.specs.RowKeys.{KeyFits, IsPartyKey, IsCiKey, key_text, row_kind_word}
-use Rattle.ocpi_json.specs.declared.row_kinds.RowKind.{RowKind}
+use Rattle.ocpi_types.specs.{Counter, RowKey, TokenType, counter_name, token_type_word}
+use Rattle.ocpi_types.specs.counter
+use Rattle.ocpi_types.specs.keys
+use Rattle.ocpi_types.specs.type
+use Rattle.ocpi_json.specs.{IsCiKey, IsPartyKey, KeyFits, RowKind, key_text, row_kind_word}
 use Rattle.ocpi_json.specs.declared.row_kinds.RowKind.TheVariants as kind
 
 -- the text of printable ASCII, of at most that many characters

@@ -14,7 +14,8 @@ use Rattle.sqlite.specs.View.{IsClean}
 use Rattle.sqlite.specs.WalFiles.{outcomes}
 use Rattle.sqlite.specs.WalReads.{AreClean}
 use Rattle.row_table.specs.Contents as table
-use Rattle.row_table.specs.Kept.{IsAtRest, Kept, content}
+use Rattle.row_table.specs.{IsAtRest, content}
+use Rattle.row_table.specs.Kept.{Kept}
 use Rattle.node_store.specs.declared.fault.StoreFault.{StoreFault}
 use Rattle.node_store.specs.Faults.{fault_for}
 use Rattle.node_store.specs.Layout.{KeepsLayout}

@@ -1,15 +1,11 @@
 -- What a keeper keeps: under each kind and key, the text of the row.
 use Rattle.std.specs.Prelude.{◌≡◌, ℕ, Bool, true, false, List, [], ◌∷◌, ◌++◌, Option, Some, None, Result, Ok, Err}
 use Rattle.std.specs.FinMap.{FinMap, entries, get, insert, remove}
-use Rattle.tables.specs.Keys.{text_pair_cmp}
-use Rattle.json_text.specs.Fault.{Read}
-use Rattle.ocpi_types.specs.Rows.{key_of}
-use Rattle.ocpi_types.specs.declared.rows.Row.{Row}
-use Rattle.ocpi_types.specs.declared.rows.RowKey.{RowKey}
-use Rattle.ocpi_types.specs.declared.rows.Change.{Change}
-use Rattle.ocpi_types.specs.declared.rows.Change.TheVariants as change
-use Rattle.ocpi_json.specs.RowForms.{row_in, row_text}
-use Rattle.ocpi_json.specs.RowKeys.{KeyFits, key_text, kind_of_key, row_kind_word}
+use Rattle.tables.specs.{text_pair_cmp}
+use Rattle.json_text.specs.{Read}
+use Rattle.ocpi_types.specs.{Change, Row, RowKey, key_of}
+use Rattle.ocpi_types.specs.change
+use Rattle.ocpi_json.specs.{KeyFits, key_text, kind_of_key, row_in, row_kind_word, row_text}
 use Rattle.node_store.specs.declared.fault.StoreFault.{StoreFault}
 use Rattle.node_store.specs.declared.fault.StoreFault.TheVariants.{Refused, BadRow, OldLayout, Memory}
 

@@ -1,10 +1,9 @@
 -- Changes of rows as edits of texts.
 use Rattle.std.specs.Prelude.{Some, None}
-use Rattle.ocpi_types.specs.Rows.{key_of}
-use Rattle.ocpi_types.specs.declared.rows.Change.{Change}
-use Rattle.ocpi_types.specs.declared.rows.Change.TheVariants as change
-use Rattle.ocpi_json.specs.RowForms.{row_text}
-use Rattle.row_table.specs.Effects.{Edit}
+use Rattle.ocpi_types.specs.{Change, key_of}
+use Rattle.ocpi_types.specs.change
+use Rattle.ocpi_json.specs.{row_text}
+use Rattle.row_table.specs.{Edit}
 use Rattle.node_store.specs.Contents.{place_of}
 
 abbrev pub edit_of : Change → Edit

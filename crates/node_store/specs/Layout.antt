@@ -3,8 +3,8 @@ use Rattle.std.specs.Prelude.{◌≡◌, pos, [], ◌∷◌}
 use Rattle.sqlite.specs.declared.types.Value.TheVariants.{Int}
 use Rattle.sqlite.specs.Tree.{Trees}
 use Rattle.sqlite.specs.Store.{Ghosts}
-use Rattle.row_table.specs.Contents.{IsWhole, versions}
-use Rattle.row_table.specs.Kept.{Kept, IsClean, Leaves, content}
+use Rattle.row_table.specs.{IsClean, IsWhole, Leaves, content, versions}
+use Rattle.row_table.specs.Kept.{Kept}
 
 -- the table has the version 2, and so has the whole store that a stop leaves, whichever it is
 pub record IsOfLayoutTwo {S : Type 0} (g : Ghosts S) (k : Kept S) : Type 0 where

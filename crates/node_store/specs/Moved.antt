@@ -5,14 +5,12 @@ use Rattle.sqlite.specs.declared.types.Value.TheVariants.{Int}
 use Rattle.sqlite.specs.Tree.{Trees}
 use Rattle.sqlite.specs.Effect.{Database}
 use Rattle.sqlite.specs.State.{State}
-use Rattle.row_table.specs.Layout.{both_tables, no_schema}
-use Rattle.row_table.specs.Texts.{texts_of}
-use Rattle.row_table.specs.Contents.{HasVersion, IsNewStore, IsWhole, content_of}
+use Rattle.row_table.specs.{Finds, HasVersion, IsNewStore, IsWhole, ShowsTheSame, both_tables, content_of, no_schema}
+use Rattle.row_table.specs.{texts_of}
 use Rattle.row_table.specs.Contents as table
-use Rattle.row_table.specs.Opening.{Finds, ShowsTheSame}
-use Rattle.ocpi_types.specs.declared.rows.Row.{Row}
-use Rattle.ocpi_types.specs.declared.rows.Row.TheVariants as row
-use Rattle.ocpi_json.specs.RowForms.{row_in, row_in_1, row_text}
+use Rattle.ocpi_types.specs.{Row}
+use Rattle.ocpi_types.specs.row
+use Rattle.ocpi_json.specs.{row_in, row_in_1, row_text}
 use Rattle.node_store.specs.Contents.{Content, RowPlace, is_row, rows_of, rows_read}
 
 -- ---- one text

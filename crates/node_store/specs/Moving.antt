@@ -1,9 +1,9 @@
 -- The edits that move a store of layout 1.
 use Rattle.std.specs.Prelude.{◌≡◌, ◌<◌, ℕ, false, cond, List, [], ◌∷◌, length, get_or, Some, Ok, Err}
-use Rattle.json_text.specs.Fault.{Read}
-use Rattle.ocpi_types.specs.declared.rows.Row.{Row}
-use Rattle.ocpi_json.specs.RowForms.{row_in, row_in_1, row_text}
-use Rattle.row_table.specs.Effects.{Edit}
+use Rattle.json_text.specs.{Read}
+use Rattle.ocpi_types.specs.{Row}
+use Rattle.ocpi_json.specs.{row_in, row_in_1, row_text}
+use Rattle.row_table.specs.{Edit}
 use Rattle.node_store.specs.Contents.{RowPlace, is_row}
 use Rattle.node_store.specs.Moved.{is_cdr, moved_text}
 

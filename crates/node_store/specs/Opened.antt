@@ -17,7 +17,7 @@ use Rattle.sqlite.specs.Files.{FailsToOpenFiles, IsCleanLeft, IsOpened, LeavesFi
 use Rattle.sqlite.specs.Opening.{is_open_error}
 use Rattle.sqlite.specs.Start.{FindsIn}
 use Rattle.row_table.specs.Contents as table
-use Rattle.row_table.specs.Opening.{IsOldLayout}
+use Rattle.row_table.specs.{IsOldLayout}
 use Rattle.node_store.specs.declared.fault.Cause.TheVariants as cause
 use Rattle.node_store.specs.declared.fault.StoreFault.{StoreFault}
 use Rattle.node_store.specs.declared.fault.StoreFault.TheVariants.{Refused, Memory}

@@ -1,12 +1,10 @@
 -- Changes of a table of rows, which are seen as their texts.
 use Rattle.std.specs.Prelude.{ℕ, List, [], ◌∷◌, Option, Some, None, IsSome, IsTrue}
 use Rattle.std.specs.FinMap.{FinMap, insert, remove, contains_key}
-use Rattle.tables.specs.Keys.{text_pair_cmp}
-use Rattle.tables.specs.Tables.{shown_of, rooms_of}
-use Rattle.ocpi_types.specs.Rows.{key_of}
-use Rattle.ocpi_types.specs.declared.rows.Change.{Change}
-use Rattle.ocpi_types.specs.declared.rows.Change.TheVariants as change
-use Rattle.ocpi_json.specs.RowForms.{row_text}
+use Rattle.tables.specs.{rooms_of, shown_of, text_pair_cmp}
+use Rattle.ocpi_types.specs.{Change, key_of}
+use Rattle.ocpi_types.specs.change
+use Rattle.ocpi_json.specs.{row_text}
 use Rattle.node_store.specs.Contents.{Content, RowPlace, place_of}
 use Rattle.node_store.specs.declared.stored.Placed.{Placed}
 

@@ -1,8 +1,7 @@
 //! Changes of rows as edits of texts.
 
 ghost use Rattle.std.specs.Prelude.{◌≡◌, All, IfOk, map, string_bytes};
-ghost use Rattle.ocpi_json.specs.RowKeys.{key_text, kind_of_key, row_kind_word};
-ghost use Rattle.ocpi_json.specs.RowForms.{row_text};
+ghost use Rattle.ocpi_json.specs.{key_text, kind_of_key, row_kind_word, row_text};
 ghost use Rattle.node_store.specs.Contents.{IsReadAgain};
 ghost use Rattle.node_store.specs.Editing.{edit_of};
 

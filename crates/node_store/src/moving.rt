@@ -3,12 +3,9 @@
 ghost use Rattle.std.specs.Prelude.{◌≡◌, ◌≢◌, ◌⊎◌, ◌++◌, true, false, All, IfErr, IfOk, OnErr, OnOk, Ok, flat_map};
 ghost use Rattle.sqlite.specs.Held.{state};
 ghost use Rattle.sqlite.specs.Tree.{Trees};
-ghost use Rattle.ocpi_json.specs.RowForms.{row_in, row_in_1, row_text};
-ghost use Rattle.ocpi_json.specs.RowKeys.{key_text, kind_of_key, row_kind_word};
-ghost use Rattle.ocpi_types.specs.Rows.{key_of};
-ghost use Rattle.row_table.specs.Contents.{IsWhole, content_of};
-ghost use Rattle.row_table.specs.Kept.{IsClean, Leaves, LeavesWhole, content, texts};
-ghost use Rattle.row_table.specs.Opening.{ShowsTheSame};
+ghost use Rattle.ocpi_json.specs.{key_text, kind_of_key, row_in, row_in_1, row_kind_word, row_text};
+ghost use Rattle.ocpi_types.specs.{key_of};
+ghost use Rattle.row_table.specs.{IsClean, IsWhole, Leaves, LeavesWhole, ShowsTheSame, content, content_of, texts};
 ghost use Rattle.node_store.specs.Contents.{is_row};
 ghost use Rattle.node_store.specs.Faults.{IsListFault};
 ghost use Rattle.node_store.specs.Moved.{HasBadText, IsMovedTo, is_cdr};

@@ -1,11 +1,9 @@
 //! The places under which rows are kept, and their texts.
 
 ghost use Rattle.std.specs.Prelude.{◌≡◌, Err, IfOk, Ok, string_bytes};
-ghost use Rattle.json_text.specs.Fault.{Fails, Read};
-ghost use Rattle.ocpi_json.specs.RowForms.{row_in, row_in_1, row_text};
-ghost use Rattle.ocpi_json.specs.RowKeys.{KeyFits};
-ghost use Rattle.ocpi_types.specs.Rows.{key_of};
-ghost use Rattle.ocpi_types.specs.declared.rows.Row.{Row};
+ghost use Rattle.json_text.specs.{Fails, Read};
+ghost use Rattle.ocpi_json.specs.{KeyFits, row_in, row_in_1, row_text};
+ghost use Rattle.ocpi_types.specs.{Row, key_of};
 ghost use Rattle.node_store.specs.Contents.{AnswersRow, IsReadAgain, place_of};
 ghost use Rattle.node_store.specs.Placing.{placed_of};
 
@@ -28,7 +26,7 @@ pub(crate) struct StoredRow {
 
 impl Model for StoredRow {
     ghost use Rattle.std.specs.Prelude.{List, ℕ};
-    ghost use Rattle.ocpi_json.specs.RowForms.{row_text};
+    ghost use Rattle.ocpi_json.specs.{row_text};
 
     ghost Value = { List ℕ };
 

@@ -21,7 +21,7 @@ ghost use Rattle.node_store.specs.Contents.{Content, IsReadAgain, changed_all, r
 ghost use Rattle.node_store.specs.Faults.{IsListFault, IsCommitFault, counted, counted_fault, fault_for};
 ghost use Rattle.node_store.specs.declared.fault.StoreFault.TheVariants.{BadRow, OldLayout};
 ghost use Rattle.node_store.specs.Layout.{KeepsLayout};
-ghost use Rattle.row_table.specs.Kept.{IsClean, MayLeave, texts};
+ghost use Rattle.row_table.specs.{IsClean, MayLeave, texts};
 
 use crate::editing::edits_of;
 use crate::fault::{Cause, StoreFault};
@@ -68,7 +68,8 @@ impl<S: Alter> TableKeep<S> {
 impl<S: Alter> Model for TableKeep<S> {
     ghost use Rattle.std.specs.Prelude.{ℕ, length};
     ghost use Rattle.std.specs.Coded.{coded×, coded_ℕ};
-    ghost use Rattle.row_table.specs.Kept.{Kept, kept_code};
+    ghost use Rattle.row_table.specs.{kept_code};
+    ghost use Rattle.row_table.specs.Kept.{Kept};
     ghost use Rattle.node_store.specs.Layout.{KeepsLayout};
 
     ghost Value = { Kept S × ℕ };
@@ -193,7 +194,7 @@ impl<S: Alter> TableKeep<S> {
 }
 
 impl<S: Alter> Keep for TableKeep<S> {
-    ghost use Rattle.row_table.specs.Kept.{IsClean, MayLeave, texts};
+    ghost use Rattle.row_table.specs.{IsClean, MayLeave, texts};
 
     ghost content = { λ k. texts S.Store k.0 };
 

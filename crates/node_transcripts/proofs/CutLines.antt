@@ -1,14 +1,11 @@
 -- A beginning of lines that are written: some whole lines, and what stands of one more.
 use Rattle.std.proofs.Common.{◌≡◌, ◌≢◌, ◌⊎◌, ℕ, zero, suc, Bool, List, [], ◌∷◌, ◌++◌, All, None, Some, length, take, refl, sym, ap, subst, ◌∙◌, arith, inl, inr}
 use Rattle.std.proofs.lemmas.List.Elements.{All-cons, All-head, All-nil, All-tail}
-use Rattle.json_text.specs.declared.fault.JsonFault.{JsonFault}
-use Rattle.node_steps.specs.declared.fault.NodeFault.{NodeFault}
-use Rattle.ocpi_types.specs.declared.packet.Packet.{Packet}
-use Rattle.transcript_parts.specs.LineReads.{GaveNothing, LineRead}
-use Rattle.transcript_parts.specs.Lines.{Line}
-use Rattle.transcript_parts.specs.Parts.{AtLast, IsEnding, IsPart}
-use Rattle.transcript_parts.specs.declared.line_read.Ending.{Ending}
-use Rattle.transcript_parts.specs.declared.line_read.Ending.TheVariants.{Answered, FileEnd, NextRun}
+use Rattle.json_text.specs.{JsonFault}
+use Rattle.node_steps.specs.{NodeFault}
+use Rattle.ocpi_types.specs.{Packet}
+use Rattle.transcript_parts.specs.{Answered, AtLast, Ending, FileEnd, GaveNothing, IsEnding, IsPart, Line, LineRead}
+use Rattle.transcript_parts.specs.{NextRun}
 use Rattle.transcripts.specs.Following.{FitsEntry, ShowsEvent, Standing, TellsMalformed, TellsRefused, TellsSkipped, is_open_behind}
 use Rattle.transcripts.specs.Told.{Told}
 use Rattle.node_transcripts.specs.Readable.{IsPlain, IsReadable}

@@ -2,21 +2,17 @@
 use Rattle.std.proofs.Common.{◌≡◌, ◌≢◌, ◌⊎◌, ℕ, zero, suc, ◌+◌, ◌<◌, true, List, [], ◌∷◌, ◌++◌, All, Option, None, Some, length, take, refl, sym, ap, subst, ◌∙◌, arith, inl, inr}
 use Rattle.std.proofs.lemmas.List.{append-nil, append_assoc}
 use Rattle.std.proofs.lemmas.List.Elements.{All-append, All-cons, All-nil, All-take}
-use Rattle.ocpi_types.specs.declared.setup.Node.{Node}
-use Rattle.line_runs.specs.Numbered.{echo_of}
-use Rattle.line_runs.specs.declared.run.Turn.{Turn}
-use Rattle.line_runs.specs.declared.run.Turn.TheVariants.{Ended, Refused, Taken}
-use Rattle.node_keepers.specs.Opening.{Source}
-use Rattle.node_cell.specs.Keepers.{Keeper}
-use Rattle.node_rows.specs.Laws.{EmptyIsHeld, NodesKeepOpenings}
-use Rattle.stored_laws.specs.Nodes.{OpeningsCanStartAgain}
-use Rattle.node_runs.specs.NodeAnswers.{LineTurn, NodeLineGives, NodeTurn}
+use Rattle.ocpi_types.specs.{Node}
+use Rattle.line_runs.specs.{Ended, Refused, Taken, Turn, echo_of}
+use Rattle.node_keepers.specs.{Source}
+use Rattle.node_cell.specs.{Keeper}
+use Rattle.node_rows.specs.{EmptyIsHeld, NodesKeepOpenings}
+use Rattle.stored_laws.specs.{OpeningsCanStartAgain}
+use Rattle.node_runs.specs.{EventTurn, LineTurn, NodeLineGives, NodeStop, NodeTurn, Running, Stage, opening}
 use Rattle.node_runs.specs.NodeAnswers as answers
-use Rattle.node_runs.specs.NodeTurns.{EventTurn, Running, Stage, opening}
 use Rattle.node_runs.specs.NodeTurns as turns
-use Rattle.node_runs.specs.declared.fault.NodeStop.{NodeStop}
 use Rattle.done_laws.specs.Laws.{DoneLinesAreRead, IsLineNumber}
-use Rattle.transcript_parts.specs.Lines.{Line, lines_in}
+use Rattle.transcript_parts.specs.{Line, lines_in}
 use Rattle.transcripts.specs.Following.{More, ReadTo, Standing, begun}
 use Rattle.transcripts.specs.Told.{Told}
 use Rattle.node_transcripts.specs.Laws.{CutRunsAreTranscripts, EchoesAreTranscripts, IsAsked, IsCutTranscript, IsToldOf, IsTranscript}

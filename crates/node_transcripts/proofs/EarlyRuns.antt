@@ -3,25 +3,21 @@
 use Rattle.std.proofs.Common.{◌≡◌, ◌≢◌, ◌⊎◌, ℕ, ◌+◌, ◌<◌, true, List, [], ◌∷◌, ◌++◌, All, Option, None, Some, length, take, drop, refl, sym, ap, subst, ◌∙◌, arith, inl, inr, length-append}
 use Rattle.std.proofs.lemmas.List.{append-nil, take-append-drop}
 use Rattle.std.proofs.lemmas.List.Elements.{All-nil, All-push}
-use Rattle.ocpi_types.specs.Setups.{party_of}
-use Rattle.ocpi_types.specs.declared.setup.Node.{Node}
-use Rattle.ocpi_json.specs.SetupForms.{setup_in}
-use Rattle.stored_laws.specs.Nodes.{last_serial}
-use Rattle.node_store.specs.Contents.{Content}
-use Rattle.line_runs.specs.Numbered.{AreNumbered, begun_answer, begun_between, begun_echo, begun_end, echo_of, empty_line, none_numbered, numbered_end, numbered_stop, refused_line, taken_line}
-use Rattle.line_runs.specs.declared.outcome.Ran.{Ran}
-use Rattle.line_runs.specs.declared.run.Turn.{Turn}
-use Rattle.line_runs.specs.declared.run.Turn.TheVariants.{Ended, Refused, Taken}
-use Rattle.node_keepers.specs.Opening.{Source}
-use Rattle.node_cell.specs.Keepers.{IsSettled, Keeper, KeepsOn}
+use Rattle.ocpi_types.specs.{Node, party_of}
+use Rattle.ocpi_json.specs.{setup_in}
+use Rattle.stored_laws.specs.{last_serial}
+use Rattle.node_store.specs.{Content}
+use Rattle.line_runs.specs.{AreNumbered, Ended, Ran, Refused, Taken, Turn, begun_answer, begun_between, begun_echo}
+use Rattle.line_runs.specs.{begun_end, echo_of, empty_line, none_numbered, numbered_end, numbered_stop, refused_line}
+use Rattle.line_runs.specs.{taken_line}
+use Rattle.node_keepers.specs.{Source}
+use Rattle.node_cell.specs.{IsSettled, Keeper, KeepsOn}
 use Rattle.node_cell.specs.Stored.{Stored}
-use Rattle.json_text.specs.declared.fault.JsonFault.TheVariants.{Syntax}
-use Rattle.node_runs.specs.DoneLines.{malformed_line}
-use Rattle.node_runs.specs.NodeAnswers.{NodeEnd, NodeLineGives, NodeTurn}
-use Rattle.node_runs.specs.NodeTurns.{IsUnbegun, Running, SetupTurn, Stage, keep_in, opening}
+use Rattle.json_text.specs.{Syntax}
+use Rattle.node_runs.specs.{IsUnbegun, NodeEnd, NodeLineGives, NodeStop, NodeTurn, Running, SetupTurn, Stage, keep_in}
+use Rattle.node_runs.specs.{malformed_line, opening}
 use Rattle.node_runs.specs.NodeTurns as turns
-use Rattle.node_runs.specs.declared.fault.NodeStop.{NodeStop}
-use Rattle.transcript_lines.specs.Dones.{run_without_lines}
+use Rattle.transcript_lines.specs.{run_without_lines}
 use Rattle.done_laws.specs.Laws.{DoneLinesAreRead, IsLineNumber, IsWhole}
 use Rattle.node_transcripts.specs.LaterRuns.{AllAnswered, IsFirstLine, IsLeftBy, IsReadBehind, IsSameNode, IsUnbegunRun, LastLeft, LeftFirst, NoLines, RefusedFirst, Tail, ToAnswer, tail_behind}
 use Rattle.node_transcripts.specs.Readable.{AreTold, IsOpenedSo, IsPlain, IsToldTurn, OpensSo, ReadsSetups, RunOpensSo}

@@ -1,12 +1,11 @@
 -- The elements of a line that is an array, each with its text.
 use Rattle.std.proofs.Common.{◌≡◌, ℕ, zero, suc, ◌≤◌, ◌==◌, Bool, true, false, List, [], ◌∷◌, All, Ok, length, map, drop, refl, sym, ap, subst, ◌∙◌, arith, eqb-true}
 use Rattle.std.proofs.lemmas.List.Elements.{All-cons, All-contains, All-nil}
-use Rattle.json_text.specs.Fault.{Read}
-use Rattle.ocpi_json.specs.NodeEventForms.{node_event_in}
-use Rattle.ocpi_types.specs.declared.node_events.NodeEvent.{NodeEvent}
-use Rattle.node_lines.specs.ElementTexts.{AreElements, AreElementsOf, Last, More, behind_element, behind_spaces, element_text, some_text}
-use Rattle.node_lines.specs.NodeLines.{node_line_in}
-use Rattle.node_lines.specs.declared.node_line.NodeLine.TheVariants.{Several}
+use Rattle.json_text.specs.{Read}
+use Rattle.ocpi_json.specs.{node_event_in}
+use Rattle.ocpi_types.specs.{NodeEvent}
+use Rattle.node_lines.specs.{AreElements, AreElementsOf, Last, More, Several, behind_element, behind_spaces}
+use Rattle.node_lines.specs.{element_text, node_line_in, some_text}
 use Rattle.node_lines.proofs.ElementLemmas.{elements_read}
 use Rattle.transcripts.specs.LineEvents.{HoldsSeveral, LineEvent, event_at, text_at}
 use Rattle.node_transcripts.proofs.EventParts.{echoed}

@@ -1,29 +1,21 @@
 -- What a line of one event makes of what is told of its node.
 use Rattle.std.proofs.Common.{◌≡◌, ◌⊎◌, ℕ, ◌<◌, Bool, true, false, IsTrue, List, [], ◌∷◌, ◌++◌, Some, Ok, Err, length, arith, refl, ap, subst, inl, inr}
-use Rattle.ocpi_types.specs.declared.node_events.NodeEvent.{NodeEvent}
-use Rattle.ocpi_types.specs.declared.node_events.NodeEventKind.{NodeEventKind}
+use Rattle.ocpi_types.specs.{Node, NodeEvent, NodeEventKind, Packet}
 use Rattle.ocpi_types.specs.declared.node_events.NodeEventKind.TheVariants as event
-use Rattle.ocpi_types.specs.declared.packet.Packet.{Packet}
-use Rattle.ocpi_types.specs.declared.setup.Node.{Node}
-use Rattle.json_text.specs.declared.fault.JsonFault.{JsonFault}
-use Rattle.json_text.specs.declared.fault.JsonFault.TheVariants as json
-use Rattle.json_text.specs.Fault.{Fails, Read}
-use Rattle.node_lines.specs.ListLines.{IsListLine}
-use Rattle.node_lines.specs.NodeLines.{node_line_in}
-use Rattle.node_lines.specs.declared.node_line.NodeLine.TheVariants.{One}
-use Rattle.node_steps.specs.declared.fault.NodeFault.TheVariants as node_fault
+use Rattle.json_text.specs.{Fails, JsonFault, Read}
+use Rattle.json_text.specs.line as json
+use Rattle.node_lines.specs.{IsListLine, One, node_line_in}
+use Rattle.node_steps.specs.node_fault
 use Rattle.history_laws.specs.Replays.{EntryStep}
 use Rattle.history_laws.specs.Replays as replays
-use Rattle.world_steps.specs.World.{NodeState}
-use Rattle.node_cell.specs.Keepers.{Keeper}
+use Rattle.world_steps.specs.{NodeState}
+use Rattle.node_cell.specs.{Keeper}
 use Rattle.node_cell.specs.Stored as cell
 use Rattle.node_cell.specs.Stored.{Stored}
 use Rattle.node_replay.specs.Replayed.{Enters, Leads}
-use Rattle.transcript_lines.specs.declared.done.Done.{Done}
-use Rattle.transcript_lines.specs.declared.done.Done.TheVariants as done
-use Rattle.transcript_parts.specs.declared.echoed.EchoedLine.{EchoedLine}
-use Rattle.transcript_parts.specs.declared.line_read.Ending.{Ending}
-use Rattle.transcript_parts.specs.declared.line_read.Ending.TheVariants.{Answered, FileEnd}
+use Rattle.transcript_lines.specs.{Done}
+use Rattle.transcript_lines.specs.done
+use Rattle.transcript_parts.specs.{Answered, EchoedLine, Ending, FileEnd}
 use Rattle.transcripts.specs.Following.{Came, FitsEntry, FitsEvent, FitsNothing, Follows, Gives, IsOwn, Last, MayStarve, NoEvent, NoneYet, OneMore, Passed, Starved, begun}
 use Rattle.transcripts.specs.LineEvents.{LineEvent, LineEvents}
 use Rattle.transcripts.specs.Told.{Told}

@@ -2,24 +2,17 @@
 use Rattle.std.proofs.Common.{◌≡◌, ◌⊎◌, ℕ, ◌==◌, Bool, true, false, List, [], ◌∷◌, ◌++◌, All, Option, None, Some, Result, Ok, Err, length, take, refl, sym, ap, subst, ◌∙◌, arith, inl, inr, eqb-true, eq-eqb}
 use Rattle.std.proofs.lemmas.List.{append_cancel_right}
 use Rattle.std.proofs.lemmas.List.Elements.{All-head, All-tail}
-use Rattle.json_text.specs.Fault.{Fails, Read}
-use Rattle.json_text.specs.declared.fault.JsonFault.{JsonFault}
-use Rattle.json_text.specs.declared.fault.JsonFault.TheVariants.{Memory}
-use Rattle.ocpi_types.specs.declared.setup.Node.{Node}
-use Rattle.ocpi_json.specs.SetupForms.{setup_in}
+use Rattle.json_text.specs.{Fails, JsonFault, Memory, Read}
+use Rattle.ocpi_types.specs.{Node}
+use Rattle.ocpi_json.specs.{setup_in}
 use Rattle.line_runs.specs.declared.lines.TheConstants.{KEPT_BYTES}
-use Rattle.node_lines.specs.ListLines.{BeginsList, IsSpace}
-use Rattle.node_lines.specs.NodeLines.{node_line_in}
-use Rattle.node_lines.specs.declared.node_line.NodeLine.{NodeLine}
+use Rattle.node_lines.specs.{BeginsList, IsSpace, NodeLine, node_line_in}
 use Rattle.node_lines.proofs.ListLemmas.{begins_here, begins_on}
-use Rattle.node_runs.specs.DoneLines.{malformed_line}
-use Rattle.transcript_lines.specs.Dones.{done_in}
-use Rattle.transcript_lines.specs.declared.done.Done.TheVariants as done
-use Rattle.transcript_lines.specs.declared.done.DoneFault.{DoneFault}
-use Rattle.transcript_lines.specs.declared.done.DoneLine.{DoneLine}
-use Rattle.transcript_lines.specs.declared.done.Done.{Done}
+use Rattle.node_runs.specs.{malformed_line}
+use Rattle.transcript_lines.specs.{Done, DoneFault, DoneLine, done_in}
+use Rattle.transcript_lines.specs.done
 use Rattle.done_laws.specs.Laws.{DoneLinesAreRead, IsLineNumber, IsRead}
-use Rattle.transcript_parts.specs.Parts.{FitsFirst}
+use Rattle.transcript_parts.specs.{FitsFirst}
 use Rattle.transcripts.specs.Following.{FitsEvent, IsRefusedEvent, MayStarve}
 use Rattle.node_transcripts.proofs.CutLines.{behind_first, first_or}
 use Rattle.node_transcripts.proofs.EventParts.{why_of}

@@ -1,40 +1,28 @@
 -- What an honest keeper keeps is the rows of its node, behind each line of a run.
-use Rattle.std.proofs.Common.{◌≡◌, ◌≢◌, ℕ, ◌+◌, true, List, [], ◌∷◌, ◌++◌, Bool, false, Option, None, Some, Ok, length, refl, sym, ap, subst, ◌∙◌, inl, inr, append-nil}
+use Rattle.std.proofs.Common.{◌≡◌, ◌≢◌, ℕ, ◌+◌, true, List, [], ◌∷◌, ◌++◌, Bool, false, Option, None, Some, Ok, length}
+use Rattle.std.proofs.Common.{refl, sym, ap, subst, ◌∙◌, inl, inr, append-nil, All, Contains}
 use Rattle.std.specs.List.{AllByRecursion}
-use Rattle.std.specs.Prelude.{All, Contains}
 use Rattle.std.proofs.lemmas.List.Concat.{flat_map-append}
 use Rattle.std.proofs.lemmas.List.Elements.{All-from_recursion, All-nil, recursion_from_All}
-use Rattle.json_text.specs.Fault.{Read}
-use Rattle.ocpi_types.specs.declared.node_events.NodeEvent.{NodeEvent as Event}
-use Rattle.ocpi_types.specs.declared.node_events.NodeEventKind.{NodeEventKind}
-use Rattle.ocpi_types.specs.declared.packet.Packet.{Packet}
-use Rattle.ocpi_types.specs.declared.rows.Change.{Change}
-use Rattle.ocpi_types.specs.Setups.{party_of}
-use Rattle.ocpi_types.specs.declared.setup.Node.{Node}
-use Rattle.ocpi_json.specs.SetupForms.{setup_in}
-use Rattle.world_laws.specs.Laws.{IsSetup}
-use Rattle.world_steps.specs.Steps.{NodeEvent, NodeStep, changes_of}
-use Rattle.world_steps.specs.World.{NodeState, opening_of}
-use Rattle.stored_laws.specs.Nodes.{CanStartAgain, IsOfOpening, NodesCanStartAgain, restarted}
-use Rattle.node_store.specs.Contents.{Content, IsReadAgain, changed, changed_all}
-use Rattle.node_rows.specs.Holds.{HoldsRows}
-use Rattle.node_rows.specs.Laws.{ChangesAreHeld, NodesKeepOpenings, RestartsAreHeld, RestartsCanStartAgain}
-use Rattle.line_runs.specs.Numbered.{AreNumbered, empty_line, none_numbered, refused_line, taken_line}
-use Rattle.line_runs.specs.declared.outcome.Ran.{Ran}
-use Rattle.line_runs.specs.declared.run.Turn.{Turn}
-use Rattle.line_runs.specs.declared.run.Turn.TheVariants.{Ended, Refused, Taken}
-use Rattle.node_keepers.specs.Opening.{Source}
-use Rattle.node_cell.specs.Keepers.{Commits, Keeper}
+use Rattle.json_text.specs.{Read}
+use Rattle.ocpi_types.specs.{Change, Node, NodeEvent as Event, NodeEventKind, Packet, party_of}
+use Rattle.ocpi_json.specs.{setup_in}
+use Rattle.world_laws.specs.{IsSetup}
+use Rattle.world_steps.specs.{NodeEvent, NodeState, NodeStep, changes_of, opening_of}
+use Rattle.stored_laws.specs.{CanStartAgain, IsOfOpening, NodesCanStartAgain, restarted}
+use Rattle.node_store.specs.{Content, IsReadAgain, changed, changed_all}
+use Rattle.node_rows.specs.{ChangesAreHeld, HoldsRows, NodesKeepOpenings, RestartsAreHeld, RestartsCanStartAgain}
+use Rattle.line_runs.specs.{AreNumbered, Ended, Ran, Refused, Taken, Turn, empty_line, none_numbered, refused_line}
+use Rattle.line_runs.specs.{taken_line}
+use Rattle.node_keepers.specs.{Source}
+use Rattle.node_cell.specs.{Commits, Does, IsKeptFor, Keeper, changes_of_each}
 use Rattle.node_cell.specs.Keepers as keepers
-use Rattle.node_cell.specs.Stored.{Does, IsKeptFor, Stored}
-use Rattle.node_cell.specs.Transactions.{changes_of_each}
-use Rattle.node_runs.specs.ListTurns.{AreDone, ListTurn, PlacedTurn}
+use Rattle.node_cell.specs.Stored.{Stored}
+use Rattle.node_runs.specs.{AreDone, Begins, EventTurn, LineTurn, ListTurn, NodeLineGives, NodeStop, NodeTurn}
+use Rattle.node_runs.specs.{PlacedTurn, Running, SetupTurn, Stage, opening}
 use Rattle.node_runs.specs.ListTurns as lists
-use Rattle.node_runs.specs.NodeAnswers.{LineTurn, NodeLineGives, NodeTurn}
 use Rattle.node_runs.specs.NodeAnswers as answers
-use Rattle.node_runs.specs.NodeTurns.{Begins, EventTurn, Running, SetupTurn, Stage, opening}
 use Rattle.node_runs.specs.NodeTurns as turns
-use Rattle.node_runs.specs.declared.fault.NodeStop.{NodeStop}
 use Rattle.node_transcripts.specs.LaterRuns.{IsSameNode, Tail}
 use Rattle.node_transcripts.specs.Readable.{IsOpenedSo, OpensSo, ReadsSetups, RunOpensSo}
 use Rattle.node_transcripts.proofs.Runs.{commits_honest, event_honest, refused_goes_on, taken_goes_on}

@@ -1,34 +1,26 @@
 -- What runs of one node wrote, one behind the other over one store, is one transcript.
-use Rattle.std.proofs.Common.{◌≡◌, ◌≢◌, ℕ, ◌+◌, ◌<◌, true, false, List, [], ◌∷◌, ◌++◌, Option, None, Some, Ok, length, take, refl, sym, ap, subst, ◌∙◌, arith, inl, inr, length-append}
+use Rattle.std.proofs.Common.{◌≡◌, ◌≢◌, ℕ, ◌+◌, ◌<◌, true, false, List, [], ◌∷◌, ◌++◌, Option, None, Some, Ok, length}
+use Rattle.std.proofs.Common.{take, refl, sym, ap, subst, ◌∙◌, arith, inl, inr, length-append, Contains}
 use Rattle.std.proofs.lemmas.List.{append-nil, append_assoc}
 use Rattle.std.proofs.lemmas.List.Elements.{All-append, All-cons, All-head, All-nil, All-push, All-tail, All-take}
 use Rattle.std.specs.FinMap.{empty}
-use Rattle.std.specs.Prelude.{Contains}
-use Rattle.ocpi_types.specs.Setups.{party_of}
-use Rattle.ocpi_types.specs.declared.setup.Node.{Node}
-use Rattle.ocpi_json.specs.SetupForms.{setup_in}
-use Rattle.world_laws.specs.Laws.{IsSetup}
-use Rattle.world_steps.specs.World.{NodeState, opening_of}
-use Rattle.stored_laws.specs.Nodes.{AreNodeRows, NodesCanStartAgain, OpeningsCanStartAgain, last_serial}
-use Rattle.node_store.specs.Contents.{Content}
-use Rattle.node_rows.specs.Holds.{HoldsRows}
-use Rattle.node_rows.specs.Laws.{ChangesAreHeld, EmptyIsHeld, NodesKeepOpenings, RestartsAreHeld, RestartsCanStartAgain}
-use Rattle.line_runs.specs.Numbered.{echo_of}
-use Rattle.line_runs.specs.declared.run.Turn.{Turn}
-use Rattle.line_runs.specs.declared.run.Turn.TheVariants.{Ended, Refused, Taken}
-use Rattle.node_keepers.specs.Opening.{Source}
-use Rattle.node_cell.specs.Keepers.{Keeper}
-use Rattle.node_cell.specs.Stored.{IsKeptFor, Stored}
-use Rattle.node_runs.specs.DoneLines.{opened_line}
-use Rattle.node_runs.specs.NodeAnswers.{LineTurn, NodeTurn}
+use Rattle.ocpi_types.specs.{Node, party_of}
+use Rattle.ocpi_json.specs.{setup_in}
+use Rattle.world_laws.specs.{IsSetup}
+use Rattle.world_steps.specs.{NodeState, opening_of}
+use Rattle.stored_laws.specs.{AreNodeRows, NodesCanStartAgain, OpeningsCanStartAgain, last_serial}
+use Rattle.node_store.specs.{Content}
+use Rattle.node_rows.specs.{ChangesAreHeld, EmptyIsHeld, HoldsRows, NodesKeepOpenings, RestartsAreHeld}
+use Rattle.node_rows.specs.{RestartsCanStartAgain}
+use Rattle.line_runs.specs.{Ended, Refused, Taken, Turn, echo_of}
+use Rattle.node_keepers.specs.{Source}
+use Rattle.node_cell.specs.{IsKeptFor, Keeper}
+use Rattle.node_cell.specs.Stored.{Stored}
+use Rattle.node_runs.specs.{Begins, EventTurn, IsMember, LineTurn, NodeStop, NodeTurn, Running, Stage, opened_line}
 use Rattle.node_runs.specs.NodeAnswers as answers
-use Rattle.node_runs.specs.NodeTurns.{Begins, EventTurn, IsMember, Running, Stage}
-use Rattle.node_runs.specs.declared.fault.NodeStop.{NodeStop}
-use Rattle.transcript_lines.specs.declared.done.Done.TheVariants as done
+use Rattle.transcript_lines.specs.done
 use Rattle.done_laws.specs.Laws.{DoneLinesAreRead, IsLineNumber}
-use Rattle.transcript_parts.specs.Lines.{Line, lines_in}
-use Rattle.transcript_parts.specs.Parts.{AtEnd, AtRun, IsEnding}
-use Rattle.transcript_parts.specs.declared.line_read.Ending.TheVariants.{FileEnd, NextRun}
+use Rattle.transcript_parts.specs.{AtEnd, AtRun, FileEnd, IsEnding, Line, NextRun, lines_in}
 use Rattle.transcripts.specs.Following.{Follows, GoesOn, Later, More, Passed, ReadTo, Reopens, Standing, Start, begun, nothing_known, restarted}
 use Rattle.transcripts.specs.Told.{Told}
 use Rattle.node_transcripts.specs.LaterRuns.{AllAnswered, AreRuns, AtLine, EndsLine, IsBegunRun, IsFoundAt, IsGiven, IsLeftBy, IsRunOf, IsSameNode, LastLeft, NoNode, NoRun, OneMore, SeveralRunsAreTranscripts, Tail, ToAnswer, WithinAnswer}

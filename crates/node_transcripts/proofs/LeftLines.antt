@@ -1,41 +1,29 @@
 -- A line of which nothing is written, behind which the next run opens the node: it was carried out before, or was not.
-use Rattle.std.proofs.Common.{◌≡◌, ◌≢◌, ◌⊎◌, ◌↔◌, ℕ, ◌==◌, Bool, true, false, IsTrue, List, [], ◌∷◌, ◌++◌, Option, None, Some, Ok, Err, length, map, refl, sym, ap, subst, ◌∙◌, arith, inl, inr, append-nil}
+use Rattle.std.proofs.Common.{◌≡◌, ◌≢◌, ◌⊎◌, ◌↔◌, ℕ, ◌==◌, Bool, true, false, IsTrue, List, [], ◌∷◌, ◌++◌, Option, None}
+use Rattle.std.proofs.Common.{Some, Ok, Err, length, map, refl, sym, ap, subst, ◌∙◌, arith, inl, inr, append-nil, All}
+use Rattle.std.proofs.Common.{if◌then◌else◌, slice_get}
 use Rattle.std.proofs.lemmas.List.Concat.{flat_map-append}
 use Rattle.std.proofs.lemmas.Option.{slice_get_past}
-use Rattle.std.specs.Prelude.{All, if◌then◌else◌, slice_get}
-use Rattle.json_text.specs.Fault.{Read}
-use Rattle.ocpi_text.specs.Text.{key}
-use Rattle.ocpi_types.specs.declared.node_events.NodeEvent.{NodeEvent}
-use Rattle.ocpi_types.specs.declared.packet.Packet.{Packet}
-use Rattle.ocpi_types.specs.declared.rows.Change.{Change}
-use Rattle.ocpi_types.specs.declared.setup.Node.{Node}
+use Rattle.json_text.specs.{Read}
+use Rattle.ocpi_text.specs.{key}
+use Rattle.ocpi_types.specs.{Change, Node, NodeEvent, Packet}
 use Rattle.history_laws.specs.Replays as replays
-use Rattle.world_steps.specs.Steps.{NodeEvent as Deed, changes_of, packets_of}
-use Rattle.world_steps.specs.World.{NodeState, opening_of}
-use Rattle.stored_laws.specs.Nodes.{IsOfOpening, NodesCanStartAgain, restarted}
-use Rattle.node_store.specs.Contents.{Content, IsReadAgain, changed_all}
-use Rattle.node_rows.specs.Holds.{HoldsRows}
-use Rattle.node_rows.specs.Laws.{ChangesAreHeld, NodesKeepOpenings}
-use Rattle.node_lines.specs.NodeLines.{node_line_in}
-use Rattle.node_lines.specs.declared.node_line.NodeLine.{NodeLine}
-use Rattle.node_lines.specs.declared.node_line.NodeLine.TheVariants.{One, Several}
+use Rattle.world_steps.specs.{NodeEvent as Deed, NodeState, changes_of, opening_of, packets_of}
+use Rattle.stored_laws.specs.{IsOfOpening, NodesCanStartAgain, restarted}
+use Rattle.node_store.specs.{Content, IsReadAgain, StoreFault, changed_all}
+use Rattle.node_rows.specs.{ChangesAreHeld, HoldsRows, NodesKeepOpenings}
+use Rattle.node_lines.specs.{NodeLine, One, Several, node_line_in}
 use Rattle.node_replay.specs.Replayed.{Leads, Passes, Refuses}
-use Rattle.line_runs.specs.declared.run.Turn.{Turn}
-use Rattle.node_keepers.specs.Opening.{Source}
-use Rattle.node_cell.specs.Keepers.{Commits, Keeper}
+use Rattle.line_runs.specs.{Turn}
+use Rattle.node_keepers.specs.{Source}
+use Rattle.node_cell.specs.{Commits, Does, IsKeptFor, Keeper, Loses, changes_of_each}
 use Rattle.node_cell.specs.Keepers as keepers
-use Rattle.node_cell.specs.Stored.{Does, IsKeptFor, Loses}
-use Rattle.node_cell.specs.Transactions.{changes_of_each}
-use Rattle.node_runs.specs.ListTurns.{AreDone, ListTurn, LosesLine, PlacedTurn}
+use Rattle.node_runs.specs.{AreDone, EventTurn, IsOfNode, LineTurn, ListTurn, LosesLine, NodeStop, NodeTurn, PlacedTurn}
+use Rattle.node_runs.specs.{Running, Stage, keep_in}
 use Rattle.node_runs.specs.ListTurns as lists
-use Rattle.node_runs.specs.NodeAnswers.{LineTurn, NodeTurn}
 use Rattle.node_runs.specs.NodeAnswers as answers
-use Rattle.node_runs.specs.NodeTurns.{EventTurn, IsOfNode, Running, Stage, keep_in}
 use Rattle.node_runs.specs.NodeTurns as turns
-use Rattle.node_runs.specs.declared.fault.NodeStop.{NodeStop}
-use Rattle.node_store.specs.declared.fault.StoreFault.{StoreFault}
-use Rattle.transcript_parts.specs.declared.echoed.EchoedLine.{EchoedLine}
-use Rattle.transcript_parts.specs.declared.line_read.Ending.TheVariants.{NextRun}
+use Rattle.transcript_parts.specs.{EchoedLine, NextRun}
 use Rattle.transcripts.specs.Following.{ComeInTurn, Gives, GoesOn, LeftOpen, LeftOut, NoneYet, OneMore, PassesLine, Standing, begun, ended, restarted as restarted_told, unanswered_line}
 use Rattle.transcripts.specs.Following as following
 use Rattle.transcripts.specs.LineEvents.{Holds, LineEvent, LineEvents, ending_at, ending_of, event_at, packets_at, packets_of as packets_told}

@@ -2,34 +2,23 @@
 use Rattle.std.proofs.Common.{◌≡◌, ◌≢◌, ◌⊎◌, ℕ, zero, suc, ◌<◌, Bool, false, List, [], ◌∷◌, ◌++◌, All, Option, None, Some, length, length-append, take, drop, refl, sym, ap, subst, ◌∙◌, arith, inl, inr}
 use Rattle.std.proofs.lemmas.List.{take-append-drop}
 use Rattle.std.proofs.lemmas.List.Elements.{All-nil, All-take}
-use Rattle.ocpi_text.specs.Text.{key}
-use Rattle.ocpi_types.specs.declared.node_events.NodeEvent.{NodeEvent}
-use Rattle.ocpi_types.specs.declared.packet.Packet.{Packet}
-use Rattle.ocpi_types.specs.declared.setup.Node.{Node}
-use Rattle.node_cell.specs.Keepers.{Keeper}
-use Rattle.node_cell.specs.Stored.{Does}
-use Rattle.node_rows.specs.Laws.{NodesKeepOpenings}
-use Rattle.world_steps.specs.Steps.{NodeStep}
-use Rattle.world_steps.specs.World.{NodeState, opening_of}
-use Rattle.ocpi_types.specs.declared.node_events.NodeEventKind.{NodeEventKind}
-use Rattle.node_steps.specs.declared.fault.NodeFault.TheVariants as node_fault
+use Rattle.ocpi_text.specs.{key}
+use Rattle.ocpi_types.specs.{Node, NodeEvent, NodeEventKind, Packet}
+use Rattle.node_cell.specs.{Does, Keeper}
+use Rattle.node_rows.specs.{NodesKeepOpenings}
+use Rattle.world_steps.specs.{NodeState, NodeStep, opening_of}
+use Rattle.node_steps.specs.node_fault
 use Rattle.program_lines.specs.Writing.{packet_lines}
-use Rattle.line_runs.specs.declared.run.Turn.{Turn}
-use Rattle.line_runs.specs.declared.run.Turn.TheVariants.{Ended}
-use Rattle.node_runs.specs.DoneLines.{idle_line, malformed_line, refused_line, skipped_line, stepped_line}
-use Rattle.node_runs.specs.NodeTurns.{EventTurn, IsOfNode, Running}
+use Rattle.line_runs.specs.{Ended, Turn}
+use Rattle.node_runs.specs.{EventTurn, IsOfNode, NodeStop, Running, idle_line, malformed_line, refused_line}
+use Rattle.node_runs.specs.{skipped_line, stepped_line}
 use Rattle.node_runs.specs.NodeTurns as turns
-use Rattle.node_runs.specs.declared.fault.NodeStop.{NodeStop}
 use Rattle.node_replay.specs.Replayed.{Leads, Passes, Refuses}
-use Rattle.transcript_lines.specs.declared.done.Done.{Done}
-use Rattle.transcript_lines.specs.declared.done.Done.TheVariants as done
+use Rattle.transcript_lines.specs.{Done}
+use Rattle.transcript_lines.specs.done
 use Rattle.done_laws.specs.Laws.{DoneLinesAreRead, IsLineNumber, IsRead}
-use Rattle.transcript_parts.specs.LineReads.{LineRead}
-use Rattle.transcript_parts.specs.Lines.{Line}
-use Rattle.transcript_parts.specs.Parts.{AtEnd, AtLast, Ends, IsEnding, IsPart, NoneSent}
-use Rattle.transcript_parts.specs.declared.echoed.EchoedLine.{EchoedLine}
-use Rattle.transcript_parts.specs.declared.line_read.Ending.{Ending}
-use Rattle.transcript_parts.specs.declared.line_read.Ending.TheVariants.{FileEnd}
+use Rattle.transcript_parts.specs.{AtEnd, AtLast, EchoedLine, Ending, Ends, FileEnd, IsEnding, IsPart, Line, LineRead}
+use Rattle.transcript_parts.specs.{NoneSent}
 use Rattle.transcripts.specs.Following.{Follows, IsOwn, Standing, begun}
 use Rattle.transcripts.specs.Following as following
 use Rattle.transcripts.specs.Told.{Told}

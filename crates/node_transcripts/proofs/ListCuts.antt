@@ -1,28 +1,21 @@
 -- What of a line of several events stands at the end of a file that was cut is a part of a transcript.
-use Rattle.std.proofs.Common.{◌≡◌, ◌⊎◌, ℕ, zero, suc, ◌+◌, ◌≤◌, ◌==◌, Bool, true, false, List, [], ◌∷◌, ◌++◌, All, None, Some, length, map, take, drop, refl, sym, ap, subst, ◌∙◌, arith, inl, inr, length-append, eq-eqb, eqb-true}
+use Rattle.std.proofs.Common.{◌≡◌, ◌⊎◌, ℕ, zero, suc, ◌+◌, ◌≤◌, ◌==◌, Bool, true, false, List, [], ◌∷◌, ◌++◌, All, None}
+use Rattle.std.proofs.Common.{Some, length, map, take, drop, refl, sym, ap, subst, ◌∙◌, arith, inl, inr, length-append}
+use Rattle.std.proofs.Common.{eq-eqb, eqb-true, if◌then◌else◌, slice_get}
 use Rattle.std.proofs.lemmas.List.{append-nil, take-append-drop}
 use Rattle.std.proofs.lemmas.List.Elements.{All-take}
 use Rattle.std.proofs.lemmas.Option.{slice_get_past}
-use Rattle.std.specs.Prelude.{if◌then◌else◌, slice_get}
-use Rattle.json_text.specs.Fault.{Read}
-use Rattle.ocpi_types.specs.declared.node_events.NodeEvent.{NodeEvent}
-use Rattle.ocpi_types.specs.declared.packet.Packet.{Packet}
-use Rattle.ocpi_types.specs.declared.setup.Node.{Node}
-use Rattle.world_steps.specs.Steps.{NodeEvent as Deed}
-use Rattle.world_steps.specs.World.{NodeState}
-use Rattle.node_rows.specs.Laws.{NodesKeepOpenings}
-use Rattle.line_runs.specs.declared.run.Turn.{Turn}
-use Rattle.node_cell.specs.Keepers.{Keeper}
-use Rattle.node_runs.specs.ListTurns.{AreDone, ListTurn}
+use Rattle.json_text.specs.{Read}
+use Rattle.ocpi_types.specs.{Node, NodeEvent, Packet}
+use Rattle.world_steps.specs.{NodeEvent as Deed, NodeState}
+use Rattle.node_rows.specs.{NodesKeepOpenings}
+use Rattle.line_runs.specs.{Turn}
+use Rattle.node_cell.specs.{Keeper}
+use Rattle.node_runs.specs.{AreDone, ListTurn, Running}
 use Rattle.node_runs.specs.ListTurns as lists
-use Rattle.node_runs.specs.NodeTurns.{Running}
 use Rattle.done_laws.specs.Laws.{DoneLinesAreRead, IsLineNumber, IsWhole}
-use Rattle.transcript_parts.specs.LineReads.{GaveNothing, LineRead}
-use Rattle.transcript_parts.specs.Lines.{Line}
-use Rattle.transcript_parts.specs.Parts.{AtEnd, AtLast, Ends, IsEnding, NoneSent}
-use Rattle.transcript_parts.specs.declared.line_read.EventAnswer.{EventAnswer}
-use Rattle.transcript_parts.specs.declared.line_read.Ending.{Ending}
-use Rattle.transcript_parts.specs.declared.line_read.Ending.TheVariants.{Answered, FileEnd, NextRun}
+use Rattle.transcript_parts.specs.{Answered, AtEnd, AtLast, Ending, Ends, EventAnswer, FileEnd, GaveNothing, IsEnding}
+use Rattle.transcript_parts.specs.{Line, LineRead, NextRun, NoneSent}
 use Rattle.transcripts.specs.Following.{Came, ComeInTurn, Follows, Gives, Last as Last_line, OneMore, Passed, Standing, begun}
 use Rattle.transcripts.specs.LineEvents.{EndsSeveral, LineEvent, ending_at, ending_of, event_at, packets_at, packets_of as packets_told}
 use Rattle.transcripts.specs.Told.{Told}

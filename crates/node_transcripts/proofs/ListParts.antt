@@ -1,41 +1,32 @@
 -- What is written of a line of several events is a part of a transcript.
-use Rattle.std.proofs.Common.{◌≡◌, ◌⊎◌, ◌↔◌, ℕ, ◌+◌, Bool, true, false, IsTrue, List, [], ◌∷◌, ◌++◌, All, Option, Some, Ok, length, map, refl, sym, ap, subst, ◌∙◌, arith, inl, inr, length-append}
+use Rattle.std.proofs.Common.{◌≡◌, ◌⊎◌, ◌↔◌, ℕ, ◌+◌, Bool, true, false, IsTrue, List, [], ◌∷◌, ◌++◌, All, Option, Some}
+use Rattle.std.proofs.Common.{Ok, length, map, refl, sym, ap, subst, ◌∙◌, arith, inl, inr, length-append, ◌==◌}
+use Rattle.std.proofs.Common.{if◌then◌else◌, slice_get}
 use Rattle.std.proofs.lemmas.List.{append-nil, append_assoc}
 use Rattle.std.proofs.lemmas.List.Elements.{All-append, All-nil, All-push}
-use Rattle.std.specs.Prelude.{◌==◌, if◌then◌else◌, slice_get}
 use Rattle.histories.proofs.Lists.{got_between, got_pushed}
-use Rattle.json_text.specs.Fault.{Read}
-use Rattle.json_text.specs.declared.fault.JsonFault.{JsonFault}
-use Rattle.node_steps.specs.declared.fault.NodeFault.{NodeFault}
-use Rattle.ocpi_text.specs.Text.{key}
-use Rattle.ocpi_types.specs.declared.node_events.NodeEvent.{NodeEvent}
-use Rattle.ocpi_types.specs.declared.packet.Packet.{Packet}
-use Rattle.ocpi_types.specs.declared.setup.Node.{Node}
+use Rattle.json_text.specs.{JsonFault, Read}
+use Rattle.node_steps.specs.{NodeFault}
+use Rattle.ocpi_text.specs.{key}
+use Rattle.ocpi_types.specs.{Node, NodeEvent, Packet}
 use Rattle.history_laws.specs.Replays as replays
-use Rattle.world_steps.specs.Steps.{NodeEvent as Deed, packets_of}
-use Rattle.world_steps.specs.World.{NodeState, opening_of}
-use Rattle.stored_laws.specs.Nodes.{IsOfOpening}
-use Rattle.node_rows.specs.Laws.{NodesKeepOpenings}
-use Rattle.node_lines.specs.NodeLines.{node_line_in}
+use Rattle.world_steps.specs.{NodeEvent as Deed, NodeState, opening_of, packets_of}
+use Rattle.stored_laws.specs.{IsOfOpening}
+use Rattle.node_rows.specs.{NodesKeepOpenings}
+use Rattle.node_lines.specs.{Several, node_line_in}
 use Rattle.node_lines.proofs.NodeLineLemmas.{is_array}
-use Rattle.node_lines.specs.declared.node_line.NodeLine.TheVariants.{Several}
 use Rattle.node_replay.specs.Replayed.{Leads, Passes, Refuses}
 use Rattle.program_lines.specs.Writing.{packet_lines}
-use Rattle.line_runs.specs.declared.run.Turn.{Turn}
-use Rattle.node_runs.specs.DoneLines.{all_line, idle_line, malformed_line, refused_line, skipped_line}
-use Rattle.node_runs.specs.ListTurns.{AreDone, CarriesOut, ListTurn, PlacedTurn}
+use Rattle.line_runs.specs.{Turn}
+use Rattle.node_runs.specs.{AreDone, CarriesOut, ListTurn, PlacedTurn, Running, all_line, idle_line, malformed_line}
+use Rattle.node_runs.specs.{refused_line, skipped_line, step_line}
 use Rattle.node_runs.specs.ListTurns as lists
-use Rattle.node_runs.specs.NodeTurns.{Running, step_line}
-use Rattle.node_cell.specs.Keepers.{Keeper}
-use Rattle.transcript_lines.specs.declared.done.Done.{Done}
-use Rattle.transcript_lines.specs.declared.done.Done.TheVariants as done
+use Rattle.node_cell.specs.{Keeper}
+use Rattle.transcript_lines.specs.{Done}
+use Rattle.transcript_lines.specs.done
 use Rattle.done_laws.specs.Laws.{DoneLinesAreRead, IsLineNumber, IsRead, IsWhole}
-use Rattle.transcript_parts.specs.LineReads.{LineRead}
-use Rattle.transcript_parts.specs.Lines.{Line}
-use Rattle.transcript_parts.specs.Parts.{AtDone, AtEvent, AtLast, Ends, NoneSent}
-use Rattle.transcript_parts.specs.declared.line_read.EventAnswer.{EventAnswer}
-use Rattle.transcript_parts.specs.declared.line_read.Ending.{Ending}
-use Rattle.transcript_parts.specs.declared.line_read.Ending.TheVariants.{Answered}
+use Rattle.transcript_parts.specs.{Answered, AtDone, AtEvent, AtLast, Ending, Ends, EventAnswer, Line, LineRead}
+use Rattle.transcript_parts.specs.{NoneSent}
 use Rattle.transcripts.specs.Following.{Came, ComeInTurn, FitsEntry, FitsNothing, Follows, Gives, NoneYet, OneMore, Standing, begun}
 use Rattle.transcripts.specs.Following as following
 use Rattle.transcripts.specs.LineEvents.{LineEvent, ending_at, ending_of, event_at, packets_at, packets_of as packets_told}

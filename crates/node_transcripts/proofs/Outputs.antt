@@ -1,16 +1,14 @@
 -- What a run wrote, however it came to its end, is a transcript of its node.
 use Rattle.std.proofs.Common.{◌≡◌, ℕ, zero, suc, true, List, [], ◌++◌, Option, Some, take, drop, refl, sym, ap, subst, ◌∙◌, arith, inl}
 use Rattle.std.proofs.lemmas.List.{append-nil, append_assoc, take-append-drop}
-use Rattle.ocpi_types.specs.declared.setup.Node.{Node}
-use Rattle.line_runs.specs.Numbered.{begun_answer, begun_between, begun_echo, begun_end, echo_of, numbered_end, numbered_stop}
-use Rattle.line_runs.specs.declared.outcome.Ran.{Ran}
-use Rattle.line_runs.specs.declared.run.Turn.TheVariants.{Ended}
-use Rattle.node_keepers.specs.Opening.{Source}
-use Rattle.node_cell.specs.Keepers.{Keeper}
-use Rattle.node_rows.specs.Laws.{EmptyIsHeld, NodesKeepOpenings}
-use Rattle.stored_laws.specs.Nodes.{OpeningsCanStartAgain}
-use Rattle.node_runs.specs.NodeAnswers.{NodeEnd}
-use Rattle.node_runs.specs.NodeTurns.{Running}
+use Rattle.ocpi_types.specs.{Node}
+use Rattle.line_runs.specs.{Ended, Ran, begun_answer, begun_between, begun_echo, begun_end, echo_of, numbered_end}
+use Rattle.line_runs.specs.{numbered_stop}
+use Rattle.node_keepers.specs.{Source}
+use Rattle.node_cell.specs.{Keeper}
+use Rattle.node_rows.specs.{EmptyIsHeld, NodesKeepOpenings}
+use Rattle.stored_laws.specs.{OpeningsCanStartAgain}
+use Rattle.node_runs.specs.{NodeEnd, Running}
 use Rattle.done_laws.specs.Laws.{DoneLinesAreRead}
 use Rattle.node_transcripts.specs.Laws.{IsAsked, IsCutTranscript, IsTranscript}
 use Rattle.node_transcripts.specs.Outputs.{BegunRunsAreTranscripts, WholeRunsAreTranscripts}

@@ -1,34 +1,30 @@
 -- What runs wrote, one behind the other, is read up to where the next run begins, or to the end of the file.
-use Rattle.std.proofs.Common.{◌≡◌, ◌≢◌, ◌⊎◌, ℕ, ◌+◌, ◌<◌, ◌==◌, Bool, true, false, List, [], ◌∷◌, ◌++◌, All, Option, None, Some, Ok, Err, length, refl, sym, ap, subst, ◌∙◌, arith, inl, inr}
+use Rattle.std.proofs.Common.{◌≡◌, ◌≢◌, ◌⊎◌, ℕ, ◌+◌, ◌<◌, ◌==◌, Bool, true, false, List, [], ◌∷◌, ◌++◌, All, Option}
+use Rattle.std.proofs.Common.{None, Some, Ok, Err, length, refl, sym, ap, subst, ◌∙◌, arith, inl, inr, Contains}
+use Rattle.std.proofs.Common.{if◌then◌else◌}
 use Rattle.std.proofs.lemmas.Fmt.{decimal_digit}
 use Rattle.std.proofs.lemmas.List.{append-nil, append_assoc}
 use Rattle.std.proofs.lemmas.List.Elements.{All-append, All-cons, All-nil, All-push}
 use Rattle.std.specs.FinMap.{empty}
-use Rattle.std.specs.Prelude.{Contains, if◌then◌else◌}
-use Rattle.json_text.specs.Fault.{Fails, Read}
-use Rattle.json_text.specs.declared.fault.JsonFault.{JsonFault}
-use Rattle.json_text.specs.declared.fault.JsonFault.TheVariants.{Syntax}
-use Rattle.ocpi_types.specs.declared.setup.Node.{Node}
-use Rattle.ocpi_json.specs.SetupForms.{setup_in}
-use Rattle.world_laws.specs.Laws.{IsSetup}
-use Rattle.world_steps.specs.World.{NodeState}
-use Rattle.node_store.specs.Contents.{Content}
-use Rattle.node_rows.specs.Laws.{NodesKeepOpenings}
-use Rattle.node_lines.specs.NodeLines.{node_line_in}
-use Rattle.line_runs.specs.Numbered.{echo_of}
-use Rattle.node_keepers.specs.Opening.{Source}
-use Rattle.node_cell.specs.Keepers.{Keeper}
-use Rattle.node_cell.specs.Stored.{IsKeptFor}
-use Rattle.node_runs.specs.DoneLines.{malformed_line}
-use Rattle.node_runs.specs.NodeTurns.{Running}
+use Rattle.json_text.specs.{Fails, JsonFault, Read, Syntax}
+use Rattle.ocpi_types.specs.{Node}
+use Rattle.ocpi_json.specs.{setup_in}
+use Rattle.world_laws.specs.{IsSetup}
+use Rattle.world_steps.specs.{NodeState}
+use Rattle.node_store.specs.{Content}
+use Rattle.node_rows.specs.{NodesKeepOpenings}
+use Rattle.node_lines.specs.{node_line_in}
+use Rattle.line_runs.specs.{echo_of}
+use Rattle.node_keepers.specs.{Source}
+use Rattle.node_cell.specs.{IsKeptFor, Keeper}
+use Rattle.node_runs.specs.{Running, malformed_line}
 use Rattle.node_runs.specs.NodeTurns as turns
-use Rattle.transcript_lines.specs.Dones.{run_without_lines}
-use Rattle.transcript_lines.specs.declared.done.Done.TheVariants as done
+use Rattle.transcript_lines.specs.{run_without_lines}
+use Rattle.transcript_lines.specs.done
 use Rattle.done_laws.specs.Laws.{DoneLinesAreRead, IsLineNumber, IsRead}
-use Rattle.transcript_parts.specs.LineReads.{LineRead}
-use Rattle.transcript_parts.specs.Lines.{Line}
-use Rattle.transcript_parts.specs.Parts.{AtEnd, AtLast, AtRun, BeforeEnd, BeforeNoLines, BeforeRefusal, BeforeSetup, BeginsRun, FitsFirst, IsEnding, IsOther, IsPart, IsSetupLine, NoneSent, OfNoLines, OfRefused, OfSetup, StandsFirst, TellsDone}
-use Rattle.transcript_parts.specs.declared.line_read.Ending.TheVariants.{FileEnd, NextRun}
+use Rattle.transcript_parts.specs.{AtEnd, AtLast, AtRun, BeforeEnd, BeforeNoLines, BeforeRefusal, BeforeSetup}
+use Rattle.transcript_parts.specs.{BeginsRun, FileEnd, FitsFirst, IsEnding, IsOther, IsPart, IsSetupLine, Line}
+use Rattle.transcript_parts.specs.{LineRead, NextRun, NoneSent, OfNoLines, OfRefused, OfSetup, StandsFirst, TellsDone}
 use Rattle.transcripts.specs.Following.{Follows, GoesOn, More, NoEvent, NoSetup, Outside, Passed, ReadTo, Standing, begun, ended, restarted}
 use Rattle.transcripts.specs.Told.{Told}
 use Rattle.node_transcripts.specs.LaterRuns.{AllAnswered, FirstLinesEndRuns, IsFirstLine, IsGiven, IsReadBehind, IsUnbegunRun, LastLeft, LastTwoLeft, LeftFirst, NoLines, RefusedFirst, Tail, tail_behind}

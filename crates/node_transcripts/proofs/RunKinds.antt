@@ -2,25 +2,18 @@
 use Rattle.std.proofs.Common.{◌≡◌, ◌≢◌, ◌⊎◌, ℕ, ◌+◌, ◌<◌, ◌==◌, Bool, true, false, List, [], ◌∷◌, ◌++◌, Option, None, Some, length, take, drop, refl, sym, ap, subst, ◌∙◌, arith, inl, inr, length-append, eqb-true, eq-eqb}
 use Rattle.std.proofs.lemmas.List.{append-nil, append_assoc, take-append-drop}
 use Rattle.std.proofs.lemmas.List.Elements.{All-cons, All-head, All-nil, All-push, All-tail}
-use Rattle.json_text.specs.Fault.{Read}
-use Rattle.ocpi_types.specs.declared.node_events.NodeEvent.{NodeEvent}
-use Rattle.ocpi_types.specs.declared.setup.Node.{Node}
-use Rattle.world_steps.specs.Steps.{NodeEvent as Deed}
-use Rattle.world_steps.specs.World.{NodeState}
-use Rattle.node_store.specs.Contents.{Content}
-use Rattle.line_runs.specs.Numbered.{AreNumbered, begun_answer, begun_between, begun_echo, begun_end, echo_of, numbered_end, numbered_stop, refused_line, taken_line}
-use Rattle.line_runs.specs.declared.outcome.Ran.{Ran}
-use Rattle.line_runs.specs.declared.run.Turn.{Turn}
-use Rattle.line_runs.specs.declared.run.Turn.TheVariants.{Ended, Refused, Taken}
-use Rattle.node_keepers.specs.Opening.{Source}
-use Rattle.node_cell.specs.Keepers.{Keeper}
+use Rattle.json_text.specs.{Read}
+use Rattle.ocpi_types.specs.{Node, NodeEvent}
+use Rattle.world_steps.specs.{NodeEvent as Deed, NodeState}
+use Rattle.node_store.specs.{Content}
+use Rattle.line_runs.specs.{AreNumbered, Ended, Ran, Refused, Taken, Turn, begun_answer, begun_between, begun_echo}
+use Rattle.line_runs.specs.{begun_end, echo_of, numbered_end, numbered_stop, refused_line, taken_line}
+use Rattle.node_keepers.specs.{Source}
+use Rattle.node_cell.specs.{Keeper}
 use Rattle.node_cell.specs.Stored.{Stored}
-use Rattle.node_runs.specs.ListTurns.{AreDone}
+use Rattle.node_runs.specs.{AreDone, LineTurn, NodeLineGives, NodeStop, NodeTurn, Running, Stage, keep_in, opening}
 use Rattle.node_runs.specs.ListTurns as lists
-use Rattle.node_runs.specs.NodeAnswers.{LineTurn, NodeLineGives, NodeTurn}
 use Rattle.node_runs.specs.NodeAnswers as answers
-use Rattle.node_runs.specs.NodeTurns.{Running, Stage, keep_in, opening}
-use Rattle.node_runs.specs.declared.fault.NodeStop.{NodeStop}
 use Rattle.node_transcripts.specs.LaterRuns.{AllAnswered, AtLine, BeforeLine, BehindLine, EndsLine, IsLeftBy, IsRunOf, IsSameNode, LastLeft, Tail, ToAnswer, WithinAnswer}
 use Rattle.node_transcripts.specs.Outputs.{IsReadRun}
 use Rattle.node_transcripts.specs.Readable.{IsPlain, IsToldTurn, OpensSo}

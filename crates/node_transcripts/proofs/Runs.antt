@@ -2,27 +2,22 @@
 use Rattle.std.proofs.Common.{◌≡◌, ◌≢◌, ℕ, ◌+◌, ◌<◌, true, List, [], ◌∷◌, ◌++◌, All, Option, None, Some, Ok, length, refl, sym, ap, subst, ◌∙◌, arith, inl, inr, length-append}
 use Rattle.std.proofs.lemmas.List.{append-nil, append_assoc}
 use Rattle.std.proofs.lemmas.List.Elements.{All-append, All-cons, All-nil, All-pop}
-use Rattle.ocpi_types.specs.Setups.{party_of}
-use Rattle.ocpi_types.specs.declared.setup.Node.{Node}
-use Rattle.line_runs.specs.Numbered.{AreNumbered, echo_of, empty_line, none_numbered, refused_line, taken_line}
-use Rattle.line_runs.specs.declared.outcome.Ran.{Ran}
-use Rattle.line_runs.specs.declared.run.Turn.{Turn}
-use Rattle.line_runs.specs.declared.run.Turn.TheVariants.{Ended, Refused, Taken}
-use Rattle.node_keepers.specs.Opening.{Source}
-use Rattle.node_cell.specs.Keepers.{Commits, Keeper}
+use Rattle.ocpi_types.specs.{Node, party_of}
+use Rattle.line_runs.specs.{AreNumbered, Ended, Ran, Refused, Taken, Turn, echo_of, empty_line, none_numbered}
+use Rattle.line_runs.specs.{refused_line, taken_line}
+use Rattle.node_keepers.specs.{Source}
+use Rattle.node_cell.specs.{Commits, Keeper}
 use Rattle.node_cell.specs.Keepers as keepers
 use Rattle.node_cell.specs.Stored.{Stored}
-use Rattle.node_rows.specs.Laws.{EmptyIsHeld, NodesKeepOpenings}
-use Rattle.stored_laws.specs.Nodes.{OpeningsCanStartAgain, last_serial}
-use Rattle.ocpi_json.specs.SetupForms.{setup_in}
-use Rattle.node_runs.specs.DoneLines.{opened_line}
-use Rattle.node_runs.specs.NodeAnswers.{LineTurn, NodeLineGives, NodeTurn}
+use Rattle.node_rows.specs.{EmptyIsHeld, NodesKeepOpenings}
+use Rattle.stored_laws.specs.{OpeningsCanStartAgain, last_serial}
+use Rattle.ocpi_json.specs.{setup_in}
+use Rattle.node_runs.specs.{EventTurn, LineTurn, NodeLineGives, NodeStop, NodeTurn, Running, SetupTurn, Stage}
+use Rattle.node_runs.specs.{opened_line, opening}
 use Rattle.node_runs.specs.NodeAnswers as answers
-use Rattle.node_runs.specs.NodeTurns.{EventTurn, Running, SetupTurn, Stage, opening}
 use Rattle.node_runs.specs.NodeTurns as turns
-use Rattle.node_runs.specs.declared.fault.NodeStop.{NodeStop}
 use Rattle.done_laws.specs.Laws.{DoneLinesAreRead, IsLineNumber, IsWhole}
-use Rattle.transcript_parts.specs.Lines.{Line, lines_in}
+use Rattle.transcript_parts.specs.{Line, lines_in}
 use Rattle.transcripts.specs.Following.{IsTranscriptOf, More, ReadTo, Standing, Start, begun, nothing_known}
 use Rattle.transcripts.specs.Told.{Told}
 use Rattle.node_transcripts.specs.Laws.{IsAsked, IsToldOf, IsTranscript, RunsAreTranscripts}

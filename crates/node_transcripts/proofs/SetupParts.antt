@@ -1,26 +1,22 @@
 -- The first line of a run over a store without rows.
 use Rattle.std.proofs.Common.{◌≡◌, ℕ, List, [], ◌∷◌, Option, None, Some, Ok, length, refl, sym, ap, subst, ◌∙◌, arith}
+use Rattle.std.proofs.Common.{Contains}
 use Rattle.std.proofs.lemmas.List.Elements.{All-contains_itself, All-head, All-nil}
 use Rattle.std.specs.FinMap.{empty}
-use Rattle.std.specs.Prelude.{Contains}
-use Rattle.ocpi_types.specs.Setups.{party_of}
-use Rattle.ocpi_types.specs.declared.rows.Row.{Row}
-use Rattle.ocpi_types.specs.declared.setup.Node.{Node}
-use Rattle.ocpi_types.specs.declared.setup.Node.TheVariants as member
-use Rattle.ocpi_json.specs.SetupForms.{setup_in}
-use Rattle.world_laws.specs.Laws.{IsSetup}
-use Rattle.world_steps.specs.World.{NodeState, Operates, Provides, opening_of}
-use Rattle.stored_laws.specs.Nodes.{AreNodeRows, IsOfOpening, OpeningsCanStartAgain, last_serial, restarted}
-use Rattle.node_store.specs.Contents.{Content, rows_of}
-use Rattle.node_core.specs.Members.{IsMadeOfRows}
-use Rattle.node_rows.specs.Holds.{HasRow, HoldsRows}
-use Rattle.node_rows.specs.Laws.{EmptyIsHeld}
-use Rattle.node_keepers.specs.Opening.{Source}
-use Rattle.node_cell.specs.Keepers.{Keeper}
+use Rattle.ocpi_types.specs.{Node, Row, party_of}
+use Rattle.ocpi_types.specs.node as member
+use Rattle.ocpi_json.specs.{setup_in}
+use Rattle.world_laws.specs.{IsSetup}
+use Rattle.world_steps.specs.{NodeState, Operates, Provides, opening_of}
+use Rattle.stored_laws.specs.{AreNodeRows, IsOfOpening, OpeningsCanStartAgain, last_serial, restarted}
+use Rattle.node_store.specs.{Content, rows_of}
+use Rattle.node_core.specs.{IsMadeOfRows}
+use Rattle.node_rows.specs.{EmptyIsHeld, HasRow, HoldsRows}
+use Rattle.node_keepers.specs.{Source}
+use Rattle.node_cell.specs.{Keeper}
 use Rattle.node_cell.specs.Stored.{Stored}
-use Rattle.node_runs.specs.DoneLines.{opened_line}
-use Rattle.node_runs.specs.NodeTurns.{Begins}
-use Rattle.transcript_lines.specs.declared.done.Done.TheVariants as done
+use Rattle.node_runs.specs.{Begins, opened_line}
+use Rattle.transcript_lines.specs.done
 use Rattle.done_laws.specs.Laws.{DoneLinesAreRead, IsLineNumber}
 use Rattle.transcripts.specs.Following.{First, opening_told}
 use Rattle.node_transcripts.specs.Laws.{IsToldOf}

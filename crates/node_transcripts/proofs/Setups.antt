@@ -1,16 +1,12 @@
 -- What is read as a setup is one.
-use Rattle.std.proofs.Common.{◌≡◌, ℕ, Bool, true, false, List, [], ◌∷◌, All, Ok, Err, ap, ◌∙◌}
+use Rattle.std.proofs.Common.{◌≡◌, ℕ, Bool, true, false, List, [], ◌∷◌, All, Ok, Err, ap, ◌∙◌, if◌then◌else◌}
 use Rattle.std.proofs.lemmas.List.Elements.{All-cons, All-contains, All-nil}
-use Rattle.std.specs.Prelude.{if◌then◌else◌}
 use Rattle.serde_json.specs.Data.{Items, item, no_items}
-use Rattle.json_text.specs.Form.{AreItems, IsRecord}
-use Rattle.ocpi_text.specs.Party.{is_party_shape, party_at}
-use Rattle.ocpi_text.specs.Text.{ci_text}
-use Rattle.ocpi_text.specs.declared.fault.TextFault.TheVariants.{TooLong}
+use Rattle.json_text.specs.{AreItems, IsRecord}
+use Rattle.ocpi_text.specs.{TooLong, ci_text, is_party_shape, party_at}
 use Rattle.ocpi_text.proofs.Parties.{ci_text_is}
-use Rattle.ocpi_types.specs.Setups.{party_of}
-use Rattle.ocpi_types.specs.declared.setup.Node.{Node}
-use Rattle.ocpi_json.specs.SetupForms.{IsNode}
+use Rattle.ocpi_types.specs.{Node, party_of}
+use Rattle.ocpi_json.specs.{IsNode}
 use Rattle.ocpi_json.proofs.SetupLemmas.{setup_found}
 use Rattle.node_transcripts.specs.Readable.{ReadsSetups}
 

@@ -2,15 +2,13 @@
 use Rattle.std.proofs.Common.{◌≡◌, ℕ, ◌+◌, List, [], ◌∷◌, ◌++◌, All, None, length, map, refl, sym, ap, subst, ◌∙◌, arith, cond, ne_eqb, ◌≢◌, ◌<◌}
 use Rattle.std.proofs.lemmas.List.{append_assoc, append-nil}
 use Rattle.std.proofs.lemmas.List.Elements.{All-head, All-map, All-push, All-tail, All-weaker}
-use Rattle.ocpi_types.specs.declared.packet.Packet.{Packet}
-use Rattle.ocpi_json.specs.Packets.{packet_text}
+use Rattle.ocpi_types.specs.{Packet}
+use Rattle.ocpi_json.specs.{packet_text}
 use Rattle.program_lines.specs.Writing.{packet_lines}
-use Rattle.transcript_lines.specs.declared.done.Done.{Done}
+use Rattle.transcript_lines.specs.{Done}
 use Rattle.done_laws.specs.Laws.{IsRead}
-use Rattle.transcript_parts.specs.LineReads.{LineRead}
-use Rattle.transcript_parts.specs.Lines.{Line, and_line, lines_behind, lines_in}
-use Rattle.transcript_parts.specs.Parts.{AtDone, AtLast, IsPart, NoneSent, OneSent, Sends}
-use Rattle.transcript_parts.specs.declared.line_read.Ending.TheVariants.{Answered}
+use Rattle.transcript_parts.specs.{Answered, AtDone, AtLast, IsPart, Line, LineRead, NoneSent, OneSent, Sends, and_line}
+use Rattle.transcript_parts.specs.{lines_behind, lines_in}
 use Rattle.node_transcripts.specs.Readable.{IsPlain, IsReadable}
 
 -- ---- the lines of a text, from the front (`transcript_parts` keeps lemmas of its own on them to itself)

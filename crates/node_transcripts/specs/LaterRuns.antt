@@ -1,26 +1,19 @@
 -- Runs of one node over one store, one behind the other, whose outputs are one transcript, however each came to its
 -- end.
 use Rattle.std.specs.Prelude.{◌≡◌, ◌⊎◌, ℕ, ◌+◌, ◌<◌, true, List, [], ◌∷◌, ◌++◌, All, Option, None, Some, Ok, Err, length}
-use Rattle.json_text.specs.Fault.{Fails, Read}
-use Rattle.json_text.specs.declared.fault.JsonFault.{JsonFault}
-use Rattle.json_text.specs.declared.fault.JsonFault.TheVariants.{Syntax}
-use Rattle.ocpi_types.specs.declared.setup.Node.{Node}
-use Rattle.ocpi_json.specs.SetupForms.{setup_in}
-use Rattle.line_runs.specs.Numbered.{AreNumbered, echo_of}
-use Rattle.line_runs.specs.declared.outcome.Ran.{Ran}
-use Rattle.line_runs.specs.declared.run.Turn.{Turn}
-use Rattle.line_runs.specs.declared.run.Turn.TheVariants.{Ended}
-use Rattle.node_keepers.specs.Opening.{Source}
-use Rattle.node_cell.specs.Keepers.{Keeper}
+use Rattle.json_text.specs.{Fails, JsonFault, Read, Syntax}
+use Rattle.ocpi_types.specs.{Node}
+use Rattle.ocpi_json.specs.{setup_in}
+use Rattle.line_runs.specs.{AreNumbered, Ended, Ran, Turn, echo_of}
+use Rattle.node_keepers.specs.{Source}
+use Rattle.node_cell.specs.{Keeper}
 use Rattle.node_cell.specs.Stored.{Stored}
 use Rattle.std.specs.FinMap.{empty}
-use Rattle.node_store.specs.Contents.{Content}
-use Rattle.stored_laws.specs.Nodes.{last_serial}
+use Rattle.node_store.specs.{Content}
+use Rattle.stored_laws.specs.{last_serial}
 use Rattle.done_laws.specs.Laws.{IsLineNumber, IsWhole}
-use Rattle.node_runs.specs.DoneLines.{malformed_line}
-use Rattle.node_runs.specs.NodeAnswers.{NodeLineGives}
-use Rattle.node_runs.specs.NodeTurns.{Running, SetupTurn, Stage, keep_in, opening}
-use Rattle.transcript_parts.specs.Parts.{IsOther}
+use Rattle.node_runs.specs.{NodeLineGives, Running, SetupTurn, Stage, keep_in, malformed_line, opening}
+use Rattle.transcript_parts.specs.{IsOther}
 use Rattle.transcripts.specs.Following.{IsTranscriptOf}
 use Rattle.transcripts.specs.Told.{Told}
 use Rattle.node_transcripts.specs.Laws.{IsToldOf}

@@ -1,17 +1,13 @@
 -- What a run of `node` writes with an echo is a transcript of its node.
 use Rattle.std.specs.Prelude.{◌≡◌, ◌⊎◌, ℕ, ◌+◌, ◌<◌, true, List, [], ◌++◌, All, Option, None, Some, length}
-use Rattle.ocpi_types.specs.Setups.{party_of}
-use Rattle.ocpi_types.specs.declared.setup.Node.{Node}
-use Rattle.stored_laws.specs.Nodes.{IsOfOpening}
-use Rattle.world_steps.specs.World.{opening_of}
-use Rattle.line_runs.specs.Numbered.{AreNumbered, echo_of}
-use Rattle.line_runs.specs.declared.outcome.Ran.{Ran}
-use Rattle.line_runs.specs.declared.run.Turn.{Turn}
-use Rattle.node_keepers.specs.Opening.{Source}
-use Rattle.node_cell.specs.Keepers.{Keeper}
+use Rattle.ocpi_types.specs.{Node, party_of}
+use Rattle.stored_laws.specs.{IsOfOpening}
+use Rattle.world_steps.specs.{opening_of}
+use Rattle.line_runs.specs.{AreNumbered, Ran, Turn, echo_of}
+use Rattle.node_keepers.specs.{Source}
+use Rattle.node_cell.specs.{Keeper}
 use Rattle.done_laws.specs.Laws.{IsWhole}
-use Rattle.node_runs.specs.NodeAnswers.{NodeLineGives}
-use Rattle.node_runs.specs.NodeTurns.{IsMember, Running, Stage, opening}
+use Rattle.node_runs.specs.{IsMember, NodeLineGives, Running, Stage, opening}
 use Rattle.transcripts.specs.Following.{IsTranscriptOf}
 use Rattle.transcripts.specs.Told.{Told}
 use Rattle.node_transcripts.specs.Readable.{AreTold, HasNoRows, IsPlain, IsToldTurn, RunOpensSo}

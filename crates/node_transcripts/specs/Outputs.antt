@@ -1,15 +1,13 @@
 -- What a run of `node` wrote, however it came to its end.
 use Rattle.std.specs.Prelude.{◌≡◌, ℕ, ◌+◌, true, List, All, Option, Some, length}
-use Rattle.ocpi_types.specs.declared.setup.Node.{Node}
-use Rattle.line_runs.specs.Numbered.{AreNumbered, IsNumberedBegun, IsNumberedRun, begun_answer, begun_between, begun_echo, begun_end, numbered_end, numbered_stop}
-use Rattle.line_runs.specs.declared.outcome.Ran.{Ran}
-use Rattle.line_runs.specs.declared.run.Turn.TheVariants.{Ended}
-use Rattle.node_keepers.specs.Opening.{Source}
-use Rattle.node_cell.specs.Keepers.{Keeper}
+use Rattle.ocpi_types.specs.{Node}
+use Rattle.line_runs.specs.{AreNumbered, Ended, IsNumberedBegun, IsNumberedRun, Ran, begun_answer, begun_between}
+use Rattle.line_runs.specs.{begun_echo, begun_end, numbered_end, numbered_stop}
+use Rattle.node_keepers.specs.{Source}
+use Rattle.node_cell.specs.{Keeper}
 use Rattle.node_cell.specs.Stored.{Stored}
 use Rattle.done_laws.specs.Laws.{IsWhole}
-use Rattle.node_runs.specs.NodeAnswers.{NodeEndGives, NodeLineGives}
-use Rattle.node_runs.specs.NodeTurns.{Running, Stage, opening}
+use Rattle.node_runs.specs.{NodeEndGives, NodeLineGives, Running, Stage, opening}
 use Rattle.node_transcripts.specs.Laws.{IsAsked, IsCutTranscript}
 use Rattle.node_transcripts.specs.Readable.{AreTold, HasNoRows, IsPlain, IsToldTurn, RunOpensSo}
 

@@ -1,34 +1,23 @@
 -- What is asked of a run of `node`, so that what it writes is read as it happened.
 use Rattle.std.specs.Prelude.{◌≡◌, ◌≢◌, ℕ, ◌+◌, ◌<◌, Bool, List, All, Option, None, Some, Ok, Err, length}
 use Rattle.std.proofs.Common.{inl, inr}
-use Rattle.json_text.specs.declared.fault.JsonFault.{JsonFault}
-use Rattle.json_text.specs.declared.fault.JsonFault.TheVariants.{Memory}
-use Rattle.ocpi_types.specs.declared.packet.Packet.{Packet}
-use Rattle.ocpi_types.specs.declared.setup.Node.{Node}
-use Rattle.ocpi_json.specs.Packets.{packet_in, packet_text}
-use Rattle.ocpi_json.specs.SetupForms.{setup_in}
-use Rattle.world_laws.specs.Laws.{IsSetup}
-use Rattle.line_runs.specs.Numbered.{AreNumbered, empty_line, none_numbered, refused_line, taken_line}
-use Rattle.line_runs.specs.declared.outcome.Ran.{Ran}
-use Rattle.line_runs.specs.declared.run.Turn.{Turn}
-use Rattle.line_runs.specs.declared.run.Turn.TheVariants.{Refused, Taken}
+use Rattle.json_text.specs.{JsonFault, Memory, Read}
+use Rattle.ocpi_types.specs.{Node, NodeEvent, Packet}
+use Rattle.ocpi_json.specs.{packet_in, packet_text, setup_in}
+use Rattle.world_laws.specs.{IsSetup}
+use Rattle.line_runs.specs.{AreNumbered, Ran, Refused, Taken, Turn, empty_line, none_numbered, refused_line, taken_line}
 use Rattle.std.specs.FinMap.{empty}
-use Rattle.node_keepers.specs.Opening.{Source}
-use Rattle.node_cell.specs.Keepers.{Keeper}
+use Rattle.node_keepers.specs.{Source}
+use Rattle.node_cell.specs.{Keeper}
 use Rattle.node_cell.specs.Stored.{Stored}
-use Rattle.transcript_lines.specs.Dones.{done_in, run_without_lines}
+use Rattle.transcript_lines.specs.{done_in, run_without_lines}
 use Rattle.done_laws.specs.Laws.{IsWhole}
 use Rattle.transcripts.specs.Following.{MayStarve}
-use Rattle.node_runs.specs.NodeAnswers.{LineTurn, NodeLineGives, NodeTurn, OneEvent, SeveralEvents}
-use Rattle.json_text.specs.Fault.{Read}
-use Rattle.ocpi_types.specs.declared.node_events.NodeEvent.{NodeEvent}
-use Rattle.world_steps.specs.Steps.{NodeEvent as Deed, packets_of}
-use Rattle.world_steps.specs.World.{NodeState}
-use Rattle.node_runs.specs.ListTurns.{AreDone, PlacedTurn}
+use Rattle.node_runs.specs.{AreDone, EventTurn, LineTurn, NodeLineGives, NodeStop, NodeTurn, OneEvent, PlacedTurn}
+use Rattle.node_runs.specs.{Running, SetupTurn, SeveralEvents, Stage}
+use Rattle.world_steps.specs.{NodeEvent as Deed, NodeState, packets_of}
 use Rattle.node_runs.specs.ListTurns as lists
-use Rattle.node_runs.specs.NodeTurns.{EventTurn, Running, SetupTurn, Stage}
 use Rattle.node_runs.specs.NodeTurns as turns
-use Rattle.node_runs.specs.declared.fault.NodeStop.{NodeStop}
 
 -- a packet is written as one line, which is read as that packet
 pub record IsReadable (p : Packet) : Type 0 where

@@ -1,17 +1,15 @@
 -- What `run_node` wrote, whenever its node ran, is one of the runs that may stand behind one another.
 use Rattle.std.specs.Prelude.{◌≡◌, ℕ, ◌+◌, true, List, ◌++◌, Option, None, Some, length}
-use Rattle.ocpi_types.specs.declared.setup.Node.{Node}
-use Rattle.line_runs.specs.Numbered.{IsNumberedBegun, IsNumberedRun, begun_answer, begun_between, begun_echo, begun_end, numbered_end, numbered_stop}
-use Rattle.line_runs.specs.declared.outcome.Ran.{Ran}
-use Rattle.line_runs.specs.declared.run.Turn.{Turn}
-use Rattle.node_store.specs.Contents.{Content}
-use Rattle.node_keepers.specs.Opening.{Source}
-use Rattle.node_cell.specs.Keepers.{Keeper}
+use Rattle.ocpi_types.specs.{Node}
+use Rattle.line_runs.specs.{IsNumberedBegun, IsNumberedRun, Ran, Turn, begun_answer, begun_between, begun_echo}
+use Rattle.line_runs.specs.{begun_end, numbered_end, numbered_stop}
+use Rattle.node_store.specs.{Content}
+use Rattle.node_keepers.specs.{Source}
+use Rattle.node_cell.specs.{Keeper}
 use Rattle.done_laws.specs.Laws.{IsWhole}
-use Rattle.node_runs.specs.NodeAnswers.{NodeEndGives, NodeLineGives, NodeTurn}
-use Rattle.node_runs.specs.NodeTurns.{IsUnbegun, Running, SetupTurn, Stage, keep_in, opening}
+use Rattle.node_runs.specs.{IsUnbegun, NodeEndGives, NodeLineGives, NodeStop, NodeTurn, Running, SetupTurn, Stage}
+use Rattle.node_runs.specs.{keep_in, opening}
 use Rattle.node_runs.specs.NodeTurns as turns
-use Rattle.node_runs.specs.declared.fault.NodeStop.{NodeStop}
 use Rattle.node_transcripts.specs.LaterRuns.{IsBegunRun, IsLeftBy, IsReadBehind, IsSameNode, IsUnbegunRun, Tail}
 use Rattle.node_transcripts.specs.Outputs.{IsReadBegun, IsReadWhole}
 use Rattle.node_transcripts.specs.Readable.{IsPlain, OpensSo}

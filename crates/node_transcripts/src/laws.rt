@@ -1,7 +1,7 @@
 //! What is read of what `node` writes. Each law is the contract of a function that does nothing of its own.
 
-ghost use Rattle.node_cell.specs.Keepers.{keeper_of};
-ghost use Rattle.node_keepers.specs.Opening.{source_of};
+ghost use Rattle.node_cell.specs.{keeper_of};
+ghost use Rattle.node_keepers.specs.{source_of};
 ghost use Rattle.node_transcripts.specs.LaterRuns.{FirstLinesEndRuns, SeveralRunsAreTranscripts};
 ghost use Rattle.node_transcripts.specs.Laws.{CutRunsAreTranscripts, EchoesAreTranscripts, RunsAreTranscripts};
 ghost use Rattle.node_transcripts.specs.Outputs.{BegunRunsAreTranscripts, WholeRunsAreTranscripts};

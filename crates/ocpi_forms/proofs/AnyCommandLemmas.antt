@@ -2,11 +2,11 @@
 use Rattle.std.proofs.Common.{◌≡◌, ℕ, ◌≤◌, Ok, refl, sym, subst, ap, ◌∙◌, arith}
 use Rattle.json.specs.Json as json
 use Rattle.serde_json.specs.Data.{Data}
-use Rattle.ocpi_types.specs.declared.commands.Command.{Command}
-use Rattle.ocpi_types.specs.declared.commands.Command.TheVariants as command
+use Rattle.ocpi_types.specs.{Command}
+use Rattle.ocpi_types.specs.command
 use Rattle.ocpi_forms.specs.declared.any_command.CommandKind.{CommandKind}
 use Rattle.ocpi_forms.specs.declared.any_command.CommandKind.TheVariants as order
-use Rattle.json_text.specs.Members.{object_of}
+use Rattle.json_text.specs.{object_of}
 use Rattle.json_text.proofs.Exact.{Exact, ok_is, bind_ok}
 use Rattle.json_text.proofs.MemberForms.{tree}
 use Rattle.json_text.proofs.WellFormed.{IsWell}

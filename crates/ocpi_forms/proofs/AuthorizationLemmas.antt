@@ -1,28 +1,18 @@
 -- Authorizations are read just where the tree has their form, and what is written is read again.
-use Rattle.std.proofs.Common.{◌≡◌, ℕ, ◌<◌, Bool, true, false, cond, Option, Some, Ok, refl, subst, arith}
-use Rattle.std.specs.Prelude.{◌==◌, IfSome}
+use Rattle.std.proofs.Common.{◌≡◌, ℕ, ◌<◌, Bool, true, false, cond, Option, Some, Ok, refl, subst, arith, ◌==◌, IfSome}
 use Rattle.std.proofs.lemmas.Bool.{eqb-true, eqb-false, ne_eqb}
 use Rattle.serde_json.specs.Data.{Data}
-use Rattle.ocpi_text.specs.Text.{ci_text}
-use Rattle.ocpi_types.specs.Fields.{name_of}
-use Rattle.ocpi_types.specs.Words.{token_type_of, token_type_word, allowed_of, allowed_word}
-use Rattle.ocpi_types.specs.declared.field.Field.{Field}
-use Rattle.ocpi_types.specs.declared.field.Field.TheVariants as field
-use Rattle.ocpi_types.specs.declared.authorizations.LocationReferences.{LocationReferences}
-use Rattle.ocpi_types.specs.declared.authorizations.Authorize.{Authorize}
-use Rattle.ocpi_types.specs.declared.authorizations.AuthorizationInfo.{AuthorizationInfo}
-use Rattle.ocpi_types.specs.declared.authorizations.Authorization.{Authorization}
-use Rattle.ocpi_types.specs.declared.authorizations.Authorization.TheVariants as authorization
-use Rattle.ocpi_types.specs.declared.words.AllowedType.{AllowedType}
-use Rattle.ocpi_types.specs.declared.words.AllowedType.TheVariants as allowed
+use Rattle.ocpi_text.specs.{ci_text}
+use Rattle.ocpi_types.specs.{AllowedType, Authorization, AuthorizationInfo, Authorize, Field, LocationReferences}
+use Rattle.ocpi_types.specs.{allowed_of, allowed_word, name_of, token_type_of, token_type_word}
+use Rattle.ocpi_types.specs.field
+use Rattle.ocpi_types.specs.authorization
+use Rattle.ocpi_types.specs.allowed
 use Rattle.ocpi_forms.specs.AuthorizationForms.{uid_at, evse_uids_in, location_references_at, location_references_in, location_references_members, LocationReferencesFits, IsLocationReferences, authorize_at, authorize_members, AuthorizeFits, IsAuthorize, authorization_info_at, authorization_info_members, AuthorizationInfoFits, IsAuthorizationInfo, reply_at, authorization_at, authorization_members, AuthorizationFits, IsAuthorization}
-use Rattle.json_text.specs.Fault.{◌>>=◌}
-use Rattle.json_text.specs.Fields.{as_text, ci_in, moment_in, word_in, record_in, optional}
-use Rattle.json_text.specs.Form.{Required, Optional, IsCi, IsMoment, IsWhole, IsRecord, IsList}
-use Rattle.json_text.specs.Members.{object_of}
+use Rattle.json_text.specs.{IsCi, IsList, IsMoment, IsRecord, IsWhole, Optional, Required, as_text, ci_in, is_tagged}
+use Rattle.json_text.specs.{moment_in, object_of, optional, record_in, word_in, ◌>>=◌}
 use Rattle.ocpi_forms.specs.Statuses.{status_in, IsStatus}
 use Rattle.ocpi_forms.specs.Tokens.{token_at, token_members, IsToken}
-use Rattle.json_text.specs.Tag.{is_tagged}
 use Rattle.json_text.proofs.Elements.{every_exact}
 use Rattle.json_text.proofs.Exact.{Exact, done, ok_is, bind_ok, both_steps, text_exact, formed_ok, ci_exact, moment_exact, word_exact, optional_exact, optional_ci_exact, optional_word_exact, inner_exact}
 use Rattle.json_text.proofs.MemberForms.{tree, ci_form, word_form, whole_form, moment_form, inner_form, optional_ci_form, optional_word_form, optional_inner_form, optional_uids_form}

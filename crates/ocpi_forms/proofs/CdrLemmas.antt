@@ -2,10 +2,8 @@
 use Rattle.std.proofs.Common.{◌≡◌, ◌≤◌, ℕ, true, refl, subst, arith}
 use Rattle.json.specs.Json as json
 use Rattle.serde_json.specs.Data.{Data}
-use Rattle.ocpi_types.specs.Fields.{name_of}
-use Rattle.ocpi_types.specs.Words.{method_of, method_word}
-use Rattle.ocpi_types.specs.declared.cdrs.Cdr.{Cdr}
-use Rattle.ocpi_types.specs.declared.field.Field.TheVariants as field
+use Rattle.ocpi_types.specs.{Cdr, method_of, method_word, name_of}
+use Rattle.ocpi_types.specs.field
 use Rattle.ocpi_forms.specs.declared.cdrs.CdrCharges.{CdrCharges}
 use Rattle.ocpi_forms.specs.declared.cdrs.CdrHead.{CdrHead}
 use Rattle.ocpi_forms.specs.declared.cdrs.CdrTotals.{CdrTotals}
@@ -15,10 +13,9 @@ use Rattle.ocpi_forms.specs.CdrForms.{cdr_head_at, cdr_totals_in, cdr_charges_in
 use Rattle.ocpi_forms.specs.CdrLocationForms.{cdr_location_at, cdr_location_members, IsCdrLocation}
 use Rattle.ocpi_forms.specs.ChargingPeriodForms.{charging_periods_in, charging_period_members, IsChargingPeriod, ChargingPeriodFits}
 use Rattle.ocpi_forms.specs.CreditForms.{credit_reference_in, HasCredit}
-use Rattle.json_text.specs.Fault.{◌>>=◌}
-use Rattle.json_text.specs.Fields.{ci_in, country_in, free_in, moment_in, optional, party_id_in, quantity_in, record_in, word_in}
-use Rattle.json_text.specs.Form.{Required, Optional, IsCi, IsFree, IsMoment, IsQuantity, IsRecord, IsWord, HasParty, IsNonEmpty}
-use Rattle.json_text.specs.Members.{object_of}
+use Rattle.json_text.specs.{HasParty, IsCi, IsFree, IsMoment, IsNonEmpty, IsQuantity, IsRecord, IsWord, Optional}
+use Rattle.json_text.specs.{Required, ci_in, country_in, free_in, moment_in, object_of, optional, party_id_in}
+use Rattle.json_text.specs.{quantity_in, record_in, word_in, ◌>>=◌}
 use Rattle.ocpi_forms.specs.SessionForms.{cdr_token_at, cdr_token_members, price_in, price_members, IsCdrToken, IsPrice}
 use Rattle.ocpi_forms.proofs.CdrLocationLemmas.{cdr_location_exact, cdr_location_form, cdr_location_well}
 use Rattle.ocpi_forms.proofs.ChargingPeriodLemmas.{charging_periods_exact, charging_period_form, charging_period_well}

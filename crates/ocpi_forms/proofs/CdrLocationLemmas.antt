@@ -2,19 +2,14 @@
 -- again.
 use Rattle.std.proofs.Common.{◌≡◌, true, refl, subst}
 use Rattle.serde_json.specs.Data.{Data}
-use Rattle.ocpi_types.specs.Fields.{name_of}
-use Rattle.ocpi_types.specs.declared.cdrs.CdrLocation.{CdrLocation}
-use Rattle.ocpi_types.specs.declared.cdrs.GeoLocation.{GeoLocation}
-use Rattle.ocpi_types.specs.declared.field.Field.TheVariants as field
+use Rattle.ocpi_types.specs.{CdrLocation, GeoLocation, name_of}
+use Rattle.ocpi_types.specs.field
 use Rattle.ocpi_forms.specs.declared.cdr_locations.Address.{Address}
 use Rattle.ocpi_forms.specs.declared.cdr_locations.ConnectorTexts.{ConnectorTexts}
 use Rattle.ocpi_forms.specs.declared.cdr_locations.EvsePart.{EvsePart}
 use Rattle.ocpi_forms.specs.declared.cdr_locations.PlacePart.{PlacePart}
 use Rattle.ocpi_forms.specs.CdrLocationForms.{geo_location_at, address_at, connector_texts_at, evse_part_at, place_part_at, cdr_location_at, geo_location_members, cdr_location_members, IsGeoLocation, IsCdrLocation, GeoLocationFits, CdrLocationFits}
-use Rattle.json_text.specs.Fault.{◌>>=◌}
-use Rattle.json_text.specs.Fields.{ci_in, free_in, record_in}
-use Rattle.json_text.specs.Form.{Required, IsCi, IsFree, IsRecord}
-use Rattle.json_text.specs.Members.{object_of}
+use Rattle.json_text.specs.{IsCi, IsFree, IsRecord, Required, ci_in, free_in, object_of, record_in, ◌>>=◌}
 use Rattle.json_text.proofs.Exact.{Exact, ok_is, bind_ok, both_steps, ci_exact, free_exact, inner_exact}
 use Rattle.json_text.proofs.MemberForms.{tree, ci_form, free_form, inner_form}
 use Rattle.json_text.proofs.Tagged.{ascends}

@@ -1,13 +1,9 @@
 -- Charging periods are read just where their tree has its form, and what is written of them is read again.
 use Rattle.std.proofs.Common.{◌≡◌, true, refl, subst}
-use Rattle.ocpi_types.specs.Fields.{name_of}
-use Rattle.ocpi_types.specs.declared.cdrs.CdrDimension.{CdrDimension}
-use Rattle.ocpi_types.specs.declared.cdrs.ChargingPeriod.{ChargingPeriod}
-use Rattle.ocpi_types.specs.declared.field.Field.TheVariants as field
+use Rattle.ocpi_types.specs.{CdrDimension, ChargingPeriod, name_of}
+use Rattle.ocpi_types.specs.field
 use Rattle.ocpi_forms.specs.ChargingPeriodForms.{cdr_dimension_at, dimensions_in, charging_period_at, charging_periods_in, cdr_dimension_members, charging_period_members, IsCdrDimension, IsChargingPeriod, CdrDimensionFits, ChargingPeriodFits}
-use Rattle.json_text.specs.Fields.{e4_in, free_in, moment_in}
-use Rattle.json_text.specs.Form.{Required, IsRecord, IsNonEmpty}
-use Rattle.json_text.specs.Members.{object_of}
+use Rattle.json_text.specs.{IsNonEmpty, IsRecord, Required, e4_in, free_in, moment_in, object_of}
 use Rattle.json_text.proofs.Elements.{non_empty_exact}
 use Rattle.json_text.proofs.Exact.{Exact, ok_is, bind_ok, e4_exact, free_exact, moment_exact, as_record_exact}
 use Rattle.json_text.proofs.MemberForms.{tree, e4_form, free_form, list_form, moment_form}

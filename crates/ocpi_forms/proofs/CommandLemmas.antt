@@ -1,20 +1,13 @@
 -- A command is read just where the tree has its form, and one that is written is read again.
 use Rattle.std.proofs.Common.{◌≡◌, true, refl, subst}
 use Rattle.serde_json.specs.Data.{Data}
-use Rattle.ocpi_types.specs.declared.field.Field.TheVariants as field
-use Rattle.ocpi_types.specs.declared.commands.StartSession.{StartSession}
-use Rattle.ocpi_types.specs.declared.commands.StopSession.{StopSession}
-use Rattle.ocpi_types.specs.declared.commands.ReserveNow.{ReserveNow}
-use Rattle.ocpi_types.specs.declared.commands.CancelReservation.{CancelReservation}
-use Rattle.ocpi_types.specs.declared.commands.UnlockConnector.{UnlockConnector}
-use Rattle.ocpi_types.specs.Fields.{name_of}
+use Rattle.ocpi_types.specs.field
+use Rattle.ocpi_types.specs.{CancelReservation, ReserveNow, StartSession, StopSession, UnlockConnector, name_of}
 use Rattle.ocpi_forms.specs.declared.commands.StartParts.{StartParts}
 use Rattle.ocpi_forms.specs.declared.commands.ReserveParts.{ReserveParts}
-use Rattle.json_text.specs.Fault.{◌>>=◌}
-use Rattle.json_text.specs.Fields.{ci_in, free_in, moment_in, record_in, optional}
-use Rattle.json_text.specs.Form.{Required, Optional, IsCi, IsMoment, IsRecord}
+use Rattle.json_text.specs.{IsCi, IsMoment, IsRecord, Optional, Required, ci_in, free_in, moment_in, object_of}
+use Rattle.json_text.specs.{optional, record_in, ◌>>=◌}
 use Rattle.ocpi_forms.specs.CommandForms.{start_parts_at, start_session_at, IsStartSession, start_session_members, StartSessionFits, stop_session_at, IsStopSession, stop_session_members, StopSessionFits, reserve_parts_at, reserve_now_at, IsReserveNow, reserve_now_members, ReserveNowFits, cancel_reservation_at, IsCancelReservation, cancel_reservation_members, CancelReservationFits, unlock_connector_at, IsUnlockConnector, unlock_connector_members, UnlockConnectorFits}
-use Rattle.json_text.specs.Members.{object_of}
 use Rattle.ocpi_forms.specs.Tokens.{token_at, token_members, IsToken}
 use Rattle.json_text.proofs.Exact.{Exact, ok_is, bind_ok, both_steps, ci_exact, free_exact, moment_exact, optional_ci_exact, inner_exact}
 use Rattle.json_text.proofs.MemberForms.{tree, ci_form, free_form, moment_form, inner_form, optional_ci_form}

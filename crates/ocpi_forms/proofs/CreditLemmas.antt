@@ -3,14 +3,11 @@
 use Rattle.std.proofs.Common.{◌≡◌, ℕ, Bool, true, false, List, Option, Some, None, Ok, option_map, refl, ap, subst, ◌∙◌, inl, inr}
 use Rattle.json.specs.Json as json
 use Rattle.serde_json.specs.Data.{Data}
-use Rattle.ocpi_types.specs.declared.field.Field.TheVariants as field
+use Rattle.ocpi_types.specs.field
 use Rattle.ocpi_forms.specs.declared.credits.CdrForm.{CdrForm}
 use Rattle.ocpi_forms.specs.declared.credits.CdrForm.TheVariants as form
 use Rattle.ocpi_forms.specs.CreditForms.{is_true, credit_in, reference_where, credit_reference_in, SaysBill, HasCredit, credit_value}
-use Rattle.json_text.specs.Fields.{ci_in, optional, truth_in}
-use Rattle.json_text.specs.Fits.{FitsOption}
-use Rattle.json_text.specs.Form.{Required, Optional, IsTruth}
-use Rattle.json_text.specs.Members.{Member}
+use Rattle.json_text.specs.{FitsOption, IsTruth, Member, Optional, Required, ci_in, optional, truth_in}
 use Rattle.json_text.proofs.Exact.{Exact, ok_is, bind_ok, ci_exact, optional_exact, truth_exact}
 use Rattle.json_text.proofs.MemberForms.{tree, Stands, ci_form, truth_form}
 use Rattle.json_text.proofs.Tagged.{tagged, get_is}

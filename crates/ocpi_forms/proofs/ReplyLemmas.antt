@@ -1,27 +1,17 @@
 -- A reply or result is read just where the tree has its form, and one that is written is read again.
-use Rattle.std.proofs.Common.{◌≡◌, ℕ, ◌<◌, Bool, true, false, cond, Some, Ok, refl, subst, arith}
-use Rattle.std.specs.Prelude.{◌==◌}
+use Rattle.std.proofs.Common.{◌≡◌, ℕ, ◌<◌, Bool, true, false, cond, Some, Ok, refl, subst, arith, ◌==◌}
 use Rattle.std.proofs.lemmas.Bool.{eqb-true, eqb-false, ne_eqb}
 use Rattle.serde_json.specs.Data.{Data}
-use Rattle.ocpi_types.specs.Fields.{name_of}
-use Rattle.ocpi_types.specs.Words.{response_of, response_word, result_of, result_word}
-use Rattle.ocpi_types.specs.declared.field.Field.TheVariants as field
-use Rattle.ocpi_types.specs.declared.words.CommandResponseType.{CommandResponseType}
-use Rattle.ocpi_types.specs.declared.words.CommandResponseType.TheVariants as answer
-use Rattle.ocpi_types.specs.declared.words.CommandResultType.{CommandResultType}
-use Rattle.ocpi_types.specs.declared.words.CommandResultType.TheVariants as outcome
-use Rattle.ocpi_types.specs.declared.replies.ResponseData.{ResponseData}
-use Rattle.ocpi_types.specs.declared.replies.CommandResponse.{CommandResponse}
+use Rattle.ocpi_types.specs.{Ack, CommandResponse, CommandResponseType, CommandResult, CommandResultType, ResponseData}
+use Rattle.ocpi_types.specs.{name_of, response_of, response_word, result_of, result_word}
+use Rattle.ocpi_types.specs.field
+use Rattle.ocpi_types.specs.response as answer
+use Rattle.ocpi_types.specs.result as outcome
 use Rattle.ocpi_types.specs.declared.replies.CommandResponse.TheVariants as response
-use Rattle.ocpi_types.specs.declared.replies.CommandResult.{CommandResult}
-use Rattle.ocpi_types.specs.declared.replies.Ack.{Ack}
-use Rattle.json_text.specs.Fault.{◌>>=◌}
-use Rattle.json_text.specs.Fields.{free_in, moment_in, word_in, whole_in, record_in}
-use Rattle.json_text.specs.Form.{Required, IsMoment, IsWhole, IsRecord}
-use Rattle.json_text.specs.Members.{object_of}
+use Rattle.json_text.specs.{IsMoment, IsRecord, IsWhole, Required, free_in, is_tagged, moment_in, object_of, record_in}
+use Rattle.json_text.specs.{whole_in, word_in, ◌>>=◌}
 use Rattle.ocpi_forms.specs.ReplyForms.{response_data_at, IsResponseData, response_data_members, ResponseDataFits, response_at, command_response_at, IsCommandResponse, command_response_members, CommandResponseFits, command_result_at, IsCommandResult, command_result_members, CommandResultFits, ack_at, IsAck, ack_members, AckFits}
 use Rattle.ocpi_forms.specs.Statuses.{status_in, IsStatus}
-use Rattle.json_text.specs.Tag.{is_tagged}
 use Rattle.json_text.proofs.Exact.{Exact, done, ok_is, bind_ok, both_steps, free_exact, moment_exact, word_exact, whole_exact, inner_exact}
 use Rattle.json_text.proofs.MemberForms.{tree, free_form, word_form, whole_form, moment_form, inner_form}
 use Rattle.ocpi_forms.proofs.StatusLemmas.{status_exact, status_form, status_well}

@@ -6,21 +6,13 @@ use Rattle.std.specs.FinSet.{FinSet, contains, insert, from_list, from_list_push
 use Rattle.std.proofs.lemmas.List.{append-nil, map-append}
 use Rattle.std.proofs.lemmas.Grind.{flat_map-append}
 use Rattle.serde_json.specs.Data.{Data}
-use Rattle.json_text.specs.Trees.{view, items_view}
-use Rattle.json_text.specs.declared.trees.Tree.{Tree}
-use Rattle.ocpi_text.specs.Text.{key}
-use Rattle.ocpi_types.specs.Locations.{evse_keys, location_keys, site_evse_keys}
-use Rattle.ocpi_types.specs.declared.field.Field.{Field}
-use Rattle.ocpi_types.specs.declared.site.Evse.{Evse}
-use Rattle.ocpi_types.specs.declared.site.Location.{Location}
+use Rattle.json_text.specs.{Fails, JsonFault, Read, Tree, WrongForm, as_record, ci_in, each_after, is_among, items_view}
+use Rattle.json_text.specs.{new_ci_in, view, ◌>>=◌}
+use Rattle.ocpi_text.specs.{key}
+use Rattle.ocpi_types.specs.{Evse, Field, Location, evse_keys, location_keys, site_evse_keys}
 use Rattle.ocpi_types.proofs.Ids.{exact, tested}
-use Rattle.json_text.specs.declared.fault.JsonFault.{JsonFault}
-use Rattle.json_text.specs.declared.fault.JsonFault.TheVariants.{WrongForm}
 use Rattle.ocpi_forms.specs.declared.sites.SiteIds.{SiteIds}
-use Rattle.json_text.specs.Fault.{Fails, Read, ◌>>=◌}
-use Rattle.json_text.specs.Fields.{as_record, ci_in, each_after}
 use Rattle.ocpi_forms.specs.SeenIds.{HasIds}
-use Rattle.json_text.specs.Lists.{is_among, new_ci_in}
 use Rattle.ocpi_forms.specs.Sites.{evse_element, location_element}
 use Rattle.json_text.proofs.Fails.{Fails-err, Fails-through}
 use Rattle.json_text.proofs.Exact.{both_steps}

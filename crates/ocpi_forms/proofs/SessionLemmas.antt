@@ -1,26 +1,18 @@
 -- Sessions, their tokens and prices are read just where the tree has their form, and what is written of them is read
 -- again.
-use Rattle.std.proofs.Common.{◌≡◌, true, false, Option, Some, refl, subst}
-use Rattle.std.specs.Prelude.{IfSome}
+use Rattle.std.proofs.Common.{◌≡◌, true, false, Option, Some, refl, subst, IfSome}
 use Rattle.serde_json.specs.Data.{Data}
-use Rattle.ocpi_types.specs.declared.field.Field.TheVariants as field
-use Rattle.ocpi_types.specs.declared.sessions.Price.{Price}
-use Rattle.ocpi_types.specs.declared.token.CdrToken.{CdrToken}
-use Rattle.ocpi_types.specs.declared.words.AuthMethod.{AuthMethod}
-use Rattle.ocpi_types.specs.declared.words.AuthMethod.TheVariants as method
-use Rattle.ocpi_types.specs.declared.words.SessionStatus.{SessionStatus}
-use Rattle.ocpi_types.specs.declared.words.SessionStatus.TheVariants as status
-use Rattle.ocpi_types.specs.Fields.{name_of}
-use Rattle.ocpi_types.specs.Words.{token_type_of, token_type_word, method_of, method_word, status_of, status_word}
-use Rattle.ocpi_types.specs.declared.field.Field.{Field}
-use Rattle.ocpi_types.specs.declared.sessions.Session.{Session}
+use Rattle.ocpi_types.specs.field
+use Rattle.ocpi_types.specs.{AuthMethod, CdrToken, Field, Price, Session, SessionStatus, method_of, method_word}
+use Rattle.ocpi_types.specs.{name_of, status_of, status_word, token_type_of, token_type_word}
+use Rattle.ocpi_types.specs.how as method
+use Rattle.ocpi_types.specs.status
 use Rattle.ocpi_forms.specs.declared.sessions.ChargingParts.{ChargingParts}
 use Rattle.ocpi_forms.specs.declared.sessions.PlaceParts.{PlaceParts}
-use Rattle.json_text.specs.Fields.{ci_in, free_in, moment_in, word_in, e4_in, quantity_in, record_in, country_in, party_id_in, optional}
-use Rattle.json_text.specs.Form.{Required, Optional, IsCi, IsFree, IsMoment, IsWord, IsQuantity, IsRecord, HasParty}
+use Rattle.json_text.specs.{HasParty, IsCi, IsFree, IsMoment, IsQuantity, IsRecord, IsWord, Optional, Required, ci_in}
+use Rattle.json_text.specs.{country_in, e4_in, free_in, is_tagged, moment_in, object_of, optional, party_id_in}
+use Rattle.json_text.specs.{quantity_in, record_in, word_in}
 use Rattle.ocpi_forms.specs.SessionForms.{cdr_token_at, cdr_token_members, CdrTokenFits, IsCdrToken, price_at, price_in, price_members, PriceFits, IsPrice, charging_parts_at, place_parts_at, session_at, session_members, SessionFits, IsSession}
-use Rattle.json_text.specs.Members.{object_of}
-use Rattle.json_text.specs.Tag.{is_tagged}
 use Rattle.json_text.proofs.Exact.{Exact, ok_is, bind_ok, both_steps, ci_exact, free_exact, moment_exact, word_exact, e4_exact, quantity_exact, country_exact, party_id_exact, optional_exact, optional_ci_exact, optional_moment_exact, inner_exact}
 use Rattle.json_text.proofs.MemberForms.{tree, country_begins, party_id_begins, halves_form, ci_form, free_form, word_form, moment_form, e4_form, quantity_form, inner_form, optional_ci_form, optional_moment_form, optional_inner_form}
 use Rattle.json_text.proofs.Tagged.{ascends}

@@ -1,13 +1,10 @@
 -- A status code is read just where the tree has its form, and one that is written is read again.
 use Rattle.std.proofs.Common.{◌≡◌, ℕ, ◌≤◌, Bool, true, false, cond, List, Some, Ok, Err, decimal, refl, subst, arith}
-use Rattle.std.specs.Prelude.{nat_le, ◌&&◌}
+use Rattle.std.proofs.Common.{nat_le, ◌&&◌}
 use Rattle.std.proofs.lemmas.Bool.{and_parts, and_from, leb-true, le-leb}
 use Rattle.json.specs.Json as json
-use Rattle.ocpi_types.specs.declared.field.Field.TheVariants as field
-use Rattle.json_text.specs.declared.fault.JsonFault.TheVariants.{WrongForm}
-use Rattle.json_text.specs.Fields.{whole_in}
-use Rattle.json_text.specs.Form.{Required, IsWhole}
-use Rattle.json_text.specs.Members.{Member}
+use Rattle.ocpi_types.specs.field
+use Rattle.json_text.specs.{IsWhole, Member, Required, WrongForm, whole_in}
 use Rattle.ocpi_forms.specs.Statuses.{status_at, status_in, IsStatus}
 use Rattle.json_text.proofs.Exact.{Exact, done, ok_is, bind_ok, whole_exact}
 use Rattle.json_text.proofs.MemberForms.{Stands, tree, whole_form}

@@ -1,20 +1,15 @@
 -- A token is read just where the tree has a token's form, and a token that is written is read again.
 use Rattle.std.proofs.Common.{◌≡◌, true, false, Some, refl, subst}
-use Rattle.ocpi_types.specs.declared.field.Field.TheVariants as field
-use Rattle.ocpi_types.specs.declared.token.Token.{Token}
-use Rattle.ocpi_types.specs.declared.words.TokenType.{TokenType}
-use Rattle.ocpi_types.specs.declared.words.TokenType.TheVariants as type
-use Rattle.ocpi_types.specs.declared.words.WhitelistType.{WhitelistType}
+use Rattle.ocpi_types.specs.field
+use Rattle.ocpi_types.specs.{Token, TokenType, WhitelistType, name_of, token_type_of, token_type_word, whitelist_of}
+use Rattle.ocpi_types.specs.{whitelist_word}
+use Rattle.ocpi_types.specs.type
 use Rattle.ocpi_types.specs.declared.words.WhitelistType.TheVariants as list
-use Rattle.ocpi_types.specs.Fields.{name_of}
-use Rattle.ocpi_types.specs.Words.{token_type_of, token_type_word, whitelist_of, whitelist_word}
-use Rattle.json_text.specs.Fields.{ci_in, free_in, moment_in, truth_in, word_in, country_in, party_id_in}
+use Rattle.json_text.specs.{ci_in, country_in, free_in, is_tagged, moment_in, object_of, party_id_in, truth_in, word_in}
 use Rattle.ocpi_forms.specs.Tokens.{token_at, token_members, IsToken, TokenFits}
 use Rattle.json_text.proofs.MemberForms.{tree, country_begins, party_id_begins, halves_form, ci_form, free_form, word_form, truth_form, moment_form}
 use Rattle.json_text.proofs.Tagged.{ascends}
 use Rattle.json_text.proofs.WellFormed.{◌and◌, IsWell, record_well, text_well, ci_well, free_well, moment_well, truth_well}
-use Rattle.json_text.specs.Members.{object_of}
-use Rattle.json_text.specs.Tag.{is_tagged}
 use Rattle.json_text.proofs.Exact.{Exact, ok_is, bind_ok, ci_exact, free_exact, moment_exact, truth_exact, word_exact, country_exact, party_id_exact}
 
 pub token_exact : Exact token_at IsToken

@@ -1,12 +1,11 @@
 -- A command of any kind in JSON (OCPI 2.2.1, Commands): how it is read, which form its tree has, and what is written.
 use Rattle.std.specs.Prelude.{List, Ok}
 use Rattle.serde_json.specs.Data.{Data}
-use Rattle.ocpi_types.specs.declared.commands.Command.{Command}
-use Rattle.ocpi_types.specs.declared.commands.Command.TheVariants as command
+use Rattle.ocpi_types.specs.{Command}
+use Rattle.ocpi_types.specs.command
 use Rattle.ocpi_forms.specs.declared.any_command.CommandKind.{CommandKind}
 use Rattle.ocpi_forms.specs.declared.any_command.CommandKind.TheVariants as order
-use Rattle.json_text.specs.Fault.{Read, ◌>>=◌}
-use Rattle.json_text.specs.Members.{Member}
+use Rattle.json_text.specs.{Member, Read, ◌>>=◌}
 use Rattle.ocpi_forms.specs.CommandForms.{start_session_at, stop_session_at, reserve_now_at, cancel_reservation_at, unlock_connector_at, IsStartSession, IsStopSession, IsReserveNow, IsCancelReservation, IsUnlockConnector, start_session_members, stop_session_members, reserve_now_members, cancel_reservation_members, unlock_connector_members, StartSessionFits, StopSessionFits, ReserveNowFits, CancelReservationFits, UnlockConnectorFits}
 
 -- which of the kinds it has

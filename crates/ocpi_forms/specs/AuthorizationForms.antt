@@ -4,21 +4,15 @@
 use Rattle.std.specs.List.{All}
 use Rattle.std.specs.Prelude.{ℕ, ◌≤◌, List, [], ◌∷◌, ◌==◌, Ok, IfSome, option_map, if◌then◌else◌}
 use Rattle.serde_json.specs.Data.{Data}
-use Rattle.ocpi_text.specs.Moment.{last_moment}
-use Rattle.ocpi_text.specs.Text.{ci_text}
-use Rattle.ocpi_types.specs.Words.{token_type_of, token_type_word, allowed_of, allowed_word}
-use Rattle.ocpi_types.specs.declared.field.Field.{Field}
-use Rattle.ocpi_types.specs.declared.field.Field.TheVariants as field
-use Rattle.ocpi_types.specs.declared.authorizations.LocationReferences.{LocationReferences}
-use Rattle.ocpi_types.specs.declared.authorizations.Authorize.{Authorize}
-use Rattle.ocpi_types.specs.declared.authorizations.AuthorizationInfo.{AuthorizationInfo}
-use Rattle.ocpi_types.specs.declared.authorizations.Authorization.{Authorization}
-use Rattle.ocpi_types.specs.declared.authorizations.Authorization.TheVariants as authorization
-use Rattle.json_text.specs.Fault.{Read, ◌>>=◌}
-use Rattle.json_text.specs.Fields.{as_text, formed, ci_in, moment_in, word_in, record_in, list_in, optional, each_after}
-use Rattle.json_text.specs.Fits.{FitsCi, FitsOption}
-use Rattle.json_text.specs.Form.{Required, Optional, IsCi, IsMoment, IsWord, IsWhole, IsRecord, IsList}
-use Rattle.json_text.specs.Members.{Member, text, optional_text, whole, moment, inner, optional_inner, optional_listed, strings}
+use Rattle.ocpi_text.specs.{ci_text, last_moment}
+use Rattle.ocpi_types.specs.{Authorization, AuthorizationInfo, Authorize, Field, LocationReferences, allowed_of}
+use Rattle.ocpi_types.specs.{allowed_word, token_type_of, token_type_word}
+use Rattle.ocpi_types.specs.field
+use Rattle.ocpi_types.specs.authorization
+use Rattle.json_text.specs.{FitsCi, FitsOption, IsCi, IsList, IsMoment, IsRecord, IsWhole, IsWord, Member, Optional}
+use Rattle.json_text.specs.{Read, Required, as_text, ci_in, each_after, formed, inner, list_in, moment, moment_in}
+use Rattle.json_text.specs.{optional, optional_inner, optional_listed, optional_text, record_in, strings, text, whole}
+use Rattle.json_text.specs.{word_in, ◌>>=◌}
 use Rattle.ocpi_forms.specs.ReplyForms.{IsRefused, RefusedFits}
 use Rattle.ocpi_forms.specs.Statuses.{status_in}
 use Rattle.ocpi_forms.specs.Tokens.{token_at, token_members, IsToken, TokenFits}

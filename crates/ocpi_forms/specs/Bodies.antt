@@ -2,13 +2,11 @@
 -- tree has, and what is written.
 use Rattle.std.specs.Prelude.{List, Ok}
 use Rattle.serde_json.specs.Data.{Data}
-use Rattle.ocpi_types.specs.declared.packet.Body.{Body}
-use Rattle.ocpi_types.specs.declared.packet.Body.TheVariants as body
-use Rattle.ocpi_types.specs.declared.words.PacketKind.{PacketKind}
+use Rattle.ocpi_types.specs.{Body, PacketKind}
+use Rattle.ocpi_types.specs.body
 use Rattle.ocpi_types.specs.declared.words.PacketKind.TheVariants as kind
 use Rattle.ocpi_forms.specs.declared.any_command.CommandKind.TheVariants as order
-use Rattle.json_text.specs.Fault.{Read, ◌>>=◌}
-use Rattle.json_text.specs.Members.{Member}
+use Rattle.json_text.specs.{Member, Read, ◌>>=◌}
 use Rattle.ocpi_forms.specs.AnyCommand.{command_at, IsCommand, command_members, CommandFits}
 use Rattle.ocpi_forms.specs.AuthorizationForms.{authorize_at, authorization_at, IsAuthorize, IsAuthorization, authorize_members, authorization_members, AuthorizeFits, AuthorizationFits}
 use Rattle.ocpi_forms.specs.CdrForms.{cdr_at, IsCdr, cdr_members, CdrFits}

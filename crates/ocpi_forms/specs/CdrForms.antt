@@ -2,11 +2,9 @@
 -- object); as they are sent, and as they are stored in rows. The two differ in what they say of credits alone.
 use Rattle.std.specs.Prelude.{◌≡◌, ◌≤◌, List, [], ◌∷◌, All, length, Ok}
 use Rattle.serde_json.specs.Data.{Data}
-use Rattle.ocpi_text.specs.Moment.{last_moment}
-use Rattle.ocpi_text.specs.Party.{party_at, party_of, country_of, party_id_of}
-use Rattle.ocpi_types.specs.Words.{method_of, method_word}
-use Rattle.ocpi_types.specs.declared.cdrs.Cdr.{Cdr}
-use Rattle.ocpi_types.specs.declared.field.Field.TheVariants as field
+use Rattle.ocpi_text.specs.{country_of, last_moment, party_at, party_id_of, party_of}
+use Rattle.ocpi_types.specs.{Cdr, method_of, method_word}
+use Rattle.ocpi_types.specs.field
 use Rattle.ocpi_forms.specs.declared.cdrs.CdrCharges.{CdrCharges}
 use Rattle.ocpi_forms.specs.declared.cdrs.CdrHead.{CdrHead}
 use Rattle.ocpi_forms.specs.declared.cdrs.CdrTotals.{CdrTotals}
@@ -15,11 +13,10 @@ use Rattle.ocpi_forms.specs.declared.credits.CdrForm.TheVariants as form
 use Rattle.ocpi_forms.specs.CdrLocationForms.{cdr_location_at, cdr_location_members, CdrLocationFits, IsCdrLocation}
 use Rattle.ocpi_forms.specs.ChargingPeriodForms.{charging_periods_in, charging_period_members, ChargingPeriodFits, IsChargingPeriod}
 use Rattle.ocpi_forms.specs.CreditForms.{credit_reference_in, HasCredit, credit_member}
-use Rattle.json_text.specs.Fault.{Read, ◌>>=◌}
-use Rattle.json_text.specs.Fields.{ci_in, country_in, free_in, moment_in, optional, party_id_in, quantity_in, record_in, word_in}
-use Rattle.json_text.specs.Fits.{FitsCi, FitsFree, FitsOption, FitsQuantity}
-use Rattle.json_text.specs.Form.{Required, Optional, IsCi, IsFree, IsMoment, IsQuantity, IsRecord, IsWord, HasParty, IsNonEmpty}
-use Rattle.json_text.specs.Members.{Member, text, optional_text, moment, e4, inner, listed, objects}
+use Rattle.json_text.specs.{FitsCi, FitsFree, FitsOption, FitsQuantity, HasParty, IsCi, IsFree, IsMoment, IsNonEmpty}
+use Rattle.json_text.specs.{IsQuantity, IsRecord, IsWord, Member, Optional, Read, Required, ci_in, country_in, e4}
+use Rattle.json_text.specs.{free_in, inner, listed, moment, moment_in, objects, optional, optional_text, party_id_in}
+use Rattle.json_text.specs.{quantity_in, record_in, text, word_in, ◌>>=◌}
 use Rattle.ocpi_forms.specs.SessionForms.{cdr_token_at, cdr_token_members, price_in, price_members, CdrTokenFits, IsCdrToken, IsPrice, PriceFits}
 
 -- ---- reading, member by member, in the order in which faults are told

@@ -2,18 +2,14 @@
 -- (OCPI 2.2.1, CDRs: CdrLocation class; Locations: GeoLocation class).
 use Rattle.std.specs.Prelude.{List, [], ◌∷◌, Ok}
 use Rattle.serde_json.specs.Data.{Data}
-use Rattle.ocpi_types.specs.declared.cdrs.CdrLocation.{CdrLocation}
-use Rattle.ocpi_types.specs.declared.cdrs.GeoLocation.{GeoLocation}
-use Rattle.ocpi_types.specs.declared.field.Field.TheVariants as field
+use Rattle.ocpi_types.specs.{CdrLocation, GeoLocation}
+use Rattle.ocpi_types.specs.field
 use Rattle.ocpi_forms.specs.declared.cdr_locations.Address.{Address}
 use Rattle.ocpi_forms.specs.declared.cdr_locations.ConnectorTexts.{ConnectorTexts}
 use Rattle.ocpi_forms.specs.declared.cdr_locations.EvsePart.{EvsePart}
 use Rattle.ocpi_forms.specs.declared.cdr_locations.PlacePart.{PlacePart}
-use Rattle.json_text.specs.Fault.{Read, ◌>>=◌}
-use Rattle.json_text.specs.Fields.{ci_in, free_in, record_in}
-use Rattle.json_text.specs.Fits.{FitsCi, FitsFree}
-use Rattle.json_text.specs.Form.{Required, IsCi, IsFree, IsRecord}
-use Rattle.json_text.specs.Members.{Member, text, inner}
+use Rattle.json_text.specs.{FitsCi, FitsFree, IsCi, IsFree, IsRecord, Member, Read, Required, ci_in, free_in, inner}
+use Rattle.json_text.specs.{record_in, text, ◌>>=◌}
 
 -- ---- reading, member by member, in the order in which faults are told
 

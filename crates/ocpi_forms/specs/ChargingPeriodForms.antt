@@ -2,16 +2,12 @@
 -- written (OCPI 2.2.1, CDRs: ChargingPeriod and CdrDimension classes).
 use Rattle.std.specs.Prelude.{◌≤◌, ◌<◌, List, [], ◌∷◌, All, length, unsigned_abs, Ok}
 use Rattle.serde_json.specs.Data.{Data}
-use Rattle.ocpi_text.specs.Decimal.{e4_limit}
-use Rattle.ocpi_text.specs.Moment.{last_moment}
-use Rattle.ocpi_types.specs.declared.cdrs.CdrDimension.{CdrDimension}
-use Rattle.ocpi_types.specs.declared.cdrs.ChargingPeriod.{ChargingPeriod}
-use Rattle.ocpi_types.specs.declared.field.Field.TheVariants as field
-use Rattle.json_text.specs.Fault.{Read, ◌>>=◌}
-use Rattle.json_text.specs.Fields.{as_record, e4_in, free_in, moment_in, non_empty_in, each_after}
-use Rattle.json_text.specs.Fits.{FitsFree}
-use Rattle.json_text.specs.Form.{Required, IsE4, IsFree, IsMoment, IsRecord, IsNonEmpty}
-use Rattle.json_text.specs.Members.{Member, text, moment, e4, listed, objects}
+use Rattle.ocpi_text.specs.{e4_limit, last_moment}
+use Rattle.ocpi_types.specs.{CdrDimension, ChargingPeriod}
+use Rattle.ocpi_types.specs.field
+use Rattle.json_text.specs.{FitsFree, IsE4, IsFree, IsMoment, IsNonEmpty, IsRecord, Member, Read, Required, as_record}
+use Rattle.json_text.specs.{e4, e4_in, each_after, free_in, listed, moment, moment_in, non_empty_in, objects, text}
+use Rattle.json_text.specs.{◌>>=◌}
 
 -- ---- reading, member by member, in the order in which faults are told
 

@@ -2,20 +2,14 @@
 -- objects): how each is read, which form its tree has, and what is written.
 use Rattle.std.specs.Prelude.{◌≤◌, List, [], ◌∷◌, Ok}
 use Rattle.serde_json.specs.Data.{Data}
-use Rattle.ocpi_text.specs.Moment.{last_moment}
-use Rattle.ocpi_types.specs.declared.field.Field.TheVariants as field
-use Rattle.ocpi_types.specs.declared.commands.StartSession.{StartSession}
-use Rattle.ocpi_types.specs.declared.commands.StopSession.{StopSession}
-use Rattle.ocpi_types.specs.declared.commands.ReserveNow.{ReserveNow}
-use Rattle.ocpi_types.specs.declared.commands.CancelReservation.{CancelReservation}
-use Rattle.ocpi_types.specs.declared.commands.UnlockConnector.{UnlockConnector}
+use Rattle.ocpi_text.specs.{last_moment}
+use Rattle.ocpi_types.specs.field
+use Rattle.ocpi_types.specs.{CancelReservation, ReserveNow, StartSession, StopSession, UnlockConnector}
 use Rattle.ocpi_forms.specs.declared.commands.StartParts.{StartParts}
 use Rattle.ocpi_forms.specs.declared.commands.ReserveParts.{ReserveParts}
-use Rattle.json_text.specs.Fault.{Read, ◌>>=◌}
-use Rattle.json_text.specs.Fields.{ci_in, free_in, moment_in, record_in, optional}
-use Rattle.json_text.specs.Fits.{FitsCi, FitsFree, FitsOption}
-use Rattle.json_text.specs.Form.{Required, Optional, IsCi, IsFree, IsMoment, IsRecord}
-use Rattle.json_text.specs.Members.{Member, text, optional_text, moment, inner}
+use Rattle.json_text.specs.{FitsCi, FitsFree, FitsOption, IsCi, IsFree, IsMoment, IsRecord, Member, Optional, Read}
+use Rattle.json_text.specs.{Required, ci_in, free_in, inner, moment, moment_in, optional, optional_text, record_in}
+use Rattle.json_text.specs.{text, ◌>>=◌}
 use Rattle.ocpi_forms.specs.Tokens.{token_at, IsToken, token_members, TokenFits}
 
 -- ---- a start of a session

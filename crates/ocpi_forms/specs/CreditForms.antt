@@ -3,13 +3,10 @@
 use Rattle.std.specs.Prelude.{◌⊎◌, ℕ, List, Bool, true, false, Option, Some, None, Ok}
 use Rattle.json.specs.Json as json
 use Rattle.serde_json.specs.Data.{Data}
-use Rattle.ocpi_types.specs.declared.field.Field.TheVariants as field
+use Rattle.ocpi_types.specs.field
 use Rattle.ocpi_forms.specs.declared.credits.CdrForm.{CdrForm}
 use Rattle.ocpi_forms.specs.declared.credits.CdrForm.TheVariants as form
-use Rattle.json_text.specs.Fault.{Read, ◌>>=◌}
-use Rattle.json_text.specs.Fields.{ci_in, optional, some_of, truth_in}
-use Rattle.json_text.specs.Form.{Required, Lacks, IsCi, IsTruth}
-use Rattle.json_text.specs.Members.{Member}
+use Rattle.json_text.specs.{IsCi, IsTruth, Lacks, Member, Read, Required, ci_in, optional, some_of, truth_in, ◌>>=◌}
 
 -- ---- reading
 

@@ -2,20 +2,13 @@
 -- Response format): how each is read, which form its tree has, and what is written.
 use Rattle.std.specs.Prelude.{ℕ, ◌<◌, ◌≤◌, List, [], ◌∷◌, ◌==◌, Ok, if◌then◌else◌}
 use Rattle.serde_json.specs.Data.{Data}
-use Rattle.ocpi_text.specs.Moment.{last_moment}
-use Rattle.ocpi_text.specs.Whole.{max_whole}
-use Rattle.ocpi_types.specs.Words.{response_of, response_word, result_of, result_word}
-use Rattle.ocpi_types.specs.declared.field.Field.TheVariants as field
-use Rattle.ocpi_types.specs.declared.replies.ResponseData.{ResponseData}
-use Rattle.ocpi_types.specs.declared.replies.CommandResponse.{CommandResponse}
+use Rattle.ocpi_text.specs.{last_moment, max_whole}
+use Rattle.ocpi_types.specs.{Ack, CommandResponse, CommandResult, ResponseData, response_of, response_word, result_of}
+use Rattle.ocpi_types.specs.{result_word}
+use Rattle.ocpi_types.specs.field
 use Rattle.ocpi_types.specs.declared.replies.CommandResponse.TheVariants as response
-use Rattle.ocpi_types.specs.declared.replies.CommandResult.{CommandResult}
-use Rattle.ocpi_types.specs.declared.replies.Ack.{Ack}
-use Rattle.json_text.specs.Fault.{Read, ◌>>=◌}
-use Rattle.json_text.specs.Fields.{free_in, moment_in, word_in, whole_in, record_in}
-use Rattle.json_text.specs.Fits.{FitsFree}
-use Rattle.json_text.specs.Form.{Required, IsFree, IsMoment, IsWord, IsWhole, IsRecord}
-use Rattle.json_text.specs.Members.{Member, text, whole, moment, inner}
+use Rattle.json_text.specs.{FitsFree, IsFree, IsMoment, IsRecord, IsWhole, IsWord, Member, Read, Required, free_in}
+use Rattle.json_text.specs.{inner, moment, moment_in, record_in, text, whole, whole_in, word_in, ◌>>=◌}
 use Rattle.ocpi_forms.specs.Statuses.{status_in, IsStatus}
 
 -- ---- what a command is answered

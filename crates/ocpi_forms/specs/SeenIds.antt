@@ -1,8 +1,7 @@
 -- Sets of the ids that were read.
 use Rattle.std.specs.Prelude.{◌≡◌, List}
 use Rattle.std.specs.FinSet as set
-use Rattle.ocpi_types.specs.Locations.{location_keys, site_evse_keys}
-use Rattle.ocpi_types.specs.declared.site.Location.{Location}
+use Rattle.ocpi_types.specs.{Location, location_keys, site_evse_keys}
 use Rattle.ocpi_forms.specs.declared.sites.SiteIds.{SiteIds}
 
 -- they are the ids of these locations, and the uids of their EVSEs

@@ -2,22 +2,16 @@
 -- CdrToken class; Types: Price class): how one is read, which form its tree has, and what is written.
 use Rattle.std.specs.Prelude.{◌≡◌, ◌<◌, ◌≤◌, List, [], ◌∷◌, Ok, IfSome, option_map, unsigned_abs}
 use Rattle.serde_json.specs.Data.{Data}
-use Rattle.ocpi_text.specs.Decimal.{e4_limit}
-use Rattle.ocpi_text.specs.Moment.{last_moment}
-use Rattle.ocpi_text.specs.Party.{party_at, party_of, country_of, party_id_of}
-use Rattle.ocpi_types.specs.Words.{token_type_of, token_type_word, method_of, method_word, status_of, status_word}
-use Rattle.ocpi_types.specs.declared.field.Field.{Field}
-use Rattle.ocpi_types.specs.declared.field.Field.TheVariants as field
-use Rattle.ocpi_types.specs.declared.token.CdrToken.{CdrToken}
-use Rattle.ocpi_types.specs.declared.sessions.Price.{Price}
-use Rattle.ocpi_types.specs.declared.sessions.Session.{Session}
+use Rattle.ocpi_text.specs.{country_of, e4_limit, last_moment, party_at, party_id_of, party_of}
+use Rattle.ocpi_types.specs.{CdrToken, Field, Price, Session, method_of, method_word, status_of, status_word}
+use Rattle.ocpi_types.specs.{token_type_of, token_type_word}
+use Rattle.ocpi_types.specs.field
 use Rattle.ocpi_forms.specs.declared.sessions.ChargingParts.{ChargingParts}
 use Rattle.ocpi_forms.specs.declared.sessions.PlaceParts.{PlaceParts}
-use Rattle.json_text.specs.Fault.{Read, ◌>>=◌}
-use Rattle.json_text.specs.Fields.{ci_in, free_in, moment_in, word_in, e4_in, quantity_in, record_in, country_in, party_id_in, optional}
-use Rattle.json_text.specs.Fits.{FitsCi, FitsFree, FitsOption, FitsOptionalMoment, FitsQuantity}
-use Rattle.json_text.specs.Form.{Required, Optional, IsCi, IsFree, IsMoment, IsWord, IsE4, IsQuantity, IsRecord, HasParty}
-use Rattle.json_text.specs.Members.{Member, text, optional_text, moment, optional_moment, e4, inner, optional_inner}
+use Rattle.json_text.specs.{FitsCi, FitsFree, FitsOption, FitsOptionalMoment, FitsQuantity, HasParty, IsCi, IsE4}
+use Rattle.json_text.specs.{IsFree, IsMoment, IsQuantity, IsRecord, IsWord, Member, Optional, Read, Required, ci_in}
+use Rattle.json_text.specs.{country_in, e4, e4_in, free_in, inner, moment, moment_in, optional, optional_inner}
+use Rattle.json_text.specs.{optional_moment, optional_text, party_id_in, quantity_in, record_in, text, word_in, ◌>>=◌}
 
 -- ---- the token of a session or a charge detail record
 

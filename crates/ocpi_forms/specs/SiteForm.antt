@@ -2,17 +2,10 @@
 -- (OCPI 2.2.1, Locations: Location, EVSE and Connector objects).
 use Rattle.std.specs.Prelude.{length}
 use Rattle.serde_json.specs.Data.{Data}
-use Rattle.ocpi_types.specs.Connectors.{AreConnectors}
-use Rattle.ocpi_types.specs.Limits.{IsCount, IsPrice}
-use Rattle.ocpi_types.specs.Locations.{AreLocations}
-use Rattle.ocpi_types.specs.Parties.{SiteParties, AreParties}
-use Rattle.ocpi_types.specs.declared.field.Field.TheVariants as field
-use Rattle.ocpi_types.specs.declared.site.Connector.{Connector}
-use Rattle.ocpi_types.specs.declared.site.Evse.{Evse}
-use Rattle.ocpi_types.specs.declared.site.Location.{Location}
-use Rattle.ocpi_types.specs.declared.site.Site.{Site}
-use Rattle.ocpi_types.specs.declared.site.SiteLine.{SiteLine}
-use Rattle.json_text.specs.Form.{Required, IsCi, IsFree, IsParty, IsMoment, IsE4, IsRecord, IsList}
+use Rattle.ocpi_types.specs.{AreConnectors, AreLocations, AreParties, Connector, Evse, IsCount, IsPrice, Location, Site}
+use Rattle.ocpi_types.specs.{SiteLine, SiteParties}
+use Rattle.ocpi_types.specs.field
+use Rattle.json_text.specs.{IsCi, IsE4, IsFree, IsList, IsMoment, IsParty, IsRecord, Required}
 
 pub record IsConnector (d : Data) (c : Connector) : Type 0 where
   pub id : Required (IsCi 36) field.Id d c.id

@@ -2,22 +2,13 @@
 -- (OCPI 2.2.1, Locations: Location, EVSE and Connector objects).
 use Rattle.std.specs.Prelude.{ℕ, ℤ, pos, List, [], ◌∷◌, ◌++◌, map, int_le, ◌&&◌, Ok, Err, if◌then◌else◌}
 use Rattle.serde_json.specs.Data.{Data}
-use Rattle.ocpi_text.specs.Text.{key}
-use Rattle.ocpi_text.specs.Party.{party_at}
-use Rattle.ocpi_types.specs.Connectors.{connector_keys}
-use Rattle.ocpi_types.specs.Locations.{evse_keys, location_keys, site_evse_keys}
-use Rattle.ocpi_types.specs.Parties.{SiteParties}
-use Rattle.ocpi_types.specs.declared.field.Field.TheVariants as field
-use Rattle.ocpi_types.specs.declared.site.Connector.{Connector}
-use Rattle.ocpi_types.specs.declared.site.Evse.{Evse}
-use Rattle.ocpi_types.specs.declared.site.Location.{Location}
-use Rattle.ocpi_types.specs.declared.site.Site.{Site}
-use Rattle.ocpi_types.specs.declared.site.SiteLine.{SiteLine}
-use Rattle.json_text.specs.declared.fault.JsonFault.TheVariants.{WrongForm}
+use Rattle.ocpi_text.specs.{key, party_at}
+use Rattle.ocpi_types.specs.{Connector, Evse, Location, Site, SiteLine, SiteParties, connector_keys, evse_keys}
+use Rattle.ocpi_types.specs.{location_keys, site_evse_keys}
+use Rattle.ocpi_types.specs.field
+use Rattle.json_text.specs.{Read, WrongForm, as_record, as_text, ci_in, counted_in, e4_in, each_after, formed, free_in}
+use Rattle.json_text.specs.{moment_in, new_among, new_ci_in, party_in, record_in, ◌>>=◌}
 use Rattle.ocpi_forms.specs.declared.sites.LocationPlace.{LocationPlace}
-use Rattle.json_text.specs.Fault.{Read, ◌>>=◌}
-use Rattle.json_text.specs.Fields.{as_record, as_text, formed, ci_in, free_in, moment_in, party_in, e4_in, record_in, each_after}
-use Rattle.json_text.specs.Lists.{new_among, new_ci_in, counted_in}
 
 unfoldable pub connector_at : List Connector → Data → Read Connector
 connector_at before d = do

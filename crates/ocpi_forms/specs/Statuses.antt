@@ -1,11 +1,8 @@
 -- The status code of a reply (OCPI 2.2.1, Transport and format: Response format).
 use Rattle.std.specs.Prelude.{ℕ, ◌≤◌, nat_le, ◌&&◌, Ok, Err, if◌then◌else◌}
 use Rattle.serde_json.specs.Data.{Data}
-use Rattle.ocpi_types.specs.declared.field.Field.TheVariants as field
-use Rattle.json_text.specs.declared.fault.JsonFault.TheVariants.{WrongForm}
-use Rattle.json_text.specs.Fault.{Read, ◌>>=◌}
-use Rattle.json_text.specs.Fields.{whole_in}
-use Rattle.json_text.specs.Form.{IsWhole}
+use Rattle.ocpi_types.specs.field
+use Rattle.json_text.specs.{IsWhole, Read, WrongForm, whole_in, ◌>>=◌}
 
 -- a number from 1000 to 9999
 abbrev pub status_at : ℕ → Read ℕ

@@ -1,16 +1,12 @@
 -- Tokens in JSON (OCPI 2.2.1, Tokens: Token object): how one is read, which form its tree has, and what is written.
 use Rattle.std.specs.Prelude.{◌≡◌, ◌≤◌, List, [], ◌∷◌, Ok}
 use Rattle.serde_json.specs.Data.{Data}
-use Rattle.ocpi_text.specs.Moment.{last_moment}
-use Rattle.ocpi_text.specs.Party.{party_at, party_of, country_of, party_id_of}
-use Rattle.ocpi_types.specs.Words.{token_type_of, token_type_word, whitelist_of, whitelist_word}
-use Rattle.ocpi_types.specs.declared.field.Field.TheVariants as field
-use Rattle.ocpi_types.specs.declared.token.Token.{Token}
-use Rattle.json_text.specs.Fault.{Read, ◌>>=◌}
-use Rattle.json_text.specs.Fields.{ci_in, free_in, moment_in, truth_in, word_in, country_in, party_id_in}
-use Rattle.json_text.specs.Fits.{FitsCi, FitsFree}
-use Rattle.json_text.specs.Form.{Required, IsCi, IsFree, IsMoment, IsWord, IsTruth, HasParty}
-use Rattle.json_text.specs.Members.{Member, text, moment, truth}
+use Rattle.ocpi_text.specs.{country_of, last_moment, party_at, party_id_of, party_of}
+use Rattle.ocpi_types.specs.{Token, token_type_of, token_type_word, whitelist_of, whitelist_word}
+use Rattle.ocpi_types.specs.field
+use Rattle.json_text.specs.{FitsCi, FitsFree, HasParty, IsCi, IsFree, IsMoment, IsTruth, IsWord, Member, Read, Required}
+use Rattle.json_text.specs.{ci_in, country_in, free_in, moment, moment_in, party_id_in, text, truth, truth_in, word_in}
+use Rattle.json_text.specs.{◌>>=◌}
 
 -- member by member, in the order in which faults are told
 unfoldable pub token_at : Data → Read Token

@@ -1,7 +1,6 @@
 //! A command of any kind (OCPI 2.2.1, Commands).
 
-ghost use Rattle.json_text.specs.Trees.{view};
-ghost use Rattle.json_text.specs.Fault.{Gives};
+ghost use Rattle.json_text.specs.{Gives, view};
 ghost use Rattle.ocpi_forms.specs.AnyCommand.{command_at, command_members, CommandFits};
 
 use crate::commands::{cancel_reservation_of, stop_session_of, unlock_connector_of};

@@ -2,7 +2,7 @@
 //! tells the first fault, in the order of the members here.
 
 ghost use Rattle.std.specs.Prelude.{◌≡◌};
-ghost use Rattle.json_text.specs.Trees.{view};
+ghost use Rattle.json_text.specs.{Gives, optional, view};
 ghost use Rattle.ocpi_forms.specs.AuthorizationForms.{
   uid_at,
   evse_uids_in,
@@ -21,8 +21,6 @@ ghost use Rattle.ocpi_forms.specs.AuthorizationForms.{
   authorization_members,
   AuthorizationFits,
 };
-ghost use Rattle.json_text.specs.Fault.{Gives};
-ghost use Rattle.json_text.specs.Fields.{optional};
 
 use crate::records::{Record, write_optional_record, write_record};
 use crate::status::status_in;

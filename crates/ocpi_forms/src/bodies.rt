@@ -1,7 +1,6 @@
 //! What a packet carries, by its kind.
 
-ghost use Rattle.json_text.specs.Trees.{view};
-ghost use Rattle.json_text.specs.Fault.{Gives};
+ghost use Rattle.json_text.specs.{Gives, view};
 ghost use Rattle.ocpi_forms.specs.Bodies.{body_at, body_members, BodyFits};
 
 use crate::any_command::{CommandKind, command_of};

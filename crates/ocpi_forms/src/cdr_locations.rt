@@ -1,8 +1,7 @@
 //! Where a session was, as a charge detail record keeps it (OCPI 2.2.1, CDRs: CdrLocation class).
 
 ghost use Rattle.std.specs.Prelude.{◌≡◌};
-ghost use Rattle.json_text.specs.Trees.{view};
-ghost use Rattle.json_text.specs.Fault.{Gives};
+ghost use Rattle.json_text.specs.{Gives, view};
 ghost use Rattle.ocpi_forms.specs.CdrLocationForms.{
   geo_location_at,
   address_at,

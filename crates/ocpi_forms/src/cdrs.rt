@@ -1,7 +1,7 @@
 //! Charge detail records (OCPI 2.2.1, CDRs: CDR object), as they are sent and as they are stored in rows.
 
 ghost use Rattle.std.specs.Prelude.{◌≡◌, OnOk};
-ghost use Rattle.json_text.specs.Trees.{view};
+ghost use Rattle.json_text.specs.{Gives, said, view};
 ghost use Rattle.ocpi_forms.specs.CdrForms.{
   cdr_head_at,
   cdr_totals_in,
@@ -14,8 +14,6 @@ ghost use Rattle.ocpi_forms.specs.CdrForms.{
   stored_cdr_members,
   CdrFits,
 };
-ghost use Rattle.json_text.specs.Fault.{Gives};
-ghost use Rattle.json_text.specs.Members.{said};
 
 use crate::cdr_locations::cdr_location_of;
 use crate::charging_periods::charging_periods_of;

@@ -2,7 +2,7 @@
 //! classes).
 
 ghost use Rattle.std.specs.Prelude.{◌≡◌};
-ghost use Rattle.json_text.specs.Trees.{view};
+ghost use Rattle.json_text.specs.{Gives, view};
 ghost use Rattle.ocpi_forms.specs.ChargingPeriodForms.{
   cdr_dimension_at,
   dimension_element,
@@ -15,7 +15,6 @@ ghost use Rattle.ocpi_forms.specs.ChargingPeriodForms.{
   CdrDimensionFits,
   ChargingPeriodFits,
 };
-ghost use Rattle.json_text.specs.Fault.{Gives};
 
 use crate::records::{Record, write_records};
 use json_text::fields::{as_record, e4_in, moment_in, short_in};

@@ -1,8 +1,7 @@
 //! Commands (OCPI 2.2.1, Commands). Each reader tells the first fault, in the order of the members here.
 
 ghost use Rattle.std.specs.Prelude.{◌≡◌};
-ghost use Rattle.json_text.specs.Trees.{view};
-ghost use Rattle.json_text.specs.Fault.{Gives};
+ghost use Rattle.json_text.specs.{Gives, view};
 ghost use Rattle.ocpi_forms.specs.CommandForms.{
   start_parts_at,
   start_session_at,
@@ -28,9 +27,7 @@ use crate::tokens::token_of;
 use json_text::fields::{ci_in, free_in, moment_in, optional_ci_in, record_in};
 use json_text::{JsonFault, RecordWriter, Tree};
 use ocpi_text::{CiText, Moment};
-use ocpi_types::{
-    CancelReservation, Field, ReserveNow, StartSession, StopSession, Token, UnlockConnector,
-};
+use ocpi_types::{CancelReservation, Field, ReserveNow, StartSession, StopSession, Token, UnlockConnector};
 use std::alloc::{AllocError, Global};
 
 /// A start of a session, but for the address of its result.

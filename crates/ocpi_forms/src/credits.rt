@@ -2,9 +2,7 @@
 //! `credit_reference_id`).
 
 ghost use Rattle.std.specs.Prelude.{◌≡◌, OnOk};
-ghost use Rattle.json_text.specs.Trees.{view};
-ghost use Rattle.json_text.specs.Fields.{optional, truth_in};
-ghost use Rattle.json_text.specs.Members.{and_member};
+ghost use Rattle.json_text.specs.{and_member, optional, truth_in, view};
 ghost use Rattle.ocpi_forms.specs.CreditForms.{credit_in, credit_reference_in, credit_member};
 
 use json_text::fields::{ci_in, is_absent, truth_in};

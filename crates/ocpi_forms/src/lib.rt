@@ -66,9 +66,7 @@ pub use any_command::{CommandKind, command_of};
 pub use authorizations::{authorization_of, authorize_of};
 pub use bodies::body_of;
 pub use cdrs::{cdr_of, stored_cdr_of, write_stored_cdr};
-pub use commands::{
-    cancel_reservation_of, reserve_now_of, start_session_of, stop_session_of, unlock_connector_of,
-};
+pub use commands::{cancel_reservation_of, reserve_now_of, start_session_of, stop_session_of, unlock_connector_of};
 pub use on_heap::{
     boxed_authorization_of, boxed_cdr_of, boxed_reserve_now_of, boxed_session_of,
     boxed_start_session_of, boxed_stored_cdr_of, boxed_token_of,

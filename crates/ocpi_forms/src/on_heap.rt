@@ -1,7 +1,6 @@
 //! Records that packets, commands, replies and pushes hold on the heap.
 
-ghost use Rattle.json_text.specs.Trees.{view};
-ghost use Rattle.json_text.specs.Fault.{Gives};
+ghost use Rattle.json_text.specs.{Gives, view};
 ghost use Rattle.ocpi_forms.specs.AuthorizationForms.{authorization_at};
 ghost use Rattle.ocpi_forms.specs.CdrForms.{cdr_at, stored_cdr_at};
 ghost use Rattle.ocpi_forms.specs.CommandForms.{start_session_at, reserve_now_at};
@@ -15,9 +14,7 @@ use crate::records::Record;
 use crate::sessions::session_of;
 use crate::tokens::token_of;
 use json_text::{JsonFault, RecordWriter, Tree};
-use ocpi_types::{
-    Authorization, AuthorizationInfo, Boxed, Cdr, ReserveNow, Session, StartSession, Token,
-};
+use ocpi_types::{Authorization, AuthorizationInfo, Boxed, Cdr, ReserveNow, Session, StartSession, Token};
 use std::alloc::{AllocError, Global};
 
 /// As `start_session_of`, on the heap.

@@ -2,7 +2,7 @@
 
 ghost use Rattle.std.specs.Prelude.{◌≡◌, option_map, All, IfSome, List, OnOk};
 ghost use Rattle.json_text.specs.Members as member;
-ghost use Rattle.json_text.specs.Members.{Member, and_member, and_values, said};
+ghost use Rattle.json_text.specs.{Member, and_member, and_values, said};
 
 use json_text::RecordWriter;
 use ocpi_types::Field;

@@ -2,8 +2,7 @@
 //! format). Each reader tells the first fault, in the order of the members here.
 
 ghost use Rattle.std.specs.Prelude.{◌≡◌};
-ghost use Rattle.json_text.specs.Trees.{view};
-ghost use Rattle.json_text.specs.Fault.{Gives};
+ghost use Rattle.json_text.specs.{Gives, view};
 ghost use Rattle.ocpi_forms.specs.ReplyForms.{
   response_data_at,
   response_data_members,
@@ -25,9 +24,7 @@ use crate::status::status_in;
 use json_text::fields::{free_in, moment_in, record_in, whole_in, word_in};
 use json_text::{JsonFault, RecordWriter, Tree};
 use ocpi_text::Moment;
-use ocpi_types::{
-    Ack, CommandResponse, CommandResult, Field, RefusalCode, ResponseData, StatusCode,
-};
+use ocpi_types::{Ack, CommandResponse, CommandResult, Field, RefusalCode, ResponseData, StatusCode};
 use std::alloc::{AllocError, Global};
 
 /// What a command is answered (OCPI 2.2.1, Commands: CommandResponse object).

@@ -2,8 +2,7 @@
 //! class; Types: Price class).
 
 ghost use Rattle.std.specs.Prelude.{◌≡◌};
-ghost use Rattle.json_text.specs.Trees.{view};
-ghost use Rattle.json_text.specs.Fields.{optional};
+ghost use Rattle.json_text.specs.{optional, view};
 ghost use Rattle.ocpi_forms.specs.SessionForms.{
   cdr_token_at,
   cdr_token_members,

@@ -3,17 +3,11 @@
 ghost use Rattle.std.specs.Prelude.{◌≡◌, ℕ, List, [], ◌∷◌, ◌++◌, length, map, IfOk, Ok};
 ghost use Rattle.std.specs.FinSet as set;
 ghost use Rattle.std.specs.Str.{bytes_eq};
-ghost use Rattle.json_text.specs.Trees.{view, items_view};
-ghost use Rattle.ocpi_text.specs.Text.{key};
-ghost use Rattle.ocpi_types.specs.Connectors.{connector_keys};
-ghost use Rattle.ocpi_types.specs.Locations.{evse_keys, site_evse_keys};
-ghost use Rattle.ocpi_types.specs.declared.site.Evse.{Evse};
-ghost use Rattle.ocpi_types.specs.declared.site.Location.{Location};
-ghost use Rattle.json_text.specs.Fault.{Gives, GivesBy};
-ghost use Rattle.json_text.specs.Fields.{each_after};
+ghost use Rattle.json_text.specs.{Gives, GivesBy, each_after, is_among, items_view, new_ci_in, view};
+ghost use Rattle.ocpi_text.specs.{key};
+ghost use Rattle.ocpi_types.specs.{Evse, Location, connector_keys, evse_keys, site_evse_keys};
 ghost use Rattle.ocpi_forms.specs.SeenIds.{HasIds};
 ghost use Rattle.ocpi_forms.specs.SiteForm.{IsSiteLineTree};
-ghost use Rattle.json_text.specs.Lists.{is_among, new_ci_in};
 ghost use Rattle.ocpi_forms.specs.Sites.{
   connector_at,
   connector_element,
@@ -34,9 +28,7 @@ ghost use Rattle.ocpi_forms.specs.Sites.{
   site_of_line,
 };
 
-use json_text::fields::{
-    as_record, as_text, ci_in, e4_in, free_in, moment_in, party_in, record_in,
-};
+use json_text::fields::{as_record, as_text, ci_in, e4_in, free_in, moment_in, party_in, record_in};
 use json_text::lists::{ElementReader, counted_in, elements};
 use json_text::{JsonFault, Tree, is_same_id, is_same_party};
 use ocpi_text::{CiText, FreeText, Party};

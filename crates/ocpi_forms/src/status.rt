@@ -1,7 +1,7 @@
 //! Status codes of replies (OCPI 2.2.1, Transport and format: Response format).
 
 ghost use Rattle.std.specs.Prelude.{◌≡◌};
-ghost use Rattle.json_text.specs.Trees.{view};
+ghost use Rattle.json_text.specs.{view};
 ghost use Rattle.ocpi_forms.specs.Statuses.{status_in};
 
 use json_text::fields::whole_in;

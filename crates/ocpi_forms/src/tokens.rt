@@ -1,7 +1,7 @@
 //! Tokens (OCPI 2.2.1, Tokens: Token object).
 
 ghost use Rattle.std.specs.Prelude.{◌≡◌};
-ghost use Rattle.json_text.specs.Trees.{view};
+ghost use Rattle.json_text.specs.{view};
 ghost use Rattle.ocpi_forms.specs.Tokens.{token_at, token_members, TokenFits};
 
 use crate::records::Record;

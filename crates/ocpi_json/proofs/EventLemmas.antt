@@ -1,15 +1,11 @@
 -- An event is read just where the tree has its form.
 use Rattle.std.proofs.Common.{◌≡◌, ℕ, List, Ok, Err, IfOk, refl, sym, subst, ap}
 use Rattle.serde_json.specs.Data.{Data}
-use Rattle.ocpi_types.specs.Words.{token_type_of}
-use Rattle.ocpi_types.specs.declared.events.ChargerEvent.{ChargerEvent}
-use Rattle.ocpi_types.specs.declared.events.ChargerEvent.TheVariants as charger
-use Rattle.ocpi_types.specs.declared.events.Event.{Event}
-use Rattle.ocpi_types.specs.declared.events.EventKind.{EventKind}
-use Rattle.ocpi_types.specs.declared.events.EventKind.TheVariants as kind
-use Rattle.ocpi_types.specs.declared.events.Order.{Order}
-use Rattle.ocpi_types.specs.declared.events.Order.TheVariants as order
-use Rattle.ocpi_types.specs.declared.field.Field.TheVariants as field
+use Rattle.ocpi_types.specs.{ChargerEvent, Event, EventKind, Order, token_type_of}
+use Rattle.ocpi_types.specs.event as charger
+use Rattle.ocpi_types.specs.kind
+use Rattle.ocpi_types.specs.order
+use Rattle.ocpi_types.specs.field
 use Rattle.ocpi_json.specs.declared.events.ChargerWord.{ChargerWord}
 use Rattle.ocpi_json.specs.declared.events.ChargerWord.TheVariants as report
 use Rattle.ocpi_json.specs.declared.events.EventWord.{EventWord}
@@ -18,9 +14,8 @@ use Rattle.ocpi_forms.specs.declared.any_command.CommandKind.{CommandKind}
 use Rattle.ocpi_forms.specs.declared.any_command.CommandKind.TheVariants as command
 use Rattle.ocpi_json.specs.declared.events.Report.{Report}
 use Rattle.ocpi_json.specs.EventForms.{event_of_word, order_of_word, word_of_report, word_of_order, word_of_kind, start_order_at, reserve_order_at, unlock_order_at, order_at, submit_at, token_event_at, service_at, swipe_at, meter_at, command_number_at, report_at, charger_at, credit_event_at, deliver_at, kind_at, event_at, event_of_line, event_in, HasCommandNumber, IsOrder, IsReport, IsSubmission, IsTokenStored, IsServiceSet, IsCreditOrdered, IsReported, IsKind, IsEvent, IsEventLine, SpellsEvent}
-use Rattle.json_text.specs.Fault.{Read, ◌>>=◌}
-use Rattle.json_text.specs.Fields.{ci_in, known_in, moment_in, party_in, quantity_in, record_in, truth_in, whole_in, word_in, optional}
-use Rattle.json_text.specs.Form.{Required, IsRecord, IsWord}
+use Rattle.json_text.specs.{IsRecord, IsWord, Read, Required, ci_in, known_in, moment_in, optional, party_in}
+use Rattle.json_text.specs.{quantity_in, record_in, truth_in, whole_in, word_in, ◌>>=◌}
 use Rattle.ocpi_forms.specs.Tokens.{token_at, IsToken}
 use Rattle.json_text.proofs.Exact.{Exact, ok_is, bind_ok, both_steps, as_record_exact, ci_exact, known_exact, inner_exact, moment_exact, optional_ci_exact, party_exact, quantity_exact, truth_exact, whole_exact, word_exact}
 use Rattle.json_text.proofs.LineTrees.{line_sound, line_complete}

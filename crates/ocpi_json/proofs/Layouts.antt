@@ -1,11 +1,8 @@
 -- A row of another kind than charge detail records is read alike in both layouts.
-use Rattle.std.proofs.Common.{◌≡◌, ℕ, List, Option, Some, None, refl, ap, ◌∙◌}
-use Rattle.std.specs.Prelude.{◌≢◌}
+use Rattle.std.proofs.Common.{◌≡◌, ℕ, List, Option, Some, None, refl, ap, ◌∙◌, ◌≢◌}
 use Rattle.serde_json.specs.Data.{Data}
-use Rattle.ocpi_types.specs.declared.field.Field.TheVariants as field
-use Rattle.json_text.specs.Fault.{◌>>=◌}
-use Rattle.json_text.specs.Fields.{as_record, known}
-use Rattle.json_text.specs.Texts.{text_tree}
+use Rattle.ocpi_types.specs.field
+use Rattle.json_text.specs.{as_record, known, text_tree, ◌>>=◌}
 use Rattle.ocpi_json.specs.RowForms.{OthersAreAlike, row_at, row_in, row_in_1, row_laid_out, row_of_text}
 use Rattle.ocpi_json.specs.RowKeys.{row_kind_of, row_kind_word}
 use Rattle.ocpi_json.specs.declared.row_kinds.RowKind.{RowKind}

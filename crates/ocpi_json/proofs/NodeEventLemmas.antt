@@ -1,9 +1,8 @@
 -- An event of one node is read just where the tree has its form.
 use Rattle.std.proofs.Common.{◌≡◌, ℕ, List, Ok, refl, sym, subst, ap}
 use Rattle.serde_json.specs.Data.{Data}
-use Rattle.ocpi_types.specs.declared.field.Field.TheVariants as field
-use Rattle.ocpi_types.specs.declared.node_events.NodeEvent.{NodeEvent}
-use Rattle.ocpi_types.specs.declared.node_events.NodeEventKind.{NodeEventKind}
+use Rattle.ocpi_types.specs.field
+use Rattle.ocpi_types.specs.{NodeEvent, NodeEventKind}
 use Rattle.ocpi_types.specs.declared.node_events.NodeEventKind.TheVariants as kind
 use Rattle.ocpi_json.specs.declared.events.ChargerWord.{ChargerWord}
 use Rattle.ocpi_json.specs.declared.events.EventWord.{EventWord}
@@ -11,9 +10,7 @@ use Rattle.ocpi_json.specs.declared.events.EventWord.TheVariants as event
 use Rattle.ocpi_json.specs.EventForms.{event_of_word, submit_at, token_event_at, service_at, charger_at, credit_event_at}
 use Rattle.ocpi_json.specs.NodeEventForms.{word_of_node_kind, delivery_at, node_kind_at, node_event_at, node_event_of_line, node_event_in, IsNodeKind, IsNodeEvent, IsNodeEventLine, SpellsNodeEvent}
 use Rattle.ocpi_json.specs.Packets.{packet_at, IsPacket}
-use Rattle.json_text.specs.Fault.{◌>>=◌}
-use Rattle.json_text.specs.Fields.{known_in, moment_in, party_in, record_in}
-use Rattle.json_text.specs.Form.{Required, IsRecord, IsWord}
+use Rattle.json_text.specs.{IsRecord, IsWord, Required, known_in, moment_in, party_in, record_in, ◌>>=◌}
 use Rattle.json_text.proofs.Exact.{Exact, ok_is, bind_ok, both_steps, as_record_exact, known_exact, inner_exact, moment_exact, party_exact}
 use Rattle.json_text.proofs.LineTrees.{line_sound, line_complete}
 use Rattle.ocpi_json.proofs.EventLemmas.{submit_exact, token_event_exact, service_exact, credit_event_exact, charger_sound, charger_complete}

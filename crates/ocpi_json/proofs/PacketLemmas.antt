@@ -1,20 +1,15 @@
 -- A packet is read just where the tree has a packet's form, and a packet that is written is read again.
 use Rattle.std.proofs.Common.{◌≡◌, ℕ, List, true, false, Some, Ok, refl, sym, subst}
 use Rattle.serde_json.specs.Data.{Data}
-use Rattle.ocpi_types.specs.Fields.{name_of}
-use Rattle.ocpi_types.specs.Kinds.{kind_of}
-use Rattle.ocpi_types.specs.Words.{kind_word, kind_of_word}
-use Rattle.ocpi_types.specs.declared.field.Field.TheVariants as field
-use Rattle.ocpi_types.specs.declared.packet.Packet.{Packet}
-use Rattle.ocpi_types.specs.declared.words.PacketKind.{PacketKind}
+use Rattle.ocpi_types.specs.{Packet, PacketKind, kind_of, kind_of_word, kind_word, name_of}
+use Rattle.ocpi_types.specs.field
 use Rattle.ocpi_types.specs.declared.words.PacketKind.TheVariants as kind
-use Rattle.json_text.specs.Fields.{party_in, whole_in, record_in, known_in}
-use Rattle.json_text.specs.Form.{Required, IsParty, IsWhole, IsWord, IsRecord}
+use Rattle.json_text.specs.{IsParty, IsRecord, IsWhole, IsWord, Required, is_tagged, known_in, party_in, record_in}
+use Rattle.json_text.specs.{whole_in}
 use Rattle.ocpi_forms.proofs.BodyLemmas.{OfKind, body_exact, body_form, body_well}
 use Rattle.ocpi_forms.specs.Bodies.{body_at, IsBody, body_members}
 use Rattle.ocpi_json.specs.declared.packets.Envelope.{Envelope}
 use Rattle.ocpi_json.specs.Packets.{envelope_at, packet_at, packet_of_line, packet_in, IsPacket, IsPacketLine, SpellsPacket, packet_members, packet_json, PacketFits}
-use Rattle.json_text.specs.Tag.{is_tagged}
 use Rattle.json_text.proofs.Exact.{Exact, ok_is, bind_ok, both_steps, known_exact, whole_exact, party_exact, as_record_exact, inner_exact}
 use Rattle.json_text.proofs.LineTrees.{line_sound, line_complete}
 use Rattle.json_text.proofs.MemberForms.{tree, party_form, word_form, whole_form, inner_form, party_begins}

@@ -1,19 +1,13 @@
 -- A row that is read has a key that its types can hold.
-use Rattle.std.proofs.Common.{◌≡◌, ℕ, Bool, true, false, cond, List, length, Result, Ok, Err, sym, subst, arith}
-use Rattle.std.specs.Prelude.{◌==◌}
+use Rattle.std.proofs.Common.{◌≡◌, ℕ, Bool, true, false, cond, List, length, Result, Ok, Err, sym, subst, arith, ◌==◌}
 use Rattle.std.specs.Str.{chars}
 use Rattle.serde_json.specs.Data.{Data}
-use Rattle.ocpi_text.specs.Party.{party_at}
-use Rattle.ocpi_text.specs.Text.{exact_text, is_ascii_text, key}
-use Rattle.ocpi_text.specs.declared.fault.TextFault.{TextFault}
-use Rattle.ocpi_text.specs.declared.fault.TextFault.TheVariants.{TooLong, NotPrintable}
+use Rattle.ocpi_text.specs.{NotPrintable, TextFault, TooLong, exact_text, is_ascii_text, key, party_at}
 use Rattle.ocpi_text.proofs.Case.{key_key, key_length, key_party, key_printable}
 use Rattle.ocpi_text.proofs.Parties.{party_passes}
-use Rattle.ocpi_types.specs.Rows.{key_of}
-use Rattle.ocpi_types.specs.declared.field.Field.{Field}
-use Rattle.ocpi_types.specs.declared.rows.Row.{Row}
-use Rattle.ocpi_types.specs.declared.rows.Row.TheVariants as row
-use Rattle.json_text.specs.Form.{Required, IsCi, HasParty}
+use Rattle.ocpi_types.specs.{Field, Row, key_of}
+use Rattle.ocpi_types.specs.row
+use Rattle.json_text.specs.{HasParty, IsCi, Required}
 use Rattle.ocpi_json.specs.RowForms.{IsRowText, OwnKeyFits, ReadKeysFit, SpellsRow, row_in, row_in_1}
 use Rattle.ocpi_json.specs.RowKeys.{IsCiKey, IsPartyKey, KeyFits}
 use Rattle.ocpi_json.specs.declared.rows.RowLayout.{RowLayout}

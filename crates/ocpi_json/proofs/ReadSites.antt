@@ -1,6 +1,6 @@
 -- A site line is read just where its bytes spell it.
 use Rattle.std.proofs.Common.{◌≡◌, ℕ, List, Ok}
-use Rattle.ocpi_types.specs.declared.site.SiteLine.{SiteLine}
+use Rattle.ocpi_types.specs.{SiteLine}
 use Rattle.ocpi_forms.specs.SiteForm.{IsSiteLineTree}
 use Rattle.ocpi_json.specs.SiteLines.{SpellsSiteLine, site_in}
 use Rattle.ocpi_forms.specs.Sites.{site_of_line}

@@ -1,6 +1,8 @@
 -- The text of a key tells the key, and the parts of a key are read just from the texts that they make.
-use Rattle.std.proofs.Common.{◌≡◌, ℕ, zero, suc, ◌<◌, ◌≤◌, Bool, true, false, cond, List, [], ◌∷◌, ◌++◌, length, take, drop, get_or, decimal, Option, Some, None, Result, Ok, Err, refl, sym, subst, ap, ◌∙◌, arith, length-append, eqb-true, eq-eqb}
-use Rattle.std.specs.Prelude.{◌==◌, ◌&&◌, nat_lt, nat_le, unwrap_or}
+use Rattle.std.proofs.Common.{◌≡◌, ℕ, zero, suc, ◌<◌, ◌≤◌, Bool, true, false, cond, List, [], ◌∷◌, ◌++◌, length, take}
+use Rattle.std.proofs.Common.{drop, get_or, decimal, Option, Some, None, Result, Ok, Err, refl, sym, subst, ap, ◌∙◌}
+use Rattle.std.proofs.Common.{arith, length-append, eqb-true, eq-eqb, ◌==◌, ◌&&◌, nat_lt, nat_le}
+use Rattle.std.specs.Prelude.{unwrap_or}
 use Rattle.std.specs.Char.{is_ascii_digit}
 use Rattle.std.specs.List.{list_all}
 use Rattle.std.specs.Str.{IsCharBoundary, IsUtf8, all_ascii_digits, bytes_eq, chars}
@@ -11,24 +13,17 @@ use Rattle.std.proofs.lemmas.Fmt.{first_decimal, decimal_digit, digits_value-dec
 use Rattle.std.proofs.lemmas.List.{take_at, drop_at, drop_more, take-append-drop, get_or-append_right}
 use Rattle.std.proofs.lemmas.Slice.Eq.{bytes_eq-Decides}
 use Rattle.std.proofs.lemmas.Str.{IsCharBoundary-after_ascii}
-use Rattle.ocpi_text.specs.Party.{party_at, is_party_shape}
-use Rattle.ocpi_text.specs.Text.{ci_text, is_ascii_text, key}
-use Rattle.ocpi_text.specs.Whole.{is_whole, max_whole, whole_at}
-use Rattle.ocpi_text.specs.declared.fault.TextFault.{TextFault}
-use Rattle.ocpi_text.specs.declared.fault.TextFault.TheVariants.{TooLong, NotPrintable, BadNumber, NumberTooLarge}
+use Rattle.ocpi_text.specs.{BadNumber, NotPrintable, NumberTooLarge, TextFault, TooLong, ci_text, is_ascii_text}
+use Rattle.ocpi_text.specs.{is_party_shape, is_whole, key, max_whole, party_at, whole_at}
 use Rattle.ocpi_text.proofs.Again.{ci_again, whole_again}
 use Rattle.ocpi_text.proofs.Digits.{own, digits_same, has_digits}
 use Rattle.ocpi_text.proofs.Parties.{party_parts, ci_text_is}
 use Rattle.ocpi_text.proofs.Text.{printable_length}
-use Rattle.ocpi_types.specs.Rows.{counter_name}
-use Rattle.ocpi_types.specs.Words.{token_type_word}
-use Rattle.ocpi_types.specs.declared.rows.Counter.{Counter}
-use Rattle.ocpi_types.specs.declared.rows.Counter.TheVariants as counter
-use Rattle.ocpi_types.specs.declared.rows.RowKey.{RowKey}
-use Rattle.ocpi_types.specs.declared.rows.RowKey.TheVariants as keys
-use Rattle.ocpi_types.specs.declared.words.TokenType.{TokenType}
-use Rattle.ocpi_types.specs.declared.words.TokenType.TheVariants as type
-use Rattle.json_text.specs.Fits.{FitsCi}
+use Rattle.ocpi_types.specs.{Counter, RowKey, TokenType, counter_name, token_type_word}
+use Rattle.ocpi_types.specs.counter
+use Rattle.ocpi_types.specs.keys
+use Rattle.ocpi_types.specs.type
+use Rattle.json_text.specs.{FitsCi}
 use Rattle.ocpi_json.specs.RowKeys.{row_kind_word, row_kind_of, kind_of_key, key_text, IsPartyKey, IsCiKey, KeyFits, KeysAreApart, counter_at, in_key_form, ci_key_at, taken, number_at, front_party, joined, party_number_at, party_id_at}
 use Rattle.ocpi_json.specs.declared.row_keys.PartyId.{PartyId}
 use Rattle.ocpi_json.specs.declared.row_keys.PartyNumber.{PartyNumber}

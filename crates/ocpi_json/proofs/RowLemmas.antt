@@ -5,19 +5,12 @@ use Rattle.std.specs.Str.{bytes_eq}
 use Rattle.std.proofs.lemmas.Slice.Eq.{bytes_eq-Decides}
 use Rattle.json.specs.Json as json
 use Rattle.serde_json.specs.Data.{Data}
-use Rattle.ocpi_text.specs.Whole.{max_whole}
-use Rattle.ocpi_types.specs.Fields.{name_of}
-use Rattle.ocpi_types.specs.Rows.{key_of}
-use Rattle.ocpi_types.specs.Words.{result_of, result_word}
-use Rattle.ocpi_types.specs.declared.cdrs.Cdr.{Cdr}
-use Rattle.ocpi_types.specs.declared.field.Field.TheVariants as field
-use Rattle.ocpi_types.specs.declared.rows.Row.{Row}
-use Rattle.ocpi_types.specs.declared.rows.Row.TheVariants as row
-use Rattle.ocpi_types.specs.declared.words.CommandResultType.{CommandResultType}
-use Rattle.json_text.specs.declared.fault.JsonFault.TheVariants.{WrongForm}
-use Rattle.json_text.specs.Fields.{known, party_in, whole_in, word_in}
-use Rattle.json_text.specs.Form.{Required, IsRecord, IsWhole, IsWord}
-use Rattle.json_text.specs.Members.{object_of}
+use Rattle.ocpi_text.specs.{max_whole}
+use Rattle.ocpi_types.specs.{Cdr, CommandResultType, Row, key_of, name_of, result_of, result_word}
+use Rattle.ocpi_types.specs.field
+use Rattle.ocpi_types.specs.row
+use Rattle.json_text.specs.{IsRecord, IsWhole, IsWord, Required, WrongForm, known, object_of, party_in, whole_in}
+use Rattle.json_text.specs.{word_in}
 use Rattle.ocpi_forms.specs.CdrForms.{CdrFits}
 use Rattle.ocpi_forms.specs.SessionForms.{session_at}
 use Rattle.ocpi_forms.specs.Tokens.{token_at}

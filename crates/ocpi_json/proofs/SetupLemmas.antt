@@ -1,18 +1,13 @@
 -- A setup is read just where the tree has its form.
-use Rattle.std.proofs.Common.{◌≡◌, ℕ, List, [], map, Option, Some, None, Ok, refl, subst}
-use Rattle.std.specs.Prelude.{Contains}
+use Rattle.std.proofs.Common.{◌≡◌, ℕ, List, [], map, Option, Some, None, Ok, refl, subst, Contains}
 use Rattle.serde_json.specs.Data.{Data, Items}
-use Rattle.ocpi_text.specs.Text.{key}
-use Rattle.ocpi_types.specs.Setups.{AreNodes, node_key, party_of}
-use Rattle.ocpi_types.specs.declared.field.Field.TheVariants as field
-use Rattle.ocpi_types.specs.declared.setup.Node.{Node}
-use Rattle.ocpi_types.specs.declared.setup.Node.TheVariants as node
-use Rattle.ocpi_types.specs.declared.site.Site.{Site}
-use Rattle.json_text.specs.Fields.{party_in, optional, each_after}
-use Rattle.json_text.specs.Form.{Required, Optional, IsParty, IsRecord}
+use Rattle.ocpi_text.specs.{key}
+use Rattle.ocpi_types.specs.{AreNodes, Node, Site, node_key, party_of}
+use Rattle.ocpi_types.specs.field
+use Rattle.ocpi_types.specs.node
+use Rattle.json_text.specs.{IsParty, IsRecord, Optional, Required, counted_in, each_after, optional, party_in}
 use Rattle.ocpi_json.specs.SetupForms.{new_party_in, site_under, node_of, node_at, node_element, setup_at, setup_of_line, setup_in, site_of, IsNode, IsSetup, IsSetupLine, SpellsSetup}
 use Rattle.ocpi_forms.specs.SiteForm.{IsSite}
-use Rattle.json_text.specs.Lists.{counted_in}
 use Rattle.ocpi_forms.specs.Sites.{site_at}
 use Rattle.json_text.proofs.Elements.{Apart, ExactBeside, IsListing, record_beside, listing_exact, new_among_sound, new_among_complete, differ_from_new, new_from_differ}
 use Rattle.json_text.proofs.Exact.{Exact, ok_is, bind_ok, both_steps, party_exact, as_record_exact, inner_exact, optional_exact}

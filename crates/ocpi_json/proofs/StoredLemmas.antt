@@ -1,31 +1,17 @@
 -- What rows hold beside OCPI's records is read just where its form holds, and what is written has that form.
-use Rattle.std.proofs.Common.{◌≡◌, ℕ, List, true, Option, Some, Ok, refl, sym, subst, ap, ◌∙◌}
-use Rattle.std.specs.Prelude.{IfSome}
+use Rattle.std.proofs.Common.{◌≡◌, ℕ, List, true, Option, Some, Ok, refl, sym, subst, ap, ◌∙◌, IfSome}
 use Rattle.json.specs.Json as json
 use Rattle.serde_json.specs.Data.{Data}
-use Rattle.ocpi_text.specs.Party.{party_at}
-use Rattle.ocpi_types.specs.Fields.{name_of}
-use Rattle.ocpi_types.specs.Kinds.{kind_of}
-use Rattle.ocpi_types.specs.Stored.{body_of_reply, body_of_push}
-use Rattle.ocpi_types.specs.Words.{kind_word, result_of, result_word}
-use Rattle.ocpi_types.specs.declared.field.Field.{Field}
-use Rattle.ocpi_types.specs.declared.field.Field.TheVariants as field
-use Rattle.ocpi_types.specs.declared.packet.Body.{Body}
-use Rattle.ocpi_types.specs.declared.packet.Body.TheVariants as body
-use Rattle.ocpi_types.specs.declared.replies.CommandResponse.{CommandResponse}
-use Rattle.ocpi_types.specs.declared.commands.Command.{Command}
-use Rattle.ocpi_types.specs.declared.commands.Command.TheVariants as command
-use Rattle.ocpi_types.specs.declared.stored.OpenCommand.{OpenCommand}
-use Rattle.ocpi_types.specs.declared.stored.Push.{Push}
-use Rattle.ocpi_types.specs.declared.stored.Push.TheVariants as push
-use Rattle.ocpi_types.specs.declared.stored.Reply.{Reply}
-use Rattle.ocpi_types.specs.declared.stored.Reply.TheVariants as reply
-use Rattle.ocpi_types.specs.declared.stored.Reservation.{Reservation}
-use Rattle.ocpi_types.specs.declared.stored.SentCommand.{SentCommand}
-use Rattle.json_text.specs.Fault.{Read}
-use Rattle.json_text.specs.Fields.{ci_in, known_in, moment_in, optional, party_in, record_in, word_in}
-use Rattle.json_text.specs.Form.{Required, Optional, IsCi, IsMoment, IsParty, IsRecord, IsWord}
-use Rattle.json_text.specs.Members.{Member, object_of}
+use Rattle.ocpi_text.specs.{party_at}
+use Rattle.ocpi_types.specs.{Body, Command, CommandResponse, Field, OpenCommand, Push, Reply, Reservation, SentCommand}
+use Rattle.ocpi_types.specs.{body_of_push, body_of_reply, kind_of, kind_word, name_of, result_of, result_word}
+use Rattle.ocpi_types.specs.field
+use Rattle.ocpi_types.specs.body
+use Rattle.ocpi_types.specs.command
+use Rattle.ocpi_types.specs.push
+use Rattle.ocpi_types.specs.reply
+use Rattle.json_text.specs.{IsCi, IsMoment, IsParty, IsRecord, IsWord, Member, Optional, Read, Required, ci_in}
+use Rattle.json_text.specs.{known_in, moment_in, object_of, optional, party_in, record_in, word_in}
 use Rattle.ocpi_forms.specs.AnyCommand.{command_at, command_kind}
 use Rattle.ocpi_forms.specs.AuthorizationForms.{authorization_at}
 use Rattle.ocpi_forms.specs.Bodies.{IsBody, body_members, BodyFits}

@@ -1,8 +1,6 @@
 -- A line that is no text is refused alike, whatever was to be read.
 use Rattle.std.proofs.Common.{◌≡◌, Err, ap}
-use Rattle.json_text.specs.declared.fault.JsonFault.{JsonFault}
-use Rattle.json_text.specs.declared.fault.JsonFault.TheVariants.{Syntax}
-use Rattle.json_text.specs.Fault.{Read}
+use Rattle.json_text.specs.{JsonFault, Read, Syntax}
 
 abbrev refused : {X : Type 0} → JsonFault → Read X
 refused e = Err e

@@ -1,6 +1,6 @@
 -- A number of JSON is one that is read again where it is printed, and so is a text whose numbers are such.
-use Rattle.std.proofs.Common.{◌≡◌, ℕ, suc, true, false, cond, List, [], ◌∷◌, ◌++◌, length, drop, Option, Some, None, option_and_then, refl, sym, ap, ◌∙◌, append-nil, arith}
-use Rattle.std.specs.Prelude.{◌||◌, ◌==◌}
+use Rattle.std.proofs.Common.{◌≡◌, ℕ, suc, true, false, cond, List, [], ◌∷◌, ◌++◌, length, drop, Option, Some, None}
+use Rattle.std.proofs.Common.{option_and_then, refl, sym, ap, ◌∙◌, append-nil, arith, ◌||◌, ◌==◌}
 use Rattle.std.specs.Char.{is_ascii_digit}
 use Rattle.std.specs.List.{list_all, prefix_len}
 use Rattle.std.proofs.lemmas.Bool.{and_from, and_parts}
@@ -12,9 +12,9 @@ use Rattle.json.specs.Tree.{json_tokens, HasNumbers, ItemsHaveNumbers, MembersHa
 use Rattle.json.specs.Word.{head, after_digits, after_minus, after_sign, after_whole, after_fraction, after_exponent, after_number}
 use Rattle.json.proofs.Printed.Tokens.{tokens-print}
 use Rattle.json.proofs.Printed.Trees.{ArePrintable-json_tokens}
-use Rattle.json_text.specs.Members.{json_text}
-use Rattle.json_text.specs.Numbers.{AreDigits, IsDigits, IsMinus, no_minus, minus, IsInt, zero_int, other_int, IsFraction, no_fraction, fraction, IsSign, no_sign, sign, IsExponent, no_exponent, exponent, IsJsonNumber}
-use Rattle.json_text.specs.Quote.{is_digit, is_mark, is_sign}
+use Rattle.json_text.specs.{AreDigits, IsDigits, IsExponent, IsFraction, IsInt, IsJsonNumber, IsMinus, IsSign, exponent}
+use Rattle.json_text.specs.{fraction, is_digit, is_mark, is_sign, json_text, minus, no_exponent, no_fraction, no_minus}
+use Rattle.json_text.specs.{no_sign, other_int, sign, zero_int}
 use Rattle.json_text.proofs.Steps.{is_not_test}
 use Rattle.json_text.proofs.WellFormed.{IsSound, AreSound, AreSoundMembers}
 

@@ -4,9 +4,8 @@ use Rattle.std.specs.Str.{IsUtf8}
 use Rattle.json.specs.Lex.{tokens}
 use Rattle.json.specs.Print.{print}
 use Rattle.json.specs.Token.{Token}
-use Rattle.ocpi_types.specs.declared.packet.Packet.{Packet}
-use Rattle.json_text.specs.Line.{max_line}
-use Rattle.json_text.specs.Members.{said}
+use Rattle.ocpi_types.specs.{Packet}
+use Rattle.json_text.specs.{max_line, said}
 use Rattle.ocpi_json.specs.Packets.{packet_members, packet_json, packet_text, packet_in, PacketFits}
 use Rattle.ocpi_json.proofs.PacketLemmas.{packet_well, packet_again}
 use Rattle.json_text.proofs.ReadAgain.{text_is, tree_again}

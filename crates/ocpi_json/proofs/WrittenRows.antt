@@ -4,9 +4,8 @@ use Rattle.std.specs.Str.{IsUtf8}
 use Rattle.json.specs.Lex.{tokens}
 use Rattle.json.specs.Print.{print}
 use Rattle.json.specs.Token.{Token}
-use Rattle.ocpi_types.specs.Rows.{key_of}
-use Rattle.ocpi_types.specs.declared.rows.Row.{Row}
-use Rattle.json_text.specs.Members.{object_of, said}
+use Rattle.ocpi_types.specs.{Row, key_of}
+use Rattle.json_text.specs.{object_of, said}
 use Rattle.ocpi_json.specs.RowForms.{row_in, row_in_1, row_laid_out, row_members, row_text, row_text_1, RowTextFits, RowTextsOf1AreRead}
 use Rattle.ocpi_json.specs.RowKeys.{KeyFits, key_text, kind_of_key, row_kind_word}
 use Rattle.ocpi_json.specs.declared.rows.RowLayout.{RowLayout}

@@ -4,18 +4,11 @@
 use Rattle.std.specs.Prelude.{ℕ, List, Bool, Option, Some, None, Ok, codes, if◌then◌else◌}
 use Rattle.std.specs.Str.{bytes_eq}
 use Rattle.serde_json.specs.Data.{Data}
-use Rattle.ocpi_types.specs.Words.{token_type_of}
-use Rattle.ocpi_types.specs.declared.events.ChargerEvent.{ChargerEvent}
-use Rattle.ocpi_types.specs.declared.events.ChargerEvent.TheVariants as charger
-use Rattle.ocpi_types.specs.declared.events.Event.{Event}
-use Rattle.ocpi_types.specs.declared.events.EventKind.{EventKind}
-use Rattle.ocpi_types.specs.declared.events.EventKind.TheVariants as kind
-use Rattle.ocpi_types.specs.declared.events.Order.{Order}
-use Rattle.ocpi_types.specs.declared.events.Order.TheVariants as order
-use Rattle.ocpi_types.specs.declared.field.Field.{Field}
-use Rattle.ocpi_types.specs.declared.field.Field.TheVariants as field
-use Rattle.ocpi_types.specs.declared.token.Token.{Token}
-use Rattle.ocpi_types.specs.declared.words.TokenType.{TokenType}
+use Rattle.ocpi_types.specs.{ChargerEvent, Event, EventKind, Field, Order, Token, TokenType, token_type_of}
+use Rattle.ocpi_types.specs.event as charger
+use Rattle.ocpi_types.specs.kind
+use Rattle.ocpi_types.specs.order
+use Rattle.ocpi_types.specs.field
 use Rattle.ocpi_json.specs.declared.events.ChargerWord.{ChargerWord}
 use Rattle.ocpi_json.specs.declared.events.ChargerWord.TheVariants as report
 use Rattle.ocpi_json.specs.declared.events.CommandNumber.{CommandNumber}
@@ -28,10 +21,9 @@ use Rattle.ocpi_json.specs.declared.events.CreditOrdered.{CreditOrdered}
 use Rattle.ocpi_json.specs.declared.events.ServiceSet.{ServiceSet}
 use Rattle.ocpi_json.specs.declared.events.Submission.{Submission}
 use Rattle.ocpi_json.specs.declared.events.TokenStored.{TokenStored}
-use Rattle.json_text.specs.Fault.{Read, ◌>>=◌}
-use Rattle.json_text.specs.Fields.{as_record, ci_in, known_in, moment_in, party_in, quantity_in, record_in, truth_in, whole_in, word_in, optional}
-use Rattle.json_text.specs.Form.{Required, Optional, IsCi, IsMoment, IsParty, IsQuantity, IsRecord, IsTruth, IsWhole, IsWord}
-use Rattle.json_text.specs.Line.{HasTree, tree_at}
+use Rattle.json_text.specs.{HasTree, IsCi, IsMoment, IsParty, IsQuantity, IsRecord, IsTruth, IsWhole, IsWord, Optional}
+use Rattle.json_text.specs.{Read, Required, as_record, ci_in, known_in, moment_in, optional, party_in, quantity_in}
+use Rattle.json_text.specs.{record_in, tree_at, truth_in, whole_in, word_in, ◌>>=◌}
 use Rattle.ocpi_forms.specs.Tokens.{token_at, IsToken}
 
 -- ---- words

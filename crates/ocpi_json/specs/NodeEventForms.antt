@@ -2,18 +2,15 @@
 -- the envelope and the body of a packet's line (OCPI 2.2.1, Commands, Sessions, CDRs and Tokens).
 use Rattle.std.specs.Prelude.{ℕ, List, Ok}
 use Rattle.serde_json.specs.Data.{Data}
-use Rattle.ocpi_types.specs.declared.field.Field.TheVariants as field
-use Rattle.ocpi_types.specs.declared.node_events.NodeEvent.{NodeEvent}
-use Rattle.ocpi_types.specs.declared.node_events.NodeEventKind.{NodeEventKind}
+use Rattle.ocpi_types.specs.field
+use Rattle.ocpi_types.specs.{NodeEvent, NodeEventKind}
 use Rattle.ocpi_types.specs.declared.node_events.NodeEventKind.TheVariants as kind
 use Rattle.ocpi_json.specs.declared.events.EventWord.{EventWord}
 use Rattle.ocpi_json.specs.declared.events.EventWord.TheVariants as event
 use Rattle.ocpi_json.specs.EventForms.{event_of_word, word_of_report, submit_at, token_event_at, service_at, charger_at, credit_event_at, HasMoment, IsSubmission, IsTokenStored, IsServiceSet, IsCreditOrdered, IsReported}
 use Rattle.ocpi_json.specs.Packets.{packet_at, IsPacket}
-use Rattle.json_text.specs.Fault.{Read, ◌>>=◌}
-use Rattle.json_text.specs.Fields.{as_record, known_in, moment_in, party_in, record_in}
-use Rattle.json_text.specs.Form.{Required, IsParty, IsRecord, IsWord}
-use Rattle.json_text.specs.Line.{HasTree, tree_at}
+use Rattle.json_text.specs.{HasTree, IsParty, IsRecord, IsWord, Read, Required, as_record, known_in, moment_in}
+use Rattle.json_text.specs.{party_in, record_in, tree_at, ◌>>=◌}
 
 -- the word of what happens, of those that an event of a run has
 abbrev pub word_of_node_kind : NodeEventKind → EventWord

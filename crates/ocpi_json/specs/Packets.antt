@@ -3,19 +3,13 @@
 use Rattle.std.specs.Prelude.{◌≡◌, ◌≤◌, ℕ, List, [], ◌∷◌, Ok}
 use Rattle.json.specs.Json as json
 use Rattle.serde_json.specs.Data.{Data}
-use Rattle.ocpi_text.specs.Party.{party_at}
-use Rattle.ocpi_text.specs.Whole.{max_whole}
-use Rattle.ocpi_types.specs.Kinds.{kind_of}
-use Rattle.ocpi_types.specs.Words.{kind_word, kind_of_word}
-use Rattle.ocpi_types.specs.declared.field.Field.TheVariants as field
-use Rattle.ocpi_types.specs.declared.packet.Packet.{Packet}
+use Rattle.ocpi_text.specs.{max_whole, party_at}
+use Rattle.ocpi_types.specs.{Packet, kind_of, kind_of_word, kind_word}
+use Rattle.ocpi_types.specs.field
 use Rattle.ocpi_json.specs.declared.packets.Envelope.{Envelope}
 use Rattle.ocpi_forms.specs.Bodies.{body_at, IsBody, body_members, BodyFits}
-use Rattle.json_text.specs.Fault.{Read, ◌>>=◌}
-use Rattle.json_text.specs.Fields.{party_in, whole_in, record_in, known_in, as_record}
-use Rattle.json_text.specs.Form.{Required, IsParty, IsWhole, IsWord, IsRecord}
-use Rattle.json_text.specs.Line.{HasTree, tree_at}
-use Rattle.json_text.specs.Members.{Member, text, whole, inner, object_of, json_text}
+use Rattle.json_text.specs.{HasTree, IsParty, IsRecord, IsWhole, IsWord, Member, Read, Required, as_record, inner}
+use Rattle.json_text.specs.{json_text, known_in, object_of, party_in, record_in, text, tree_at, whole, whole_in, ◌>>=◌}
 
 -- ---- reading
 

@@ -2,23 +2,14 @@
 use Rattle.std.specs.Prelude.{◌≡◌, ◌≢◌, ◌≤◌, ℕ, List, [], ◌∷◌, Option, Some, None, Ok, Err, if◌then◌else◌}
 use Rattle.std.specs.Str.{IsUtf8, bytes_eq}
 use Rattle.serde_json.specs.Data.{Data}
-use Rattle.ocpi_text.specs.Party.{party_at}
-use Rattle.ocpi_text.specs.Whole.{max_whole}
-use Rattle.ocpi_types.specs.Rows.{key_of}
-use Rattle.ocpi_types.specs.Stored.{body_of_reply, body_of_push}
-use Rattle.ocpi_types.specs.Words.{result_of, result_word}
-use Rattle.ocpi_types.specs.declared.cdrs.Cdr.{Cdr}
-use Rattle.ocpi_types.specs.declared.field.Field.TheVariants as field
-use Rattle.ocpi_types.specs.declared.rows.Row.{Row}
-use Rattle.ocpi_types.specs.declared.rows.Row.TheVariants as row
-use Rattle.ocpi_types.specs.declared.rows.RowKey.TheVariants as keys
-use Rattle.ocpi_types.specs.declared.words.CommandResultType.{CommandResultType}
-use Rattle.json_text.specs.declared.fault.JsonFault.TheVariants.{WrongForm}
-use Rattle.json_text.specs.Fault.{Read, ◌>>=◌}
-use Rattle.json_text.specs.Fields.{as_record, known, party_in, whole_in, word_in}
-use Rattle.json_text.specs.Form.{Required, IsParty, IsRecord, IsWhole, IsWord}
-use Rattle.json_text.specs.Texts.{HasTextTree, text_tree}
-use Rattle.json_text.specs.Members.{Member, text, whole, object_of, json_text}
+use Rattle.ocpi_text.specs.{max_whole, party_at}
+use Rattle.ocpi_types.specs.{Cdr, CommandResultType, Row, body_of_push, body_of_reply, key_of, result_of, result_word}
+use Rattle.ocpi_types.specs.field
+use Rattle.ocpi_types.specs.row
+use Rattle.ocpi_types.specs.keys
+use Rattle.json_text.specs.{HasTextTree, IsParty, IsRecord, IsWhole, IsWord, Member, Read, Required, WrongForm}
+use Rattle.json_text.specs.{as_record, json_text, known, object_of, party_in, text, text_tree, whole, whole_in, word_in}
+use Rattle.json_text.specs.{◌>>=◌}
 use Rattle.ocpi_forms.specs.Bodies.{BodyFits}
 use Rattle.ocpi_forms.specs.CdrForms.{cdr_at, IsCdr, cdr_members, CdrFits, stored_cdr_at, IsStoredCdr, stored_cdr_members}
 use Rattle.ocpi_forms.specs.SessionForms.{session_at, IsSession, session_members, SessionFits}

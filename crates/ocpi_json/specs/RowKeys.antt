@@ -1,17 +1,11 @@
 -- The kinds of rows, and the texts under which rows of a kind are stored.
 use Rattle.std.specs.Prelude.{◌≡◌, ◌≤◌, ◌==◌, ◌&&◌, ◌++◌, ◌∷◌, ◌↔◌, ℕ, List, length, take, drop, slice_index, nat_lt, codes, decimal, Option, Some, None, Result, Ok, Err, if◌then◌else◌}
 use Rattle.std.specs.Str.{bytes_eq}
-use Rattle.ocpi_text.specs.Party.{party_at}
-use Rattle.ocpi_text.specs.Text.{ci_text, key}
-use Rattle.ocpi_text.specs.Whole.{max_whole, whole_at}
-use Rattle.ocpi_text.specs.declared.fault.TextFault.{TextFault}
-use Rattle.ocpi_types.specs.Rows.{counter_name}
-use Rattle.ocpi_types.specs.Words.{token_type_word}
-use Rattle.ocpi_types.specs.declared.rows.Counter.{Counter}
-use Rattle.ocpi_types.specs.declared.rows.Counter.TheVariants as counter
-use Rattle.ocpi_types.specs.declared.rows.RowKey.{RowKey}
-use Rattle.ocpi_types.specs.declared.rows.RowKey.TheVariants as keys
-use Rattle.json_text.specs.Fits.{FitsCi}
+use Rattle.ocpi_text.specs.{TextFault, ci_text, key, max_whole, party_at, whole_at}
+use Rattle.ocpi_types.specs.{Counter, RowKey, counter_name, token_type_word}
+use Rattle.ocpi_types.specs.counter
+use Rattle.ocpi_types.specs.keys
+use Rattle.json_text.specs.{FitsCi}
 use Rattle.ocpi_json.specs.declared.row_keys.PartyId.{PartyId}
 use Rattle.ocpi_json.specs.declared.row_keys.PartyNumber.{PartyNumber}
 use Rattle.ocpi_json.specs.declared.row_kinds.RowKind.{RowKind}

@@ -2,18 +2,12 @@
 -- (OCPI 2.2.1, Locations: Location, EVSE and Connector objects).
 use Rattle.std.specs.Prelude.{ℕ, List, [], map, Option, Some, None, Ok}
 use Rattle.serde_json.specs.Data.{Data}
-use Rattle.ocpi_types.specs.Setups.{AreNodes, node_key, party_of}
-use Rattle.ocpi_types.specs.declared.field.Field.{Field}
-use Rattle.ocpi_types.specs.declared.field.Field.TheVariants as field
-use Rattle.ocpi_types.specs.declared.setup.Node.{Node}
-use Rattle.ocpi_types.specs.declared.setup.Node.TheVariants as node
-use Rattle.ocpi_types.specs.declared.site.Site.{Site}
-use Rattle.json_text.specs.Fault.{Read, ◌>>=◌}
-use Rattle.json_text.specs.Fields.{as_record, party_in, record_in, optional, each_after}
-use Rattle.json_text.specs.Form.{Required, Optional, IsParty, IsRecord, IsList}
-use Rattle.json_text.specs.Line.{HasTree, tree_at}
+use Rattle.ocpi_types.specs.{AreNodes, Field, Node, Site, node_key, party_of}
+use Rattle.ocpi_types.specs.field
+use Rattle.ocpi_types.specs.node
+use Rattle.json_text.specs.{HasTree, IsList, IsParty, IsRecord, Optional, Read, Required, as_record, counted_in}
+use Rattle.json_text.specs.{each_after, new_among, optional, party_in, record_in, tree_at, ◌>>=◌}
 use Rattle.ocpi_forms.specs.SiteForm.{IsSite}
-use Rattle.json_text.specs.Lists.{new_among, counted_in}
 use Rattle.ocpi_forms.specs.Sites.{site_at}
 
 -- ---- reading, in the order in which faults are told

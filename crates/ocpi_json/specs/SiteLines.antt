@@ -1,9 +1,8 @@
 -- Site lines and their bytes.
 use Rattle.std.specs.Prelude.{ℕ, List}
 use Rattle.serde_json.specs.Data.{Data}
-use Rattle.ocpi_types.specs.declared.site.SiteLine.{SiteLine}
-use Rattle.json_text.specs.Fault.{Read, ◌>>=◌}
-use Rattle.json_text.specs.Line.{HasTree, tree_at}
+use Rattle.ocpi_types.specs.{SiteLine}
+use Rattle.json_text.specs.{HasTree, Read, tree_at, ◌>>=◌}
 use Rattle.ocpi_forms.specs.SiteForm.{IsSiteLineTree}
 use Rattle.ocpi_forms.specs.Sites.{site_of_line}
 

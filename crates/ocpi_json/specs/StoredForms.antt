@@ -3,29 +3,16 @@
 use Rattle.std.specs.Prelude.{◌≡◌, ◌≤◌, ℕ, List, [], ◌∷◌, codes, option_map, IfSome, Option, Some, None, Ok, if◌then◌else◌}
 use Rattle.std.specs.Str.{bytes_eq}
 use Rattle.serde_json.specs.Data.{Data}
-use Rattle.ocpi_text.specs.Moment.{last_moment}
-use Rattle.ocpi_text.specs.Party.{party_at}
-use Rattle.ocpi_types.specs.Kinds.{kind_of}
-use Rattle.ocpi_types.specs.Stored.{body_of_reply, body_of_push}
-use Rattle.ocpi_types.specs.Words.{kind_word, result_of, result_word}
-use Rattle.ocpi_types.specs.declared.field.Field.{Field}
-use Rattle.ocpi_types.specs.declared.field.Field.TheVariants as field
-use Rattle.ocpi_types.specs.declared.packet.Body.{Body}
-use Rattle.ocpi_types.specs.declared.packet.Body.TheVariants as body
-use Rattle.ocpi_types.specs.declared.replies.CommandResponse.{CommandResponse}
-use Rattle.ocpi_types.specs.declared.commands.Command.{Command}
-use Rattle.ocpi_types.specs.declared.stored.OpenCommand.{OpenCommand}
-use Rattle.ocpi_types.specs.declared.stored.Push.{Push}
-use Rattle.ocpi_types.specs.declared.stored.Push.TheVariants as push
-use Rattle.ocpi_types.specs.declared.stored.Reply.{Reply}
-use Rattle.ocpi_types.specs.declared.stored.Reply.TheVariants as reply
-use Rattle.ocpi_types.specs.declared.stored.Reservation.{Reservation}
-use Rattle.ocpi_types.specs.declared.stored.SentCommand.{SentCommand}
-use Rattle.json_text.specs.Fault.{Read, ◌>>=◌}
-use Rattle.json_text.specs.Fields.{ci_in, known_in, moment_in, optional, party_in, record_in, word_in}
-use Rattle.json_text.specs.Fits.{FitsCi, FitsOption}
-use Rattle.json_text.specs.Form.{Required, Optional, IsCi, IsMoment, IsParty, IsRecord, IsWord}
-use Rattle.json_text.specs.Members.{Member, text, optional_text, moment, inner, optional_inner}
+use Rattle.ocpi_text.specs.{last_moment, party_at}
+use Rattle.ocpi_types.specs.{Body, Command, CommandResponse, Field, OpenCommand, Push, Reply, Reservation, SentCommand}
+use Rattle.ocpi_types.specs.{body_of_push, body_of_reply, kind_of, kind_word, result_of, result_word}
+use Rattle.ocpi_types.specs.field
+use Rattle.ocpi_types.specs.body
+use Rattle.ocpi_types.specs.push
+use Rattle.ocpi_types.specs.reply
+use Rattle.json_text.specs.{FitsCi, FitsOption, IsCi, IsMoment, IsParty, IsRecord, IsWord, Member, Optional, Read}
+use Rattle.json_text.specs.{Required, ci_in, inner, known_in, moment, moment_in, optional, optional_inner}
+use Rattle.json_text.specs.{optional_text, party_in, record_in, text, word_in, ◌>>=◌}
 use Rattle.ocpi_forms.specs.AnyCommand.{command_at, command_kind}
 use Rattle.ocpi_forms.specs.AuthorizationForms.{authorization_at}
 use Rattle.ocpi_forms.specs.Bodies.{IsBody, body_members, BodyFits}

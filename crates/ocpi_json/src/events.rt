@@ -1,7 +1,7 @@
 //! Event lines: what happens at a node of a run. Each reader tells the first fault, in the order of the members here.
 
 ghost use Rattle.std.specs.Prelude.{◌≡◌, IfOk, Ok};
-ghost use Rattle.json_text.specs.Trees.{view};
+ghost use Rattle.json_text.specs.{known_in, view};
 ghost use Rattle.ocpi_json.specs.EventForms.{
   event_of_word,
   order_of_word,
@@ -24,8 +24,7 @@ ghost use Rattle.ocpi_json.specs.EventForms.{
   event_of_line,
   IsEventLine,
 };
-ghost use Rattle.json_text.specs.Fields.{known_in};
-ghost use Rattle.ocpi_types.specs.declared.field.Field.TheVariants as field;
+ghost use Rattle.ocpi_types.specs.field;
 
 use json_text::fields::{
     as_record, ci_in, moment_in, optional_ci_in, party_in, quantity_in, record_in, text_in,

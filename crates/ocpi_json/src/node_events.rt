@@ -2,8 +2,7 @@
 //! fault, in the order of the members here.
 
 ghost use Rattle.std.specs.Prelude.{◌≡◌, IfOk, Ok};
-ghost use Rattle.json_text.specs.Fault.{Gives};
-ghost use Rattle.json_text.specs.Trees.{view};
+ghost use Rattle.json_text.specs.{Gives, view};
 ghost use Rattle.ocpi_json.specs.NodeEventForms.{
   delivery_at,
   node_kind_at,

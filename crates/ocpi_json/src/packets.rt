@@ -1,12 +1,9 @@
 //! Packets: an envelope that says whose the packet is and under which numbers, and what it carries.
 
 ghost use Rattle.std.specs.Prelude.{◌≡◌, IfOk, Ok, OnOk};
-ghost use Rattle.json_text.specs.Trees.{view};
-ghost use Rattle.ocpi_types.specs.Words.{kind_of_word};
-ghost use Rattle.ocpi_types.specs.declared.field.Field.TheVariants as field;
-ghost use Rattle.json_text.specs.Fault.{Gives};
-ghost use Rattle.json_text.specs.Fields.{known_in};
-ghost use Rattle.json_text.specs.Members.{said};
+ghost use Rattle.json_text.specs.{Gives, known_in, said, view};
+ghost use Rattle.ocpi_types.specs.{kind_of_word};
+ghost use Rattle.ocpi_types.specs.field;
 ghost use Rattle.ocpi_json.specs.Packets.{
   envelope_at,
   packet_at,

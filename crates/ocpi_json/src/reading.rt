@@ -1,10 +1,8 @@
 //! Lines to packets, site lines, setups and events, and stored texts to rows.
 
 ghost use Rattle.std.specs.Prelude.{◌≡◌, List, Ok, Err, IfOk};
-ghost use Rattle.json_text.specs.declared.fault.JsonFault.TheVariants.{Syntax};
-ghost use Rattle.json_text.specs.Line.{IsNoText};
+ghost use Rattle.json_text.specs.{Gives, IsNoText, Syntax};
 ghost use Rattle.ocpi_json.specs.EventForms.{SpellsEvent, event_in};
-ghost use Rattle.json_text.specs.Fault.{Gives};
 ghost use Rattle.ocpi_json.specs.NodeEventForms.{SpellsNodeEvent, node_event_in};
 ghost use Rattle.ocpi_json.specs.Packets.{SpellsPacket, packet_in};
 ghost use Rattle.ocpi_json.specs.RowForms.{
@@ -18,12 +16,7 @@ ghost use Rattle.ocpi_json.specs.RowForms.{
 ghost use Rattle.ocpi_json.specs.SetupForms.{SpellsSetup, setup_in};
 ghost use Rattle.ocpi_json.specs.SiteLines.{SpellsSiteLine, site_in};
 ghost use Rattle.ocpi_json.specs.declared.rows.RowLayout.TheVariants as layout;
-ghost use Rattle.ocpi_types.specs.declared.events.Event.{Event};
-ghost use Rattle.ocpi_types.specs.declared.node_events.NodeEvent.{NodeEvent};
-ghost use Rattle.ocpi_types.specs.declared.packet.Packet.{Packet};
-ghost use Rattle.ocpi_types.specs.declared.rows.Row.{Row};
-ghost use Rattle.ocpi_types.specs.declared.setup.Node.{Node};
-ghost use Rattle.ocpi_types.specs.declared.site.SiteLine.{SiteLine};
+ghost use Rattle.ocpi_types.specs.{Event, Node, NodeEvent, Packet, Row, SiteLine};
 
 use crate::events::event_of_line;
 use crate::node_events::node_event_of_line;

@@ -3,7 +3,7 @@
 //! so that an id behind it may have strokes of its own.
 
 ghost use Rattle.std.specs.Prelude.{◌≡◌, ◌==◌, ◌++◌, ◌∷◌, true, IfOk, IfSome, decimal, drop, slice_index, string_bytes};
-ghost use Rattle.ocpi_types.specs.Words.{token_type_word};
+ghost use Rattle.ocpi_types.specs.{token_type_word};
 ghost use Rattle.ocpi_json.specs.RowForms.{ReadKeysFit, row_in, row_in_1};
 ghost use Rattle.ocpi_json.specs.RowKeys.{
   IsCiKey,

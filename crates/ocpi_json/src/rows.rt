@@ -5,10 +5,8 @@
 
 ghost use Rattle.std.specs.Prelude.{◌≡◌, ◌≤◌, [], IfOk, OnOk};
 ghost use Rattle.std.specs.Str.{bytes_eq};
-ghost use Rattle.json_text.specs.Trees.{view};
-ghost use Rattle.ocpi_text.specs.Whole.{max_whole};
-ghost use Rattle.json_text.specs.Fault.{Gives};
-ghost use Rattle.json_text.specs.Members.{said};
+ghost use Rattle.json_text.specs.{Gives, said, view};
+ghost use Rattle.ocpi_text.specs.{max_whole};
 ghost use Rattle.ocpi_json.specs.RowKeys.{key_text};
 ghost use Rattle.ocpi_json.specs.declared.rows.RowLayout.TheVariants as layout;
 ghost use Rattle.ocpi_json.specs.RowForms.{
@@ -44,9 +42,7 @@ use crate::stored::{
 };
 use json_text::fields::{as_record, party_in, whole_in, word_in};
 use json_text::{JsonFault, RecordWriter, Tree};
-use ocpi_forms::{
-    Record, boxed_cdr_of, boxed_session_of, boxed_stored_cdr_of, boxed_token_of, write_stored_cdr,
-};
+use ocpi_forms::{Record, boxed_cdr_of, boxed_session_of, boxed_stored_cdr_of, boxed_token_of, write_stored_cdr};
 use ocpi_text::Whole;
 use ocpi_types::{Boxed, Cdr, CommandResultType, Field, Row, RowKey};
 use std::alloc::{AllocError, Global};

@@ -1,12 +1,10 @@
 //! Setup lines: the nodes of a run. Each reader gives the first fault in the order of the members.
 
 ghost use Rattle.std.specs.Prelude.{◌≡◌, map, IfOk, Ok};
-ghost use Rattle.json_text.specs.Trees.{view};
-ghost use Rattle.ocpi_text.specs.Text.{key};
-ghost use Rattle.ocpi_types.specs.Setups.{node_key};
-ghost use Rattle.json_text.specs.Fault.{Gives};
+ghost use Rattle.json_text.specs.{Gives, is_among, view};
+ghost use Rattle.ocpi_text.specs.{key};
+ghost use Rattle.ocpi_types.specs.{node_key};
 ghost use Rattle.ocpi_json.specs.SetupForms.{node_at, node_element, setup_at, setup_of_line, IsSetupLine};
-ghost use Rattle.json_text.specs.Lists.{is_among};
 
 use json_text::fields::{as_record, is_absent, party_in, record_in};
 use json_text::lists::{ElementReader, counted_in, elements};

@@ -3,14 +3,11 @@
 //! tried before the body is looked at.
 
 ghost use Rattle.std.specs.Prelude.{◌≡◌, Ok, OnOk};
-ghost use Rattle.json_text.specs.Trees.{view};
-ghost use Rattle.ocpi_text.specs.Party.{party_at};
-ghost use Rattle.ocpi_types.specs.Stored.{body_of_reply, body_of_push};
-ghost use Rattle.ocpi_types.specs.declared.field.Field.TheVariants as field;
-ghost use Rattle.ocpi_types.specs.declared.packet.Body.TheVariants as body;
-ghost use Rattle.json_text.specs.Fault.{Gives};
-ghost use Rattle.json_text.specs.Fields.{known_in, optional};
-ghost use Rattle.json_text.specs.Members.{and_member, said};
+ghost use Rattle.json_text.specs.{Gives, and_member, known_in, optional, said, view};
+ghost use Rattle.ocpi_text.specs.{party_at};
+ghost use Rattle.ocpi_types.specs.{body_of_push, body_of_reply};
+ghost use Rattle.ocpi_types.specs.field;
+ghost use Rattle.ocpi_types.specs.body;
 ghost use Rattle.ocpi_forms.specs.AnyCommand.{command_at};
 ghost use Rattle.ocpi_forms.specs.Bodies.{BodyFits};
 ghost use Rattle.ocpi_json.specs.EventForms.{order_of_word};
@@ -38,9 +35,7 @@ ghost use Rattle.ocpi_json.specs.StoredForms.{
 };
 
 use crate::events::order_word;
-use json_text::fields::{
-    ci_in, is_absent, moment_in, optional_ci_in, optional_word_in, party_in, record_in, text_in,
-};
+use json_text::fields::{ci_in, is_absent, moment_in, optional_ci_in, optional_word_in, party_in, record_in, text_in};
 use json_text::{JsonFault, RecordWriter, Tree};
 use ocpi_forms::{
     CommandKind, ack_of, boxed_authorization_of, boxed_cdr_of, boxed_session_of, boxed_token_of,

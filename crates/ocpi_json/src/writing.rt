@@ -1,8 +1,8 @@
 //! Packets to lines, and rows to stored texts.
 
 ghost use Rattle.std.specs.Prelude.{◌≡◌, ◌≤◌, length, IfOk, Ok, string_bytes};
-ghost use Rattle.json_text.specs.Line.{max_line};
-ghost use Rattle.ocpi_types.specs.Rows.{key_of};
+ghost use Rattle.json_text.specs.{max_line};
+ghost use Rattle.ocpi_types.specs.{key_of};
 ghost use Rattle.ocpi_json.specs.Packets.{packet_in, packet_text};
 ghost use Rattle.ocpi_json.specs.RowForms.{row_in, row_text};
 ghost use Rattle.ocpi_json.specs.RowKeys.{KeyFits, key_text, kind_of_key, row_kind_word};

@@ -2,7 +2,7 @@
 
 ghost use Rattle.std.specs.Prelude.{◌≡◌, IfErr, IfOk, IsOk, OnOk, Err, None, Ok, Some};
 ghost use Rattle.node_programs.specs.Stops.{play_status};
-ghost use Rattle.node_runs.specs.Stops.{node_status};
+ghost use Rattle.node_runs.specs.{node_status};
 
 use crate::command::NodeWords;
 use crate::refusal::{advice_for, words_for, words_for_node, words_for_reason, words_with_numbers};

@@ -1,8 +1,7 @@
 //! The files of transcripts are read, and woven to the standard output.
 
 ghost use Rattle.std.specs.Prelude.{◌≡◌, IfOk, Err, Ok};
-ghost use Rattle.line_runs.specs.Outcome.{exit_status};
-ghost use Rattle.line_runs.specs.declared.outcome.RunFault.{RunFault as RunFaultOf};
+ghost use Rattle.line_runs.specs.{RunFault as RunFaultOf, exit_status};
 ghost use Rattle.weave_runs.specs.declared.fault.GivenFault.{GivenFault as GivenFaultOf};
 
 use crate::BUFFER_BYTES;

@@ -1,7 +1,7 @@
 -- The locations of a site (OCPI 2.2.1, Locations: Location object).
 use Rattle.std.specs.Prelude.{ℕ, List, length, map}
 use Rattle.std.specs.List.{flat_map}
-use Rattle.ocpi_text.specs.Text.{key}
+use Rattle.ocpi_text.specs.{key}
 use Rattle.ocpi_types.specs.Apart.{AllDiffer}
 use Rattle.ocpi_types.specs.Limits.{IsCount}
 use Rattle.ocpi_types.specs.declared.site.Evse.{Evse}

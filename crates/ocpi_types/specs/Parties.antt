@@ -1,6 +1,6 @@
 -- The parties of a site.
 use Rattle.std.specs.Prelude.{ℕ, ◌≤◌, List, [], ◌∷◌, length, map}
-use Rattle.ocpi_text.specs.Text.{key}
+use Rattle.ocpi_text.specs.{key}
 use Rattle.ocpi_types.specs.Apart.{DifferFrom}
 
 pub record SiteParties : Type 0 where

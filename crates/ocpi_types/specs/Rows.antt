@@ -1,6 +1,6 @@
 -- The kinds and keys under which rows are stored. Texts are in the form by which they are compared.
 use Rattle.std.specs.Prelude.{ℕ, List, codes}
-use Rattle.ocpi_text.specs.Text.{key}
+use Rattle.ocpi_text.specs.{key}
 use Rattle.ocpi_types.specs.declared.rows.Row.{Row}
 use Rattle.ocpi_types.specs.declared.rows.Row.TheVariants as row
 use Rattle.ocpi_types.specs.declared.rows.RowKey.{RowKey}

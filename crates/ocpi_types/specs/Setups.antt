@@ -1,6 +1,6 @@
 -- The nodes of a run.
 use Rattle.std.specs.Prelude.{ℕ, List, length, map}
-use Rattle.ocpi_text.specs.Text.{key}
+use Rattle.ocpi_text.specs.{key}
 use Rattle.ocpi_types.specs.Apart.{AllDiffer}
 use Rattle.ocpi_types.specs.Limits.{IsCount}
 use Rattle.ocpi_types.specs.declared.setup.Node.{Node}

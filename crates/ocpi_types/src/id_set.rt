@@ -2,7 +2,7 @@
 
 ghost use Rattle.std.specs.Prelude.{◌≡◌, false, not, IfOk, OnOk, OnErr};
 ghost use Rattle.std.specs.FinSet as set;
-ghost use Rattle.ocpi_text.specs.Text.{key};
+ghost use Rattle.ocpi_text.specs.{key};
 
 use ocpi_text::{CiKey, CiText};
 use std::alloc::{AllocError, Global};

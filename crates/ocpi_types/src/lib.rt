@@ -67,9 +67,7 @@ mod words;
 pub use authorizations::{Authorization, AuthorizationInfo, Authorize, LocationReferences};
 pub use boxed::Boxed;
 pub use cdrs::{Cdr, CdrDimension, CdrLocation, ChargingPeriod, GeoLocation};
-pub use commands::{
-    CancelReservation, Command, ReserveNow, StartSession, StopSession, UnlockConnector,
-};
+pub use commands::{CancelReservation, Command, ReserveNow, StartSession, StopSession, UnlockConnector};
 pub use events::{ChargerEvent, Event, EventKind, Order};
 pub use field::Field;
 pub use id_set::IdSet;

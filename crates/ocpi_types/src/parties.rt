@@ -1,7 +1,7 @@
 //! The parties of a site.
 
 ghost use Rattle.std.specs.Prelude.{◌≡◌, IfOk, SomeIff};
-ghost use Rattle.ocpi_text.specs.Text.{key};
+ghost use Rattle.ocpi_text.specs.{key};
 ghost use Rattle.ocpi_types.specs.Parties.{SiteParties, AreParties};
 
 use crate::apart::{Identified, differ_from};

@@ -3,7 +3,7 @@
 
 ghost use Rattle.std.specs.Prelude.{◌≡◌, ◌↔◌, ◌++◌, List, ℕ, IfOk, IsTrue, OnErr, SomeIff, length};
 ghost use Rattle.std.specs.FinSet as set;
-ghost use Rattle.ocpi_text.specs.Text.{key};
+ghost use Rattle.ocpi_text.specs.{key};
 ghost use Rattle.ocpi_types.specs.Apart.{AllDiffer, DifferFrom};
 ghost use Rattle.ocpi_types.specs.Limits.{IsCount};
 ghost use Rattle.ocpi_types.specs.Locations.{AreLocations, evse_keys, location_keys, site_evse_keys};

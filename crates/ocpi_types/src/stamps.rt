@@ -2,7 +2,7 @@
 //! objects).
 
 ghost use Rattle.std.specs.Prelude.{◌≡◌, ◌<◌, IfNone, SomeIff};
-ghost use Rattle.ocpi_text.specs.Moment.{last_moment};
+ghost use Rattle.ocpi_text.specs.{last_moment};
 ghost use Rattle.ocpi_types.specs.Stamps.{next_stamp};
 
 use ocpi_text::Moment;

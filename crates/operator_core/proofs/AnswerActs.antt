@@ -1,18 +1,13 @@
 -- A session that begins by an answer, and ends no command.
-use Rattle.std.proofs.Common.{◌≡◌, ◌+◌, ℕ, List, [], length, arith, subst}
-use Rattle.std.specs.Prelude.{Result, Ok, Err, Some, IfOk, IfErr}
-use Rattle.ocpi_types.specs.declared.authorizations.Authorization.{Authorization}
-use Rattle.authorization_book.specs.declared.awaited.Awaited.{Awaited}
-use Rattle.node_steps.specs.Acts.{Act}
-use Rattle.node_steps.specs.Drafts.{Step}
-use Rattle.node_steps.specs.declared.fault.NodeFault.{NodeFault}
+use Rattle.std.proofs.Common.{◌≡◌, ◌+◌, ℕ, List, [], length, arith, subst, Result, Ok, Err, Some, IfOk, IfErr}
+use Rattle.ocpi_types.specs.{Authorization}
+use Rattle.authorization_book.specs.{Awaited}
+use Rattle.node_steps.specs.{Act, NodeFault, Step}
 use Rattle.operator_rows.specs.State.{State}
-use Rattle.operator_steps.specs.declared.ending.Ending.{Ending}
-use Rattle.operator_steps.specs.Sessions.{IsBegun}
+use Rattle.operator_steps.specs.{Ending, IsBegun}
 use Rattle.operator_core.specs.Answering.{ByAnswer}
 use Rattle.operator_core.specs.Planned.{BeginsWith, PlansActs, StopsLine}
-use Rattle.session_tables.specs.declared.beginning.Beginning.{Beginning}
-use Rattle.session_tables.specs.Answers.{BeginsByAnswer}
+use Rattle.session_tables.specs.{Beginning, BeginsByAnswer}
 
 module _ (s : State) (at : ℕ) (w : Awaited) (a : Authorization) (b : Beginning) (by : BeginsByAnswer s.site s.rows w a b) where
   abbrev Begins : List Act → Type 0

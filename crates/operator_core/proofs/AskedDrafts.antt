@@ -1,23 +1,15 @@
 -- The step in which the provider of a token is asked.
-use Rattle.std.proofs.Common.{◌≡◌, ◌+◌, ℕ, List, [], ◌∷◌, refl, ap, ◌∙◌}
-use Rattle.std.specs.Prelude.{Result, Ok, Err, IfErr}
+use Rattle.std.proofs.Common.{◌≡◌, ◌+◌, ℕ, List, [], ◌∷◌, refl, ap, ◌∙◌, Result, Ok, Err, IfErr}
 use Rattle.std.specs.Result.{IsErrAnd}
-use Rattle.ocpi_types.specs.declared.packet.Body.{Body}
-use Rattle.ocpi_types.specs.declared.packet.Body.TheVariants as body
-use Rattle.ocpi_types.specs.declared.rows.Place.{Place}
-use Rattle.ocpi_types.specs.declared.token.Token.{Token}
-use Rattle.authorization_book.specs.declared.waiting.Waiting.{Waiting}
-use Rattle.authorization_book.specs.declared.waiting.Waiting.TheVariants.{Begins}
-use Rattle.node_steps.specs.Acts.{Act, asked}
-use Rattle.node_steps.specs.Drafts.{Gathered, IsInRange, StopsBy, later, opened, with_acts}
-use Rattle.node_steps.specs.Peers.{IsPeer}
-use Rattle.node_steps.specs.declared.fault.NodeFault.{NodeFault}
-use Rattle.node_steps.specs.declared.fault.NodeFault.TheVariants.{Memory}
+use Rattle.ocpi_types.specs.{Body, Place, Token}
+use Rattle.ocpi_types.specs.body
+use Rattle.authorization_book.specs.{Begins, Waiting}
+use Rattle.node_steps.specs.{Act, Gathered, IsInRange, IsPeer, Memory, NodeFault, StopsBy, asked, later, opened}
+use Rattle.node_steps.specs.{with_acts}
 use Rattle.node_steps.proofs.Gathering.{step_is}
 use Rattle.operator_rows.specs.State.{State}
-use Rattle.operator_rows.specs.Steps.{FullStep}
-use Rattle.operator_steps.specs.Asking.{IsAsked, answer_deadline, question}
-use Rattle.operator_steps.specs.Moves.{PlannedBy, Work, counters_of, step_of_work}
+use Rattle.operator_rows.specs.{FullStep}
+use Rattle.operator_steps.specs.{IsAsked, PlannedBy, Work, answer_deadline, counters_of, question, step_of_work}
 use Rattle.operator_core.specs.Planned.{StopsActs, StopsWork}
 use Rattle.operator_core.proofs.CountedDrafts.{counted_in_range, counted_refused, counted_starved}
 

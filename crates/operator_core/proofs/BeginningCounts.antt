@@ -1,16 +1,12 @@
 -- How many numbers the acts of a session that begins take, and that they are gathered in turn.
-use Rattle.std.proofs.Common.{◌≡◌, ◌≤◌, ◌+◌, ◌++◌, ℕ, List, [], ◌∷◌, length, refl, sym, ap, ◌∙◌, arith}
-use Rattle.std.specs.Prelude.{Option, Some, None}
-use Rattle.ocpi_text.specs.Whole.{max_whole}
+use Rattle.std.proofs.Common.{◌≡◌, ◌≤◌, ◌+◌, ◌++◌, ℕ, List, [], ◌∷◌, length, refl, sym, ap, ◌∙◌, arith, Option, Some}
+use Rattle.std.proofs.Common.{None}
+use Rattle.ocpi_text.specs.{max_whole}
 use Rattle.command_book.specs.Stored as book
-use Rattle.node_steps.specs.Acts.{Act, all_messages, all_requests}
-use Rattle.node_steps.specs.Drafts.{Gathered, HasNumbers, HasNumbersOf, with_acts}
+use Rattle.node_steps.specs.{Act, Gathered, HasNumbers, HasNumbersOf, all_messages, all_requests, with_acts}
 use Rattle.node_steps.proofs.Gathering.{messages_count, one_more, requests_append}
 use Rattle.operator_rows.specs.State.{State}
-use Rattle.operator_steps.specs.declared.ending.Ending.{Ending}
-use Rattle.operator_steps.specs.Acts.{spent, used}
-use Rattle.operator_steps.specs.Ends.{ends_acts}
-use Rattle.operator_steps.specs.Sessions.{numbered_sessions}
+use Rattle.operator_steps.specs.{Ending, ends_acts, numbered_sessions, spent, used}
 use Rattle.operator_steps.proofs.Ends.{ends_ask, ends_send}
 use Rattle.operator_core.specs.Planned.{BeginsWith, IsNewSession, begins_acts, begun_acts, version_acts}
 use Rattle.operator_core.specs.declared.sessions.Begun.{Begun}
@@ -18,7 +14,7 @@ use Rattle.operator_core.proofs.CountedDrafts.{CountWithin, left_after, within_b
 use Rattle.operator_core.proofs.Parts.{three_parts}
 use Rattle.operator_core.proofs.VersionCounts.{version_asks, version_sends, version_within}
 use Rattle.operator_core.proofs.Versions.{begun_is}
-use Rattle.session_tables.specs.declared.beginning.Beginning.{Beginning}
+use Rattle.session_tables.specs.{Beginning}
 
 -- a reservation that is used, and a reference that is spent, take no number
 used_sends : (p : List ℕ) (id : Option (List ℕ)) → length (all_messages (used p id)) ≡ 0

@@ -1,28 +1,19 @@
 -- Why a session that is to begin does not.
-use Rattle.std.proofs.Common.{◌≡◌, ◌≤◌, ◌+◌, ◌++◌, ℕ, List, length, subst, sym, arith}
-use Rattle.std.specs.Prelude.{Result, Option, IfErr}
+use Rattle.std.proofs.Common.{◌≡◌, ◌≤◌, ◌+◌, ◌++◌, ℕ, List, length, subst, sym, arith, Result, Option, IfErr}
 use Rattle.std.specs.Result.{IsErrAnd}
-use Rattle.ocpi_text.specs.Text.{key}
-use Rattle.ocpi_text.specs.Whole.{max_whole}
-use Rattle.ocpi_types.specs.declared.rows.Change.TheVariants.{Put}
-use Rattle.ocpi_types.specs.declared.rows.Counter.TheVariants as counter
-use Rattle.ocpi_types.specs.declared.rows.Row.TheVariants as row
+use Rattle.ocpi_text.specs.{key, max_whole}
+use Rattle.ocpi_types.specs.{Put}
+use Rattle.ocpi_types.specs.counter
+use Rattle.ocpi_types.specs.row
 use Rattle.tables.proofs.Elements.{in_front}
-use Rattle.node_steps.specs.Acts.{Act, all_changes}
-use Rattle.node_steps.specs.Drafts.{IsInRange, StopsBy, later}
-use Rattle.node_steps.specs.Peers.{HasPeer}
-use Rattle.node_steps.specs.declared.fault.NodeFault.{NodeFault}
-use Rattle.node_steps.specs.declared.fault.NodeFault.TheVariants.{NumbersUsedUp, Memory}
+use Rattle.node_steps.specs.{Act, HasPeer, IsInRange, Memory, NodeFault, NumbersUsedUp, StopsBy, all_changes, later}
 use Rattle.operator_rows.specs.State.{State}
-use Rattle.operator_steps.specs.declared.ending.Ending.{Ending}
-use Rattle.operator_steps.specs.Acts.{spent}
-use Rattle.operator_steps.specs.Ends.{ends_acts}
-use Rattle.operator_steps.specs.Moves.{counters_of}
+use Rattle.operator_steps.specs.{Ending, counters_of, ends_acts, spent}
 use Rattle.operator_core.specs.Planned.{BeginsWith, StopsActs, StopsLine, begins_acts, begun_acts}
 use Rattle.operator_core.proofs.BeginningCounts.{begins_ask, begins_line, begins_send, begins_within}
 use Rattle.operator_core.proofs.CountedDrafts.{counted_refused, counted_starved, line_stops, returned}
 use Rattle.operator_core.proofs.NewVersions.{some_session}
-use Rattle.session_tables.specs.declared.beginning.Beginning.{Beginning}
+use Rattle.session_tables.specs.{Beginning}
 
 module _ (s : State) (at : ℕ) (ends : List Ending) (r : Option (List ℕ)) (b : Beginning) (peer : HasPeer s.providers (key b.token.party)) where
   abbrev Number : ℕ

@@ -1,31 +1,20 @@
 -- Charge detail records, and the versions of sessions that are completed: what is gathered of them, and the acts that
 -- a line asks for.
-use Rattle.std.proofs.Common.{◌≡◌, ◌≢◌, ◌≤◌, ◌+◌, ◌++◌, ℕ, List, [], ◌∷◌, refl, sym, ap, subst, ◌∙◌, arith}
-use Rattle.std.specs.Prelude.{Contains}
+use Rattle.std.proofs.Common.{◌≡◌, ◌≢◌, ◌≤◌, ◌+◌, ◌++◌, ℕ, List, [], ◌∷◌, refl, sym, ap, subst, ◌∙◌, arith, Contains}
 use Rattle.std.proofs.lemmas.List.{append-nil}
 use Rattle.tables.proofs.Elements.{in_front}
 use Rattle.std.proofs.lemmas.List.Elements.{Contains-append_right}
-use Rattle.ocpi_text.specs.Text.{key}
-use Rattle.ocpi_text.specs.Whole.{max_whole}
-use Rattle.ocpi_types.specs.declared.cdrs.Cdr.{Cdr}
-use Rattle.ocpi_types.specs.declared.rows.Change.TheVariants.{Put}
-use Rattle.ocpi_types.specs.declared.rows.Counter.TheVariants as counter
-use Rattle.ocpi_types.specs.declared.rows.Row.TheVariants as row
-use Rattle.ocpi_types.specs.declared.sessions.Session.{Session}
-use Rattle.ocpi_types.specs.declared.site.Connector.{Connector}
-use Rattle.ocpi_types.specs.declared.site.Evse.{Evse}
-use Rattle.ocpi_types.specs.declared.site.Location.{Location}
-use Rattle.ocpi_types.specs.declared.stored.Push.TheVariants as push
-use Rattle.ocpi_types.specs.declared.words.SessionStatus.TheVariants.{Completed}
-use Rattle.node_steps.specs.Acts.{Act, all_changes, all_requests, changed, pushed}
-use Rattle.node_steps.specs.Drafts.{Gathered, with_acts}
-use Rattle.node_steps.specs.Peers.{HasPeer}
-use Rattle.node_steps.specs.declared.fault.NodeFault.{NodeFault}
-use Rattle.node_steps.specs.declared.fault.NodeFault.TheVariants.{NotForMe, UnknownOperator, UnknownToken, StampEnd, NumbersUsedUp, Memory}
+use Rattle.ocpi_text.specs.{key, max_whole}
+use Rattle.ocpi_types.specs.{Cdr, Completed, Connector, Evse, Location, Put, Session}
+use Rattle.ocpi_types.specs.counter
+use Rattle.ocpi_types.specs.row
+use Rattle.ocpi_types.specs.push
+use Rattle.node_steps.specs.{Act, Gathered, HasPeer, Memory, NodeFault, NotForMe, NumbersUsedUp, StampEnd}
+use Rattle.node_steps.specs.{UnknownOperator, UnknownToken, all_changes, all_requests, changed, pushed, with_acts}
 use Rattle.node_steps.proofs.Gathering.{changes_append}
-use Rattle.site_book.specs.Sites.{IsConnectorOf}
+use Rattle.site_book.specs.{IsConnectorOf}
 use Rattle.operator_rows.specs.State.{State}
-use Rattle.operator_steps.specs.Sessions.{Billed, Unbilled, next_cdr, numbered_cdrs}
+use Rattle.operator_steps.specs.{Billed, Unbilled, next_cdr, numbered_cdrs}
 use Rattle.operator_core.specs.Bills.{CannotBill, IsBillOf, IsRecorded, PassesEnd, StopsEarly, bill_acts, completed_acts}
 use Rattle.operator_core.specs.Planned.{IsNewVersion, version_acts}
 use Rattle.operator_core.specs.declared.reports.bills.Bill.{Bill}
@@ -33,7 +22,7 @@ use Rattle.operator_core.specs.declared.sessions.Versioned.{Versioned}
 use Rattle.operator_core.proofs.Parts.{three_parts}
 use Rattle.operator_core.proofs.NewVersions.{some_version}
 use Rattle.operator_core.proofs.Versions.{version_is}
-use Rattle.session_tables.specs.Places.{IsConnectorAt}
+use Rattle.session_tables.specs.{IsConnectorAt}
 
 -- a record that is numbered, pushed and stored in turn
 pub bill_is : (at : ℕ) (to : List ℕ) (b : Bill) (d x y z : Gathered) → x ≡ with_acts (numbered_cdrs b.number ∷ []) d →

@@ -1,21 +1,19 @@
 -- Drafts of acts that may store counters of sessions and of charge detail records, whose numbers are within the last.
-use Rattle.std.proofs.Common.{◌≡◌, ◌≤◌, ◌+◌, ◌++◌, ℕ, List, [], ◌∷◌, length, inl, inr, sym, subst, arith}
-use Rattle.std.specs.Prelude.{Result, Ok, Err, IfOk, IfErr, OnOk, Contains, ⊤}
+use Rattle.std.proofs.Common.{◌≡◌, ◌≤◌, ◌+◌, ◌++◌, ℕ, List, [], ◌∷◌, length, inl, inr, sym, subst, arith, Result, Ok}
+use Rattle.std.proofs.Common.{Err, IfOk, IfErr, OnOk, Contains}
+use Rattle.std.specs.Prelude.{⊤}
 use Rattle.std.specs.Result.{IsErrAnd}
 use Rattle.std.proofs.lemmas.Result.{err_from_is_err_and}
-use Rattle.ocpi_text.specs.Whole.{max_whole}
-use Rattle.ocpi_types.specs.declared.rows.Change.{Change}
-use Rattle.ocpi_types.specs.declared.rows.Change.TheVariants.{Put}
-use Rattle.ocpi_types.specs.declared.rows.Counter.{Counter}
-use Rattle.ocpi_types.specs.declared.rows.Row.TheVariants as row
+use Rattle.ocpi_text.specs.{max_whole}
+use Rattle.ocpi_types.specs.{Change, Counter, Put}
+use Rattle.ocpi_types.specs.row
 use Rattle.tables.proofs.Elements.{in_none}
-use Rattle.node_steps.specs.Acts.{Act, all_changes, all_messages, all_requests}
-use Rattle.node_steps.specs.Drafts.{Counters, Gathered, HasNumbers, IsInRange, Step, StopsBy, counted, later, opened, with_acts}
-use Rattle.node_steps.specs.declared.fault.NodeFault.{NodeFault}
-use Rattle.node_steps.specs.declared.fault.NodeFault.TheVariants.{NotForMe, UnknownOperator, UnknownToken, StampEnd, NumbersUsedUp, Memory}
+use Rattle.node_steps.specs.{Act, Counters, Gathered, HasNumbers, IsInRange, Memory, NodeFault, NotForMe, NumbersUsedUp}
+use Rattle.node_steps.specs.{StampEnd, Step, StopsBy, UnknownOperator, UnknownToken, all_changes, all_messages}
+use Rattle.node_steps.specs.{all_requests, counted, later, opened, with_acts}
 use Rattle.node_steps.proofs.Gathering.{changes_append, range_is, refused, starved}
 use Rattle.operator_rows.specs.State.{State}
-use Rattle.operator_steps.specs.Moves.{AreInRange, counters_of, step_of_acts}
+use Rattle.operator_steps.specs.{AreInRange, counters_of, step_of_acts}
 use Rattle.operator_steps.proofs.Orderly.{of_cons}
 use Rattle.operator_core.specs.Bills.{StopsEarly}
 use Rattle.operator_core.specs.Planned.{PlansActs, StopsActs, StopsLine}

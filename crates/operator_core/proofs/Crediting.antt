@@ -1,14 +1,11 @@
 -- What becomes of the order to take the bill of a session back.
 use Rattle.std.proofs.Common.{◌≡◌, ℕ, List, [], refl, ap, subst}
-use Rattle.ocpi_types.specs.declared.cdrs.Cdr.{Cdr}
-use Rattle.node_steps.specs.Acts.{Act}
-use Rattle.node_steps.specs.Drafts.{Step}
-use Rattle.node_steps.specs.declared.fault.NodeFault.{NodeFault}
-use Rattle.node_steps.specs.declared.fault.NodeFault.TheVariants.{NotForMe, UnknownOperator, UnknownToken, StampEnd, NumbersUsedUp, Memory}
+use Rattle.ocpi_types.specs.{Cdr}
+use Rattle.node_steps.specs.{Act, Memory, NodeFault, NotForMe, NumbersUsedUp, StampEnd, Step, UnknownOperator}
+use Rattle.node_steps.specs.{UnknownToken}
 use Rattle.operator_rows.specs.State.{State}
-use Rattle.operator_steps.specs.Credits.{CreditLine, Credited, NothingToCredit, CreditsTo, IsToCredit, next_credit}
-use Rattle.operator_steps.specs.Faults.{IsCreditFault}
-use Rattle.operator_steps.specs.Moves.{PlannedBy, Quietly, quiet}
+use Rattle.operator_steps.specs.{CreditLine, Credited, CreditsTo, IsCreditFault, IsToCredit, NothingToCredit, PlannedBy}
+use Rattle.operator_steps.specs.{Quietly, next_credit, quiet}
 use Rattle.operator_core.specs.Credits.{IsUncredited, MayGoTo, StopsCredit, TakesBack, credit_acts}
 use Rattle.operator_core.specs.Planned.{PlansActs, quiet_step}
 

@@ -1,14 +1,11 @@
 -- How many numbers the acts of a decision take, and that they store no counter past its last number.
-use Rattle.std.proofs.Common.{◌≡◌, ◌+◌, ◌++◌, ℕ, List, [], ◌∷◌, length, refl}
-use Rattle.std.specs.Prelude.{Option, Some, None}
-use Rattle.ocpi_types.specs.declared.rows.Place.{Place}
-use Rattle.ocpi_types.specs.declared.commands.Command.{Command}
-use Rattle.ocpi_types.specs.declared.words.CommandResponseType.TheVariants as word
+use Rattle.std.proofs.Common.{◌≡◌, ◌+◌, ◌++◌, ℕ, List, [], ◌∷◌, length, refl, Option, Some, None}
+use Rattle.ocpi_types.specs.{Command, Place}
+use Rattle.ocpi_types.specs.response as word
 use Rattle.command_book.specs.Stored as book
-use Rattle.node_steps.specs.Acts.{Act, all_messages, all_requests, answered}
-use Rattle.operator_tables.specs.declared.decision.Decision.{Decision}
-use Rattle.operator_tables.specs.declared.decision.Decision.TheVariants.{Refused, Answered, Opened, Started, Resulted, Noted, Reserved, Cancelled}
-use Rattle.operator_steps.specs.Acts.{deadline, decided_acts, opened, reference_of, responded, result_of, spent, used}
+use Rattle.node_steps.specs.{Act, all_messages, all_requests, answered}
+use Rattle.operator_tables.specs.{Answered, Cancelled, Decision, Noted, Opened, Refused, Reserved, Resulted, Started}
+use Rattle.operator_steps.specs.{deadline, decided_acts, opened, reference_of, responded, result_of, spent, used}
 use Rattle.operator_core.specs.Requests.{result_count}
 use Rattle.operator_core.proofs.CountedDrafts.{CountWithin}
 

@@ -1,14 +1,13 @@
 -- The sessions that begin where authorizations get no answer in time.
-use Rattle.std.proofs.Common.{◌≡◌, ◌<◌, ◌≤◌, ◌+◌, ◌++◌, ℕ, List, [], ◌∷◌, length, get_or, drop, refl, sym, ap, subst, ◌∙◌, arith}
-use Rattle.std.specs.Prelude.{Some, None, Contains}
+use Rattle.std.proofs.Common.{◌≡◌, ◌<◌, ◌≤◌, ◌+◌, ◌++◌, ℕ, List, [], ◌∷◌, length, get_or, drop, refl, sym, ap, subst}
+use Rattle.std.proofs.Common.{◌∙◌, arith, Some, None, Contains}
 use Rattle.std.proofs.lemmas.List.{append_assoc, append-nil, drop_all, drop_more}
 use Rattle.tables.proofs.Elements.{in_front}
-use Rattle.ocpi_text.specs.Text.{key}
-use Rattle.node_steps.specs.Acts.{all_messages, all_requests}
-use Rattle.node_steps.specs.Peers.{HasPeer}
+use Rattle.ocpi_text.specs.{key}
+use Rattle.node_steps.specs.{HasPeer, all_messages, all_requests}
 use Rattle.node_steps.proofs.Gathering.{messages_count, requests_append}
 use Rattle.operator_rows.specs.State.{State}
-use Rattle.operator_steps.specs.TickFacts.{AreLeftUnanswered, IsLeftUnanswered}
+use Rattle.operator_steps.specs.{AreLeftUnanswered, IsLeftUnanswered}
 use Rattle.operator_steps.specs.TickFacts as before
 use Rattle.operator_core.specs.Planned.{AreBeginnings, AreNewSessions, IsNewSession, Late, Late_begins, Next_session, No_session, None_late, all_begun, begun_acts}
 use Rattle.operator_core.specs.declared.sessions.Begun.{Begun}
@@ -17,7 +16,7 @@ use Rattle.operator_core.proofs.CountedDrafts.{CountWithin, within_both}
 use Rattle.operator_core.proofs.NewVersions.{some_session}
 use Rattle.operator_core.proofs.Versions.{begun_is}
 use Rattle.operator_steps.proofs.Orderly.{in_later}
-use Rattle.session_tables.specs.declared.beginning.Beginning.{Beginning}
+use Rattle.session_tables.specs.{Beginning}
 
 -- a loop over late authorizations: with those of the rest, what began so far is what begins of all
 abbrev pub BegunSoFar : State → ℕ → List ℕ → ℕ → List Beginning → Type 0

@@ -1,17 +1,17 @@
 -- Of each session there is a version to be pushed, whichever push it replaces, so that what is refused can be told.
 use Rattle.std.proofs.Common.{ℕ, refl}
-use Rattle.ocpi_text.specs.Text.{key}
-use Rattle.ocpi_types.specs.declared.sessions.Session.{Session}
-use Rattle.ocpi_types.specs.declared.stored.Push.TheVariants as push
-use Rattle.outbox.specs.Pushes.{subject}
-use Rattle.node_steps.specs.Peers.{HasPeer}
+use Rattle.ocpi_text.specs.{key}
+use Rattle.ocpi_types.specs.{Session}
+use Rattle.ocpi_types.specs.push
+use Rattle.outbox.specs.{subject}
+use Rattle.node_steps.specs.{HasPeer}
 use Rattle.operator_rows.specs.State.{State}
-use Rattle.operator_steps.specs.Sessions.{first_of}
+use Rattle.operator_steps.specs.{first_of}
 use Rattle.operator_core.specs.Planned.{IsNewSession, IsNewVersion}
 use Rattle.operator_core.specs.declared.sessions.Begun.{Begun}
 use Rattle.operator_core.specs.declared.sessions.Versioned.{Versioned}
 use Rattle.operator_core.proofs.Replacing.{replaced_is}
-use Rattle.session_tables.specs.declared.beginning.Beginning.{Beginning}
+use Rattle.session_tables.specs.{Beginning}
 
 pub some_version : (s : State) (v : Session) → HasPeer s.providers (key v.cdr_token.party) → (x : Versioned) × IsNewVersion s v x
 some_version s v peer =

@@ -1,30 +1,19 @@
 -- What becomes of a packet, once it is known who sent it.
-use Rattle.std.proofs.Common.{◌≡◌, ℕ, List, [], ◌∷◌, refl, sym, subst, ◌∙◌}
-use Rattle.std.specs.Prelude.{Some, None, Result, Ok, Err, IfErr}
+use Rattle.std.proofs.Common.{◌≡◌, ℕ, List, [], ◌∷◌, refl, sym, subst, ◌∙◌, Some, None, Result, Ok, Err, IfErr}
 use Rattle.std.specs.FinMap.{get}
-use Rattle.ocpi_text.specs.Text.{key}
-use Rattle.ocpi_types.specs.declared.authorizations.Authorization.{Authorization}
-use Rattle.ocpi_types.specs.declared.packet.Packet.{Packet}
-use Rattle.ocpi_types.specs.declared.packet.Body.TheVariants as body
-use Rattle.ocpi_types.specs.declared.replies.Ack.{Ack}
-use Rattle.ocpi_types.specs.declared.commands.Command.{Command}
-use Rattle.ocpi_types.specs.declared.stored.Reply.{Reply}
-use Rattle.ocpi_types.specs.declared.token.Token.{Token}
-use Rattle.authorization_book.specs.declared.awaited.Awaited.{Awaited}
-use Rattle.authorization_book.specs.declared.waiting.Waiting.TheVariants.{Ends}
-use Rattle.node_steps.specs.Acts.{Act, acknowledged, repeated}
-use Rattle.node_steps.specs.Drafts.{Step}
-use Rattle.node_steps.specs.declared.fault.NodeFault.{NodeFault}
-use Rattle.node_steps.specs.declared.fault.NodeFault.TheVariants.{NotForMe, UnknownOperator, UnknownToken, StampEnd, NumbersUsedUp, Memory}
+use Rattle.ocpi_text.specs.{key}
+use Rattle.ocpi_types.specs.{Ack, Authorization, Command, Packet, Reply, Token}
+use Rattle.ocpi_types.specs.body
+use Rattle.authorization_book.specs.{Awaited, Ends}
+use Rattle.node_steps.specs.{Act, Memory, NodeFault, NotForMe, NumbersUsedUp, StampEnd, Step, UnknownOperator}
+use Rattle.node_steps.specs.{UnknownToken, acknowledged, repeated}
 use Rattle.operator_rows.specs.State.{State}
 use Rattle.operator_tables.specs.Decides.{Decides}
-use Rattle.operator_tables.specs.declared.decision.Decision.{Decision}
-use Rattle.operator_tables.specs.declared.request.Request.{Request}
-use Rattle.operator_steps.specs.Acts.{decided_acts}
-use Rattle.operator_steps.specs.Asking.{IsAwaited}
-use Rattle.operator_steps.specs.Faults.{IsDue, MayStep}
-use Rattle.operator_steps.specs.Moves.{PlannedBy, Work, quiet}
-use Rattle.operator_steps.specs.Steps.{Acknowledged, Acknowledges, Again, Answered, Comes, Decided, Idle, IsRequestBody, PacketLine, Sent, TokenLine, Unasked}
+use Rattle.operator_tables.specs.{Decision, Request}
+use Rattle.operator_steps.specs.{Acknowledged, Acknowledges, Again, Answered, Comes, Decided, IsAwaited, IsDue}
+use Rattle.operator_steps.specs.{IsRequestBody, MayStep, PacketLine, PlannedBy, Sent, TokenLine, Unasked, Work}
+use Rattle.operator_steps.specs.{decided_acts, quiet}
+use Rattle.operator_steps.specs.Steps.{Idle}
 use Rattle.operator_core.specs.Answering.{ByAnswer}
 use Rattle.operator_core.specs.Planned.{PlansActs, StopsActs, StopsLine}
 use Rattle.operator_core.specs.Requests.{IsRequest}

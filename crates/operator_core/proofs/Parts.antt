@@ -1,11 +1,10 @@
 -- Parts of a step that are gathered one after the other.
-use Rattle.std.proofs.Common.{◌≡◌, ◌++◌, List, sym, ap, subst, ◌∙◌}
-use Rattle.std.specs.Prelude.{Result, Ok, Err, Option, Some, None, OnOk, IfOk, IfErr, IfNone}
+use Rattle.std.proofs.Common.{◌≡◌, ◌++◌, List, sym, ap, subst, ◌∙◌, Result, Ok, Err, Option, Some, None, OnOk, IfOk}
+use Rattle.std.proofs.Common.{IfErr, IfNone}
 use Rattle.std.specs.Result.{IsErrAnd}
 use Rattle.std.proofs.lemmas.Result.{err_from_is_err_and}
-use Rattle.node_steps.specs.Acts.{Act}
-use Rattle.node_steps.specs.Drafts.{Gathered, HasNumbersOf, with_acts}
-use Rattle.node_steps.proofs.Gathering.{both, has_first, has_rest}
+use Rattle.node_steps.specs.{Act, Gathered, HasNumbersOf, with_acts}
+use Rattle.node_steps.proofs.Gathering.{both, has_rest}
 
 pub on_more : {T E P Q : Type 0} → (r : Result T E) → (P → Q) → OnOk r P → OnOk r Q
 on_more (Ok x) f h = f h
@@ -16,9 +15,6 @@ none_more None f h = f h
 none_more (Some x) f h = tt
 
 module _ (first second third : List Act) (d : Gathered) (h : HasNumbersOf ((first ++ second) ++ third) d) where
-  pub first_has : HasNumbersOf first d
-  first_has = has_first first second d (has_first (first ++ second) third d h)
-
   pub third_has : (x y : Gathered) → x ≡ with_acts first d → y ≡ with_acts second x → HasNumbersOf third y
   third_has x y one two =
       let all : y ≡ with_acts (first ++ second) d = two ∙ ap (λ (g : Gathered). with_acts second g) one ∙ both first second d in

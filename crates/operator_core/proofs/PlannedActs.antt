@@ -1,20 +1,15 @@
 -- From what is planned to what a line of an operator asks for, and to its refusals.
-use Rattle.std.proofs.Common.{◌≡◌, ◌≢◌, ℕ, List, [], ◌∷◌, sym, ap, subst, ◌∙◌, arith}
-use Rattle.std.specs.Prelude.{Result, Ok, Err, IfOk, IfErr, OnOk}
-use Rattle.ocpi_types.specs.declared.rows.Change.{Change}
-use Rattle.ocpi_types.specs.declared.rows.Change.TheVariants.{Put}
-use Rattle.ocpi_types.specs.declared.rows.Counter.{Counter}
-use Rattle.ocpi_types.specs.declared.rows.Row.TheVariants as row
+use Rattle.std.proofs.Common.{◌≡◌, ◌≢◌, ℕ, List, [], ◌∷◌, sym, ap, subst, ◌∙◌, arith, Result, Ok, Err, IfOk, OnOk}
+use Rattle.ocpi_types.specs.{Change, Counter, Put}
+use Rattle.ocpi_types.specs.row
 use Rattle.tables.proofs.Elements.{in_none, in_single}
-use Rattle.node_steps.specs.Acts.{Act, changed}
-use Rattle.node_steps.specs.Drafts.{IsInRange, Step}
-use Rattle.node_steps.specs.declared.fault.NodeFault.{NodeFault}
-use Rattle.node_steps.specs.declared.fault.NodeFault.TheVariants.{NotForMe, UnknownOperator, UnknownToken, StampEnd, NumbersUsedUp, Memory}
+use Rattle.node_steps.specs.{Act, IsInRange, Memory, NodeFault, NotForMe, NumbersUsedUp, StampEnd, Step}
+use Rattle.node_steps.specs.{UnknownOperator, UnknownToken, changed}
 use Rattle.node_steps.proofs.Gathering.{step_of_none, step_of_change}
 use Rattle.operator_rows.specs.State.{State}
-use Rattle.operator_rows.specs.Steps.{FullStep, MayFollowFull}
-use Rattle.operator_steps.specs.Faults.{IsOwnFault, MayStep}
-use Rattle.operator_steps.specs.Moves.{AreInRange, PlannedBy, Work, counters_of, quiet, step_of_acts, step_of_work}
+use Rattle.operator_rows.specs.{FullStep, MayFollowFull}
+use Rattle.operator_steps.specs.{AreInRange, IsOwnFault, MayStep, PlannedBy, Work, counters_of, quiet, step_of_acts}
+use Rattle.operator_steps.specs.{step_of_work}
 use Rattle.operator_core.specs.Planned.{PlansActs, StopsActs, quiet_step}
 
 -- the change stores no counter
@@ -53,10 +48,6 @@ module _ (Line : Work → Type 0) (s : State) where
   own_fault work line StampEnd h = h
   own_fault work line NumbersUsedUp h = record { work = work; line = line; past = h }
   own_fault work line Memory h = tt
-
-  pub own_faults : {T : Type 0} → (r : Result T NodeFault) (work : Work) → Line work → IfErr r (StopsActs s work.acts) → IfErr r (IsOwnFault Line s)
-  own_faults (Ok x) work line h = tt
-  own_faults (Err f) work line h = own_fault work line f h
 
   pub may_step : (acts : List Act) → Line (quiet acts) → AreInRange s acts → MayStep Line s
   may_step acts line in_range = record { work = quiet acts; line = line; in_range = in_range }

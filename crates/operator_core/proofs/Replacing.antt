@@ -1,6 +1,6 @@
 -- Whether a push that a newer one would replace stands can be told.
-use Rattle.std.proofs.Common.{◌≡◌, ◌≢◌, ◌⊎◌, inl, inr, true, false, ℕ, List, [], ◌∷◌, refl, sym, ap, subst, ◌∙◌}
-use Rattle.std.specs.Prelude.{Option, Some, None, Contains}
+use Rattle.std.proofs.Common.{◌≡◌, ◌≢◌, ◌⊎◌, inl, inr, true, false, ℕ, List, [], ◌∷◌, refl, sym, ap, subst, ◌∙◌, Option}
+use Rattle.std.proofs.Common.{Some, None, Contains}
 use Rattle.std.specs.Cmp.{eq_by_cmp_equiv, nat_cmp_total}
 use Rattle.std.specs.FinMap.{entries, nat_cmp-IsAntisymmetric}
 use Rattle.std.specs.Ordering.{is_eq}
@@ -9,9 +9,8 @@ use Rattle.std.specs.declared.cmp.Ordering.TheVariants.{Less, Equal, Greater}
 use Rattle.std.proofs.lemmas.List.Elements.{Contains-append_cases, Contains-append_right}
 use Rattle.tables.proofs.Elements.{in_front, in_none, in_single}
 use Rattle.tables.proofs.Entries.{listed, listed_only}
-use Rattle.outbox.specs.Pushes.{IsReplaced, Pushes, subject_cmp, subject_exact, subject_of, subject_total}
-use Rattle.outbox.specs.declared.push_book.Outgoing.{Outgoing}
-use Rattle.outbox.specs.declared.push_book.Subject.{Subject}
+use Rattle.outbox.specs.{IsReplaced, Outgoing, Subject, subject_cmp, subject_exact, subject_of, subject_total}
+use Rattle.outbox.specs.Pushes.{Pushes}
 
 by_order : (a b : Subject) (r : Ordering) → subject_cmp a b ≡ r → (a ≡ b) ⊎ (a ≢ b)
 by_order a b Equal e = inl (subject_exact a b e)

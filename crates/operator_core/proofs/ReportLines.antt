@@ -1,49 +1,31 @@
 -- What becomes of a report, and of whom the session is that it makes or changes.
-use Rattle.std.proofs.Common.{◌≡◌, ◌≢◌, ◌<◌, ◌+◌, ◌++◌, ℕ, ℤ, List, [], ◌∷◌, length, inl, inr, refl, sym, ap, subst, ◌∙◌, append-nil, arith}
-use Rattle.std.specs.Prelude.{Option, Some, None, Result, Ok, Err, IfOk, IfErr, ⊤}
+use Rattle.std.proofs.Common.{◌≡◌, ◌≢◌, ◌<◌, ◌+◌, ◌++◌, ℕ, ℤ, List, [], ◌∷◌, length, inl, inr, refl, sym, ap, subst}
+use Rattle.std.proofs.Common.{◌∙◌, append-nil, arith, Option, Some, None, Result, Ok, Err, IfOk, IfErr}
+use Rattle.std.specs.Prelude.{⊤}
 use Rattle.std.specs.FinMap.{get}
-use Rattle.ocpi_text.specs.Moment.{last_moment}
-use Rattle.ocpi_text.specs.Text.{key}
-use Rattle.ocpi_types.specs.declared.events.ChargerEvent.{ChargerEvent}
-use Rattle.ocpi_types.specs.declared.events.ChargerEvent.TheVariants as event
-use Rattle.ocpi_types.specs.declared.rows.Place.{Place}
-use Rattle.ocpi_types.specs.declared.sessions.Session.{Session}
-use Rattle.ocpi_types.specs.declared.site.Connector.{Connector}
-use Rattle.ocpi_types.specs.declared.site.Evse.{Evse}
-use Rattle.ocpi_types.specs.declared.site.Location.{Location}
-use Rattle.ocpi_types.specs.declared.token.Token.{Token}
-use Rattle.ocpi_types.specs.declared.words.SessionStatus.TheVariants.{Completed}
-use Rattle.ocpi_types.specs.declared.words.TokenType.{TokenType}
-use Rattle.node_steps.specs.Acts.{Act}
-use Rattle.node_steps.specs.Drafts.{Step}
-use Rattle.node_steps.specs.Peers.{HasPeer}
-use Rattle.node_steps.specs.declared.fault.NodeFault.{NodeFault}
-use Rattle.node_steps.specs.declared.fault.NodeFault.TheVariants.{NotForMe, UnknownOperator, UnknownToken, StampEnd, NumbersUsedUp, Memory}
-use Rattle.site_book.specs.Sites.{IsConnectorOf}
+use Rattle.ocpi_text.specs.{key, last_moment}
+use Rattle.ocpi_types.specs.{ChargerEvent, Completed, Connector, Evse, Location, Place, Session, Token, TokenType}
+use Rattle.ocpi_types.specs.event
+use Rattle.node_steps.specs.{Act, HasPeer, Memory, NodeFault, NotForMe, NumbersUsedUp, StampEnd, Step, UnknownOperator}
+use Rattle.node_steps.specs.{UnknownToken}
+use Rattle.site_book.specs.{IsConnectorOf}
 use Rattle.token_desk.specs.Swipes as desk
 use Rattle.token_desk.specs.Tokens.{Tokens}
-use Rattle.token_desk.specs.declared.answers.Swipe.{Swipe}
-use Rattle.token_desk.specs.declared.answers.Swipe.TheVariants as told
-use Rattle.operator_rows.specs.Sound.{IsOwnStart, IsSound, MayGoOn}
+use Rattle.token_desk.specs.{Swipe}
+use Rattle.token_desk.specs.told
+use Rattle.operator_rows.specs.{FullStep, IsOwnStart, IsSound, MayGoOn}
 use Rattle.operator_rows.specs.State.{State}
-use Rattle.operator_rows.specs.Steps.{FullStep}
-use Rattle.operator_steps.specs.declared.ending.Ending.{Ending}
-use Rattle.operator_steps.specs.Charger.{ChargerLine, Ended, Started, Moved, Begun, Asked, IsEnded, IsStarted, Shows}
-use Rattle.operator_steps.specs.Asking.{IsAsked}
-use Rattle.operator_steps.specs.Ends.{IsOpen, ends_acts}
-use Rattle.operator_steps.specs.Faults.{IsReportFault}
-use Rattle.operator_steps.specs.Moves.{PlannedBy, Work, quiet}
-use Rattle.operator_steps.specs.Sessions.{HasNoStamp, IsBegun, numbered_sessions}
+use Rattle.operator_steps.specs.{Asked, Begun, ChargerLine, Ended, Ending, HasNoStamp, IsAsked, IsBegun, IsEnded}
+use Rattle.operator_steps.specs.{IsOpen, IsReportFault, IsStarted, Moved, PlannedBy, Shows, Started, Work, ends_acts}
+use Rattle.operator_steps.specs.{numbered_sessions, quiet}
 use Rattle.operator_core.specs.Bills.{IsRecorded, StopsEarly}
 use Rattle.operator_core.specs.Planned.{BeginsWith, PlansActs, StopsActs, StopsLine, StopsWork, quiet_step}
 use Rattle.operator_core.specs.Requests.{acts_of_end}
-use Rattle.session_tables.specs.declared.beginning.Beginning.{Beginning}
-use Rattle.session_tables.specs.declared.shown.Shown.{Shown}
-use Rattle.session_tables.specs.declared.shown.Shown.TheVariants as shown
-use Rattle.session_tables.specs.Moved.{IsMoved, Still, Goes}
-use Rattle.session_tables.specs.Moves.{Ends, Makes, Moves, MovesNone}
+use Rattle.session_tables.specs.{Beginning, Closed, Ends, Goes, IsMoved, Makes, MovesNone, Open, Shown, Still}
+use Rattle.session_tables.specs.{SwipeLine, Unplaced, id_of, provider_of, told_by}
+use Rattle.session_tables.specs.shown
+use Rattle.session_tables.specs.Moves.{Moves}
 use Rattle.session_tables.specs.declared.outcome.Moved.TheVariants as moved
-use Rattle.session_tables.specs.Swipes.{SwipeLine, Unplaced, Closed, Open, id_of, provider_of, told_by}
 
 -- what a report makes of a version is of the same provider and at the same connector
 record IsAlike (v w : Session) : Type 0 where

@@ -1,31 +1,22 @@
 -- What a driver's token comes to is one thing.
-use Rattle.std.proofs.Common.{◌≡◌, ℕ, true, false, List, refl, sym, ap, subst, ◌∙◌}
-use Rattle.std.specs.Prelude.{Option, Some, None, is_some}
+use Rattle.std.proofs.Common.{◌≡◌, ℕ, true, false, List, refl, sym, ap, subst, ◌∙◌, Option, Some, None, is_some}
 use Rattle.std.specs.FinMap.{get}
 use Rattle.std.specs.Ordering.{is_gt, ordering_reverse}
 use Rattle.std.specs.declared.cmp.Ordering.{Ordering}
 use Rattle.std.specs.declared.cmp.Ordering.TheVariants.{Less, Equal, Greater}
-use Rattle.tables.specs.Keys.{text_cmp, text_exact, text_total}
-use Rattle.ocpi_text.specs.Text.{key}
-use Rattle.ocpi_types.specs.declared.events.ChargerEvent.{ChargerEvent}
-use Rattle.ocpi_types.specs.declared.events.ChargerEvent.TheVariants as event
-use Rattle.ocpi_types.specs.declared.site.Connector.{Connector}
-use Rattle.ocpi_types.specs.declared.site.Evse.{Evse}
-use Rattle.ocpi_types.specs.declared.site.Location.{Location}
-use Rattle.ocpi_types.specs.declared.token.Token.{Token}
-use Rattle.ocpi_types.specs.declared.words.TokenType.{TokenType}
-use Rattle.ocpi_types.specs.declared.words.WhitelistType.{WhitelistType}
-use Rattle.ocpi_types.specs.declared.words.WhitelistType.TheVariants.{Always, Allowed, AllowedOffline, Never}
-use Rattle.site_book.specs.declared.claim.Claim.TheVariants.{Reserved}
+use Rattle.tables.specs.{text_cmp, text_exact, text_total}
+use Rattle.ocpi_text.specs.{key}
+use Rattle.ocpi_types.specs.{AllowedOffline, Always, Connector, Evse, Location, Never, Token, TokenType, WhitelistType}
+use Rattle.ocpi_types.specs.declared.words.WhitelistType.TheVariants.{Allowed}
+use Rattle.site_book.specs.{Reserved}
 use Rattle.token_desk.specs.Swipes as desk
 use Rattle.token_desk.specs.Tokens.{Tokens}
-use Rattle.token_desk.specs.declared.answers.Swipe.{Swipe}
-use Rattle.token_desk.specs.declared.answers.Swipe.TheVariants as told
-use Rattle.operator_rows.specs.State.{State, OneClaimEach}
-use Rattle.operator_steps.specs.Charger.{ShowsNone}
-use Rattle.session_tables.specs.Swipes.{IsOpenTo, Free, Held, SwipeLine, Unplaced, Closed, Open, id_of, provider_of, told_by}
-use Rattle.session_tables.specs.declared.shown.Shown.{Shown}
-use Rattle.session_tables.specs.declared.shown.Shown.TheVariants.{Nothing}
+use Rattle.token_desk.specs.{Swipe}
+use Rattle.token_desk.specs.told
+use Rattle.operator_rows.specs.{OneClaimEach}
+use Rattle.operator_rows.specs.State.{State}
+use Rattle.session_tables.specs.{Closed, Free, Held, IsOpenTo, Nothing, Open, Shown, SwipeLine, Unplaced, id_of}
+use Rattle.session_tables.specs.{provider_of, told_by}
 
 both_below : (r s : Ordering) → r ≡ ordering_reverse s → is_gt r ≡ false → is_gt s ≡ false → r ≡ Equal
 both_below Equal s e f g = refl
@@ -103,14 +94,3 @@ swipe_nothing s evse connector uid type d one (Open m f j other holds also y tol
     let one_swipe : y ≡ x = desk_once s.rows.tokens (provider_of held) type (key uid) y x (subst (λ (h : Option (List ℕ × List ℕ)). desk.SwipeLine s.rows.tokens (provider_of h) type (key uid) y) same told_y) line in
     let quiet : told_by x m f j (id_of holds) ≡ Nothing = subst (λ (z : Swipe). told_by z m f j (id_of holds) ≡ Nothing) one_swipe (sym first) in
     is ∙ nothing_told x m l f e j k (id_of holds) (id_of held) quiet
-
--- a report of no token that is shown
-pub shows_none : (s : State) (report : ChargerEvent) → ((evse connector uid : List ℕ) (type : TokenType) → report ≡ event.Swipe evse connector uid type → ⊥) → ShowsNone s report
-shows_none s (event.Swipe evse connector uid type) other d h = absurd (other evse connector uid type refl)
-shows_none s (event.Accepts provider number) other d h = absurd h
-shows_none s (event.Refuses provider number) other d h = absurd h
-shows_none s (event.Unlocked provider number) other d h = absurd h
-shows_none s (event.Starts evse) other d h = absurd h
-shows_none s (event.Meter evse kwh) other d h = absurd h
-shows_none s (event.Stops evse) other d h = absurd h
-shows_none s (event.Fault evse) other d h = absurd h

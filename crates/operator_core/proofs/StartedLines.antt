@@ -1,17 +1,13 @@
 -- The start that a report tells to be carried out.
-use Rattle.std.proofs.Common.{◌≡◌, ℕ, List, sym, ap, subst, ◌∙◌}
-use Rattle.std.specs.Prelude.{Some, None, Contains}
+use Rattle.std.proofs.Common.{◌≡◌, ℕ, List, sym, ap, subst, ◌∙◌, Some, None, Contains}
 use Rattle.std.specs.FinMap.{get}
-use Rattle.ocpi_text.specs.Text.{key}
-use Rattle.ocpi_types.specs.declared.events.ChargerEvent.{ChargerEvent}
-use Rattle.ocpi_types.specs.declared.events.ChargerEvent.TheVariants as event
-use Rattle.ocpi_types.specs.declared.stored.OpenCommand.{OpenCommand}
-use Rattle.ocpi_types.specs.declared.words.CommandResultType.TheVariants as result
+use Rattle.ocpi_text.specs.{key}
+use Rattle.ocpi_types.specs.{ChargerEvent, OpenCommand}
+use Rattle.ocpi_types.specs.event
+use Rattle.ocpi_types.specs.result
 use Rattle.operator_rows.specs.State.{State}
-use Rattle.operator_steps.specs.declared.ending.Ending.{Ending}
-use Rattle.operator_steps.specs.Charger.{IsStarted, StartsNone}
-use Rattle.operator_steps.specs.Ends.{IsOfSite}
-use Rattle.session_tables.specs.declared.beginning.Beginning.{Beginning}
+use Rattle.operator_steps.specs.{Ending, IsOfSite, IsStarted, StartsNone}
+use Rattle.session_tables.specs.{Beginning}
 use Rattle.session_tables.specs.Accepts.{Accepts}
 
 module _ (s : State) (report : ChargerEvent) (p : List ℕ) (n : ℕ) (is : report ≡ event.Accepts p n) where

@@ -1,12 +1,8 @@
 -- Which bodies an operator takes.
 use Rattle.std.proofs.Common.{◌≡◌, ◌⊎◌, inl, inr}
-use Rattle.ocpi_types.specs.declared.packet.Body.{Body}
-use Rattle.ocpi_types.specs.declared.packet.Body.TheVariants as body
-use Rattle.ocpi_types.specs.declared.authorizations.Authorization.{Authorization}
-use Rattle.ocpi_types.specs.declared.commands.Command.{Command}
-use Rattle.ocpi_types.specs.declared.replies.Ack.{Ack}
-use Rattle.ocpi_types.specs.declared.token.Token.{Token}
-use Rattle.operator_steps.specs.Steps.{IsTaken}
+use Rattle.ocpi_types.specs.{Ack, Authorization, Body, Command, Token}
+use Rattle.ocpi_types.specs.body
+use Rattle.operator_steps.specs.{IsTaken}
 
 -- the bodies that an operator takes, kind by kind
 pub taken : (b : Body) →

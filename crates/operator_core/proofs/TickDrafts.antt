@@ -1,38 +1,30 @@
 -- What happens at a moment: its acts are what the moment comes to, they take so many numbers, and they are gathered in
 -- turn.
-use Rattle.std.proofs.Common.{◌≡◌, ◌<◌, ◌≤◌, ◌+◌, ◌++◌, ℕ, Bool, true, false, cond, nat_eq, List, [], ◌∷◌, length, map, inl, inr, refl, sym, ap, subst, ◌∙◌, arith}
-use Rattle.std.specs.Prelude.{Contains, Result, Ok, Err, IfOk, IfErr, IsTrue}
+use Rattle.std.proofs.Common.{◌≡◌, ◌<◌, ◌≤◌, ◌+◌, ◌++◌, ℕ, Bool, true, false, cond, nat_eq, List, [], ◌∷◌, length, map}
+use Rattle.std.proofs.Common.{inl, inr, refl, sym, ap, subst, ◌∙◌, arith, Contains, Result, Ok, Err, IfOk, IfErr}
+use Rattle.std.proofs.Common.{IsTrue}
 use Rattle.std.specs.Result.{IsErrAnd}
 use Rattle.std.specs.FinMap.{contains_key}
 use Rattle.std.proofs.lemmas.List.Elements.{Contains-append_left, Contains-append_right}
 use Rattle.std.proofs.lemmas.Bool.{ne_eqb}
 use Rattle.std.proofs.lemmas.Result.{err_from_is_err_and}
-use Rattle.ocpi_text.specs.Text.{key}
-use Rattle.ocpi_text.specs.Whole.{max_whole}
-use Rattle.ocpi_types.specs.declared.rows.Change.{Change}
-use Rattle.ocpi_types.specs.declared.rows.Change.TheVariants.{Put}
-use Rattle.ocpi_types.specs.declared.rows.Counter.TheVariants as counter
-use Rattle.ocpi_types.specs.declared.rows.Row.TheVariants as row
-use Rattle.authorization_book.specs.Due.{AreDue}
+use Rattle.ocpi_text.specs.{key, max_whole}
+use Rattle.ocpi_types.specs.{Change, Put}
+use Rattle.ocpi_types.specs.counter
+use Rattle.ocpi_types.specs.row
+use Rattle.authorization_book.specs.{AreDue, Ends}
 use Rattle.authorization_book.specs.Waits as waits
-use Rattle.authorization_book.specs.declared.waiting.Waiting.TheVariants.{Ends}
-use Rattle.outbox.specs.Due.{AreExactly}
-use Rattle.reservation_book.specs.declared.standing.Standing.{Standing}
+use Rattle.outbox.specs.{AreExactly}
+use Rattle.reservation_book.specs.{Standing}
 use Rattle.tables.proofs.Elements.{in_front, in_none}
-use Rattle.node_steps.specs.Acts.{Act, all_changes, all_messages, all_requests, changed}
-use Rattle.node_steps.specs.Drafts.{Gathered, HasNumbersOf, count_change, with_acts}
-use Rattle.node_steps.specs.Peers.{HasPeer}
-use Rattle.node_steps.specs.declared.fault.NodeFault.{NodeFault}
-use Rattle.node_steps.specs.declared.fault.NodeFault.TheVariants.{NotForMe, UnknownOperator, UnknownToken, StampEnd, NumbersUsedUp, Memory}
+use Rattle.node_steps.specs.{Act, Gathered, HasNumbersOf, HasPeer, Memory, NodeFault, NotForMe, NumbersUsedUp, StampEnd}
+use Rattle.node_steps.specs.{UnknownOperator, UnknownToken, all_changes, all_messages, all_requests, changed}
+use Rattle.node_steps.specs.{count_change, with_acts}
 use Rattle.node_steps.proofs.Gathering.{both, changes_append, has_first, has_rest}
 use Rattle.operator_rows.specs.State.{State}
-use Rattle.operator_rows.specs.Sound.{IsConsistent}
-use Rattle.operator_steps.specs.declared.ending.Ending.{Ending}
-use Rattle.operator_steps.specs.Ends.{all_resent, ends_acts, expired_acts}
-use Rattle.operator_steps.specs.Faults.{IsOwnFault, PassesLast}
-use Rattle.operator_steps.specs.Moves.{Work}
-use Rattle.operator_steps.specs.Tick.{TickLine}
-use Rattle.operator_steps.specs.TickFacts.{tick_acts}
+use Rattle.operator_rows.specs.{IsConsistent}
+use Rattle.operator_steps.specs.{Ending, IsOwnFault, PassesLast, TickLine, Work, all_resent, ends_acts, expired_acts}
+use Rattle.operator_steps.specs.{tick_acts}
 use Rattle.operator_steps.proofs.Ends.{ends_ask}
 use Rattle.operator_steps.proofs.Expiring.{expired_ask}
 use Rattle.operator_steps.proofs.Resending.{resent_changes}
@@ -49,7 +41,7 @@ use Rattle.operator_core.proofs.LateBeginnings.{all_begun_ask, all_begun_send, a
 use Rattle.operator_core.proofs.Parts.{third_has, three_parts}
 use Rattle.operator_core.proofs.Unreplaced.{left_among, still_due}
 use Rattle.operator_steps.proofs.Orderly.{of_cons}
-use Rattle.session_tables.specs.declared.beginning.Beginning.{Beginning}
+use Rattle.session_tables.specs.{Beginning}
 
 -- want of memory may come at any time
 pub starved_own : {T : Type 0} → (Line : Work → Type 0) (s : State) (r : Result T NodeFault) → IsErrAnd r (λ e. e ≡ Memory) → IfErr r (IsOwnFault Line s)

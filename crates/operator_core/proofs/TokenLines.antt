@@ -1,17 +1,13 @@
 -- What becomes of a token is a line of the definition, takes one packet, and stores no counter past its last number.
-use Rattle.std.proofs.Common.{◌≡◌, ◌≢◌, length, refl}
-use Rattle.std.specs.Prelude.{Result, Ok, Err, IfOk, IfErr}
-use Rattle.ocpi_text.specs.Text.{key}
-use Rattle.ocpi_types.specs.declared.token.Token.{Token}
-use Rattle.token_desk.specs.Putting.{PutLine}
-use Rattle.token_desk.specs.declared.answers.TokenPut.{TokenPut}
+use Rattle.std.proofs.Common.{◌≡◌, ◌≢◌, length, refl, Result, Ok, Err, IfOk, IfErr}
+use Rattle.ocpi_text.specs.{key}
+use Rattle.ocpi_types.specs.{Token}
+use Rattle.token_desk.specs.{PutLine, TokenFault, TokenPut, WrongParty}
 use Rattle.token_desk.specs.declared.answers.TokenPut.TheVariants as answer
-use Rattle.token_desk.specs.declared.fault.TokenFault.{TokenFault}
-use Rattle.token_desk.specs.declared.fault.TokenFault.TheVariants.{WrongParty}
-use Rattle.node_steps.specs.Acts.{all_messages, all_requests}
+use Rattle.node_steps.specs.{all_messages, all_requests}
 use Rattle.operator_rows.specs.State.{State}
-use Rattle.operator_tables.specs.declared.request.Request.{Request}
-use Rattle.operator_steps.specs.Steps.{TokenLine, Foreign, Kept, Stored}
+use Rattle.operator_tables.specs.{Request}
+use Rattle.operator_steps.specs.{Foreign, Kept, Stored, TokenLine}
 use Rattle.operator_core.specs.Requests.{put_acts}
 use Rattle.operator_core.proofs.CountedDrafts.{CountWithin}
 

@@ -1,25 +1,22 @@
 -- Pushes that are due and that no session which begins replaces.
-use Rattle.std.proofs.Common.{◌≡◌, ◌<◌, ◌+◌, ◌++◌, ◌⊎◌, ◌≤◌, ℕ, Bool, true, false, cond, List, [], ◌∷◌, length, get_or, drop, inl, inr, refl, sym, ap, subst, ◌∙◌}
-use Rattle.std.specs.Prelude.{Option, Some, None, Contains, not, ◌||◌}
+use Rattle.std.proofs.Common.{◌≡◌, ◌<◌, ◌+◌, ◌++◌, ◌⊎◌, ℕ, Bool, true, false, cond, List, [], ◌∷◌, length, get_or, drop}
+use Rattle.std.proofs.Common.{inl, inr, refl, sym, ap, subst, ◌∙◌, Option, Some, None, Contains, not, ◌||◌}
 use Rattle.std.specs.List.{filter}
 use Rattle.std.proofs.lemmas.Bool.{eqb-true, eq-eqb}
-use Rattle.std.proofs.lemmas.List.{append_assoc, append-nil, drop_all, drop_more}
+use Rattle.std.proofs.lemmas.List.{drop_more}
 use Rattle.std.proofs.lemmas.List.Kept.{AllPairs-filter}
 use Rattle.std.proofs.lemmas.List.Elements.{Contains-append_cases, Contains-append_left, Contains-append_right}
 use Rattle.tables.proofs.Elements.{in_front, in_none, in_single}
-use Rattle.ocpi_types.specs.declared.rows.Change.{Change}
-use Rattle.ocpi_types.specs.declared.rows.Change.TheVariants.{Put, Drop}
-use Rattle.ocpi_types.specs.declared.rows.Row.TheVariants as row
-use Rattle.ocpi_types.specs.declared.rows.RowKey.TheVariants as keys
-use Rattle.ocpi_types.specs.declared.sessions.Session.{Session}
-use Rattle.ocpi_types.specs.declared.stored.Push.TheVariants as push
-use Rattle.outbox.specs.Due.{AreExactly, IsDue}
-use Rattle.node_steps.specs.Acts.{all_changes, all_requests}
+use Rattle.ocpi_types.specs.{Change, Drop, Put, Session}
+use Rattle.ocpi_types.specs.row
+use Rattle.ocpi_types.specs.keys
+use Rattle.ocpi_types.specs.push
+use Rattle.outbox.specs.{AreExactly, IsDue}
+use Rattle.node_steps.specs.{all_changes, all_requests}
 use Rattle.node_steps.proofs.Gathering.{changes_append}
-use Rattle.operator_rows.specs.State.{State, as_outbox}
-use Rattle.operator_steps.specs.Acts.{used}
-use Rattle.operator_steps.specs.Sessions.{versioned}
-use Rattle.operator_steps.specs.TickFacts.{IsStillDue}
+use Rattle.operator_rows.specs.{as_outbox}
+use Rattle.operator_rows.specs.State.{State}
+use Rattle.operator_steps.specs.{IsStillDue, used, versioned}
 use Rattle.operator_steps.proofs.Orderly.{in_later, of_cons}
 use Rattle.operator_core.specs.Happenings.{is_number, is_replaced, unreplaced}
 use Rattle.operator_core.specs.Planned.{all_begun, begun_acts}
@@ -137,29 +134,7 @@ still_due s at last xs due are = record {
   in_order = AllPairs-filter (λ a b. a < b) (λ k. not (is_replaced xs k)) due are.in_order;
 }
 
--- a loop that looks for a session which replaces the push
-module _ (n : ℕ) (xs : List Begun) (i : ℕ) (x : Begun) (within : i < length xs) (is : x ≡ get_or xs i x) where
-  front : is_replaced (drop i xs) n ≡ (is_number x.first.older n || is_replaced (drop (i + 1) xs) n)
-  front = ap (λ l. is_replaced l n) (drop_more xs i x within) ∙ ap (λ (y : Begun). is_number y.first.older n || is_replaced (drop (i + 1) xs) n) (sym is)
-
-  pub replaced_here : is_number x.first.older n ≡ true → is_replaced (drop i xs) n ≡ is_replaced xs n → true ≡ is_replaced xs n
-  replaced_here here so = sym (front ∙ ap (λ b. b || is_replaced (drop (i + 1) xs) n) here) ∙ so
-
-  pub replaced_later : is_number x.first.older n ≡ false → is_replaced (drop i xs) n ≡ is_replaced xs n → is_replaced (drop (i + 1) xs) n ≡ is_replaced xs n
-  replaced_later not_here so = sym (front ∙ ap (λ b. b || is_replaced (drop (i + 1) xs) n) not_here) ∙ so
-
 -- a loop that leaves the replaced ones out
 module _ (xs : List Begun) (numbers left : List ℕ) (i n : ℕ) (within : i < length numbers) (is : n ≡ get_or numbers i n) (so : left ++ unreplaced xs (drop i numbers) ≡ unreplaced xs numbers) where
   rest : unreplaced xs (drop i numbers) ≡ cond (not (is_replaced xs n)) (n ∷ unreplaced xs (drop (i + 1) numbers)) (unreplaced xs (drop (i + 1) numbers))
   rest = ap (unreplaced xs) (drop_more numbers i n within ∙ ap (λ k. k ∷ drop (i + 1) numbers) (sym is))
-
-  pub one_left : is_replaced xs n ≡ false → (left ++ n ∷ []) ++ unreplaced xs (drop (i + 1) numbers) ≡ unreplaced xs numbers
-  one_left absent =
-      append_assoc left (n ∷ []) (unreplaced xs (drop (i + 1) numbers))
-      ∙ ap (λ l. left ++ l) (sym (rest ∙ ap (λ b. cond (not b) (n ∷ unreplaced xs (drop (i + 1) numbers)) (unreplaced xs (drop (i + 1) numbers))) absent)) ∙ so
-
-  pub one_out : is_replaced xs n ≡ true → left ++ unreplaced xs (drop (i + 1) numbers) ≡ unreplaced xs numbers
-  one_out present = ap (λ l. left ++ l) (sym (rest ∙ ap (λ b. cond (not b) (n ∷ unreplaced xs (drop (i + 1) numbers)) (unreplaced xs (drop (i + 1) numbers))) present)) ∙ so
-
-pub all_left : (xs : List Begun) (numbers left : List ℕ) (i : ℕ) → length numbers ≤ i → left ++ unreplaced xs (drop i numbers) ≡ unreplaced xs numbers → left ≡ unreplaced xs numbers
-all_left xs numbers left i past so = sym (append-nil left) ∙ sym (ap (λ l. left ++ unreplaced xs l) (drop_all i numbers past)) ∙ so

@@ -1,12 +1,10 @@
 -- How many numbers the versions of sessions and charge detail records take, and that they are gathered in turn.
-use Rattle.std.proofs.Common.{◌≡◌, ◌≤◌, ◌+◌, ◌++◌, ℕ, List, length, refl, sym, ap, ◌∙◌}
-use Rattle.std.specs.Prelude.{Option, Some, None}
-use Rattle.ocpi_text.specs.Whole.{max_whole}
-use Rattle.ocpi_types.specs.declared.sessions.Session.{Session}
-use Rattle.node_steps.specs.Acts.{all_messages, all_requests}
-use Rattle.node_steps.specs.Drafts.{Gathered, with_acts}
+use Rattle.std.proofs.Common.{◌≡◌, ◌≤◌, ◌+◌, ◌++◌, ℕ, List, length, refl, sym, ap, ◌∙◌, Option, Some, None}
+use Rattle.ocpi_text.specs.{max_whole}
+use Rattle.ocpi_types.specs.{Session}
+use Rattle.node_steps.specs.{Gathered, all_messages, all_requests, with_acts}
 use Rattle.node_steps.proofs.Gathering.{both}
-use Rattle.operator_steps.specs.Sessions.{versioned}
+use Rattle.operator_steps.specs.{versioned}
 use Rattle.operator_core.specs.Bills.{bill_acts, completed_acts}
 use Rattle.operator_core.specs.Planned.{version_acts}
 use Rattle.operator_core.specs.declared.reports.bills.Bill.{Bill}

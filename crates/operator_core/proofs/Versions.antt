@@ -1,13 +1,12 @@
 -- What is decided of a session that begins, or of its versions, and the acts that a line asks for.
 use Rattle.std.proofs.Common.{◌++◌, ℕ, ap}
-use Rattle.ocpi_types.specs.declared.sessions.Session.{Session}
+use Rattle.ocpi_types.specs.{Session}
 use Rattle.operator_rows.specs.State.{State}
-use Rattle.operator_steps.specs.Acts.{used}
-use Rattle.operator_steps.specs.Sessions.{IsBegun, IsVersioned, first_of, versioned}
+use Rattle.operator_steps.specs.{IsBegun, IsVersioned, first_of, used, versioned}
 use Rattle.operator_core.specs.Planned.{IsNewSession, IsNewVersion, begun_acts, version_acts}
 use Rattle.operator_core.specs.declared.sessions.Begun.{Begun}
 use Rattle.operator_core.specs.declared.sessions.Versioned.{Versioned}
-use Rattle.session_tables.specs.declared.beginning.Beginning.{Beginning}
+use Rattle.session_tables.specs.{Beginning}
 
 pub version_is : (s : State) (at last : ℕ) (v : Session) (x : Versioned) → IsNewVersion s v x → IsVersioned s at last v (version_acts at last x)
 version_is s at last v x h = record {

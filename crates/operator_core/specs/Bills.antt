@@ -1,26 +1,18 @@
 -- Charge detail records, and the versions of sessions that are completed, as an operator sends them (OCPI 2.2.1, CDRs:
 -- Sender interface).
 use Rattle.std.specs.Prelude.{◌≡◌, ◌≤◌, ℕ, ◌+◌, List, [], ◌∷◌, ◌++◌, ⊤}
-use Rattle.ocpi_text.specs.Text.{key}
-use Rattle.ocpi_text.specs.Whole.{max_whole}
-use Rattle.ocpi_types.specs.declared.cdrs.CdrLocation.{CdrLocation}
-use Rattle.ocpi_types.specs.declared.rows.Change.TheVariants.{Put}
-use Rattle.ocpi_types.specs.declared.rows.Row.TheVariants as row
-use Rattle.ocpi_types.specs.declared.sessions.Session.{Session}
-use Rattle.ocpi_types.specs.declared.site.Connector.{Connector}
-use Rattle.ocpi_types.specs.declared.site.Evse.{Evse}
-use Rattle.ocpi_types.specs.declared.site.Location.{Location}
-use Rattle.ocpi_types.specs.declared.stored.Push.TheVariants as push
-use Rattle.node_steps.specs.Acts.{Act, changed, pushed}
-use Rattle.node_steps.specs.declared.fault.NodeFault.{NodeFault}
-use Rattle.node_steps.specs.declared.fault.NodeFault.TheVariants.{NotForMe, UnknownOperator, UnknownToken, StampEnd, NumbersUsedUp, Memory}
+use Rattle.ocpi_text.specs.{key, max_whole}
+use Rattle.ocpi_types.specs.{CdrLocation, Connector, Evse, Location, Put, Session}
+use Rattle.ocpi_types.specs.row
+use Rattle.ocpi_types.specs.push
+use Rattle.node_steps.specs.{Act, Memory, NodeFault, NotForMe, NumbersUsedUp, StampEnd, UnknownOperator, UnknownToken}
+use Rattle.node_steps.specs.{changed, pushed}
 use Rattle.operator_rows.specs.State.{State}
-use Rattle.operator_steps.specs.Moves.{AreInRange}
-use Rattle.operator_steps.specs.Sessions.{IsBilled, IsVersioned, next_cdr, numbered_cdrs}
+use Rattle.operator_steps.specs.{AreInRange, IsBilled, IsVersioned, next_cdr, numbered_cdrs}
 use Rattle.operator_core.specs.declared.reports.bills.Bill.{Bill}
 use Rattle.operator_core.specs.declared.sessions.Versioned.{Versioned}
 use Rattle.operator_core.specs.Planned.{version_acts}
-use Rattle.session_tables.specs.Places.{IsConnectorAt, cdr_location_of}
+use Rattle.session_tables.specs.{IsConnectorAt, cdr_location_of}
 
 -- the record is numbered, pushed to the party `to` as the request after `last`, and stored
 abbrev pub bill_acts : ℕ → ℕ → List ℕ → Bill → List Act

@@ -2,23 +2,15 @@
 -- Sender interface).
 use Rattle.std.specs.Prelude.{◌≡◌, ◌<◌, ◌≤◌, ℕ, ◌+◌, List, [], ◌∷◌, length, Some, None, ⊤}
 use Rattle.std.specs.FinMap.{get}
-use Rattle.ocpi_text.specs.Moment.{last_moment}
-use Rattle.ocpi_text.specs.Text.{key}
-use Rattle.ocpi_types.specs.Credits.{credit_id}
-use Rattle.ocpi_types.specs.declared.cdrs.Cdr.{Cdr}
-use Rattle.ocpi_types.specs.declared.rows.Change.TheVariants.{Put}
-use Rattle.ocpi_types.specs.declared.rows.Row.TheVariants as row
-use Rattle.ocpi_types.specs.declared.sessions.Session.{Session}
-use Rattle.ocpi_types.specs.declared.stored.Push.TheVariants as push
-use Rattle.ocpi_types.specs.declared.words.SessionStatus.TheVariants.{Completed}
+use Rattle.ocpi_text.specs.{key, last_moment}
+use Rattle.ocpi_types.specs.{Cdr, Completed, Put, Session, credit_id}
+use Rattle.ocpi_types.specs.row
+use Rattle.ocpi_types.specs.push
 use Rattle.session_book.specs.Records.{HasCredit, IsSoleBill}
-use Rattle.node_steps.specs.Acts.{Act, changed, pushed}
-use Rattle.node_steps.specs.Peers.{IsPeer}
-use Rattle.node_steps.specs.declared.fault.NodeFault.{NodeFault}
-use Rattle.node_steps.specs.declared.fault.NodeFault.TheVariants.{NotForMe, UnknownOperator, UnknownToken, StampEnd, NumbersUsedUp, Memory}
+use Rattle.node_steps.specs.{Act, IsPeer, Memory, NodeFault, NotForMe, NumbersUsedUp, StampEnd, UnknownOperator}
+use Rattle.node_steps.specs.{UnknownToken, changed, pushed}
 use Rattle.operator_rows.specs.State.{Rows, State}
-use Rattle.operator_steps.specs.Credits.{next_credit}
-use Rattle.operator_steps.specs.Moves.{AreInRange}
+use Rattle.operator_steps.specs.{AreInRange, next_credit}
 
 -- the session of that id is COMPLETED
 pub record IsCompleted (s : Rows) (session : List ℕ) : Type 0 where

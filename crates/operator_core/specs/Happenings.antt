@@ -1,19 +1,19 @@
 -- What happens at a moment, as all is read before it.
 use Rattle.std.specs.Prelude.{◌≡◌, ◌≤◌, ℕ, ◌+◌, ◌||◌, Bool, false, not, nat_eq, length, List, [], ◌∷◌, Option, Some, None}
 use Rattle.std.specs.List.{filter}
-use Rattle.ocpi_text.specs.Whole.{max_whole}
-use Rattle.node_steps.specs.Acts.{Act}
+use Rattle.ocpi_text.specs.{max_whole}
+use Rattle.node_steps.specs.{Act}
 use Rattle.authorization_book.specs.Waits as waits
-use Rattle.outbox.specs.Due.{AreExactly, IsDue}
-use Rattle.reservation_book.specs.Calls.{AreExpired}
-use Rattle.operator_rows.specs.State.{State, as_outbox}
-use Rattle.operator_steps.specs.Tick.{TimeOut}
-use Rattle.operator_steps.specs.TickFacts.{tick_acts}
+use Rattle.outbox.specs.{AreExactly, IsDue}
+use Rattle.reservation_book.specs.{AreExpired}
+use Rattle.operator_rows.specs.{as_outbox}
+use Rattle.operator_rows.specs.State.{State}
+use Rattle.operator_steps.specs.{TimeOut, tick_acts}
 use Rattle.operator_core.specs.Planned.{AreBeginnings, AreNewSessions, all_begun}
 use Rattle.operator_core.specs.declared.sessions.Begun.{Begun}
 use Rattle.operator_core.specs.declared.ticks.Due.{Due}
 use Rattle.operator_core.specs.declared.ticks.Happening.{Happening}
-use Rattle.session_tables.specs.declared.beginning.Beginning.{Beginning}
+use Rattle.session_tables.specs.{Beginning}
 
 -- the push of an older version has that number
 abbrev pub is_number : Option ℕ → ℕ → Bool

@@ -1,27 +1,19 @@
 -- What is planned of the acts that a line asks for, and why it is not.
 use Rattle.std.specs.Prelude.{◌≡◌, ◌<◌, ℕ, ◌+◌, length, List, [], ◌∷◌, ◌++◌, Option, Some, None, ⊤}
-use Rattle.ocpi_text.specs.Text.{key}
-use Rattle.ocpi_text.specs.Whole.{max_whole}
-use Rattle.ocpi_types.specs.declared.sessions.Session.{Session}
-use Rattle.ocpi_types.specs.declared.stored.Push.TheVariants as push
+use Rattle.ocpi_text.specs.{key, max_whole}
+use Rattle.ocpi_types.specs.{Session}
+use Rattle.ocpi_types.specs.push
 use Rattle.command_book.specs.Stored as book
-use Rattle.node_steps.specs.Acts.{Act, in_turn}
-use Rattle.node_steps.specs.Drafts.{Step}
-use Rattle.node_steps.specs.Peers.{IsPeer}
-use Rattle.node_steps.specs.declared.fault.NodeFault.{NodeFault}
-use Rattle.node_steps.specs.declared.fault.NodeFault.TheVariants.{NotForMe, UnknownOperator, UnknownToken, StampEnd, NumbersUsedUp, Memory}
-use Rattle.outbox.specs.Pushes.{IsReplaced, subject}
+use Rattle.node_steps.specs.{Act, IsPeer, Memory, NodeFault, NotForMe, NumbersUsedUp, StampEnd, Step, UnknownOperator}
+use Rattle.node_steps.specs.{UnknownToken, in_turn}
+use Rattle.outbox.specs.{IsReplaced, subject}
 use Rattle.operator_rows.specs.State.{State}
-use Rattle.operator_rows.specs.Steps.{FullStep}
-use Rattle.operator_steps.specs.declared.ending.Ending.{Ending}
-use Rattle.operator_steps.specs.Acts.{spent, used}
-use Rattle.operator_steps.specs.Ends.{ends_acts}
-use Rattle.operator_steps.specs.Moves.{AreInRange, Work, step_of_acts}
-use Rattle.operator_steps.specs.Sessions.{IsBegun, first_of, numbered_sessions, versioned}
-use Rattle.operator_steps.specs.TickFacts.{IsLeftUnanswered}
+use Rattle.operator_rows.specs.{FullStep}
+use Rattle.operator_steps.specs.{AreInRange, Ending, IsBegun, IsLeftUnanswered, Work, ends_acts, first_of}
+use Rattle.operator_steps.specs.{numbered_sessions, spent, step_of_acts, used, versioned}
 use Rattle.operator_core.specs.declared.sessions.Begun.{Begun}
 use Rattle.operator_core.specs.declared.sessions.Versioned.{Versioned}
-use Rattle.session_tables.specs.declared.beginning.Beginning.{Beginning}
+use Rattle.session_tables.specs.{Beginning}
 
 -- a step of acts, with which nothing that is awaited changes
 abbrev pub quiet_step : Step → FullStep

@@ -1,32 +1,18 @@
 -- A request as the operator handles it, what a step answers, and what a moment comes to where all was read before it.
 use Rattle.std.specs.Prelude.{◌≡◌, ℕ, List, [], ◌∷◌, Option, Some, None, Result, Ok, Err, IsTrue, Contains}
 use Rattle.std.specs.FinMap.{contains_key, get}
-use Rattle.ocpi_text.specs.Text.{key}
-use Rattle.ocpi_types.specs.declared.packet.Packet.{Packet}
-use Rattle.ocpi_types.specs.declared.replies.CommandResult.{CommandResult}
-use Rattle.ocpi_types.specs.declared.rows.Place.{Place}
-use Rattle.ocpi_types.specs.declared.commands.Command.{Command}
-use Rattle.ocpi_types.specs.declared.stored.Reply.{Reply}
-use Rattle.ocpi_types.specs.declared.words.CommandResultType.{CommandResultType}
+use Rattle.ocpi_text.specs.{key}
+use Rattle.ocpi_types.specs.{Command, CommandResult, CommandResultType, Packet, Place, Put, Reply, Token}
 use Rattle.command_book.specs.Stored as book
 use Rattle.outbox.specs.Pushes.{Pushes}
-use Rattle.ocpi_types.specs.declared.rows.Change.TheVariants.{Put}
-use Rattle.ocpi_types.specs.declared.rows.Row.TheVariants as row
-use Rattle.ocpi_types.specs.declared.token.Token.{Token}
-use Rattle.token_desk.specs.declared.answers.TokenPut.{TokenPut}
-use Rattle.token_desk.specs.declared.answers.TokenPut.TheVariants.{Stored, Kept}
-use Rattle.token_desk.specs.declared.fault.TokenFault.{TokenFault}
-use Rattle.node_steps.specs.Acts.{Act, answered, changed, repeated}
-use Rattle.node_steps.specs.Peers.{IsPeer}
-use Rattle.node_steps.specs.declared.plan.Stepped.{Stepped}
+use Rattle.ocpi_types.specs.row
+use Rattle.token_desk.specs.{Kept, TokenFault, TokenPut}
+use Rattle.token_desk.specs.declared.answers.TokenPut.TheVariants.{Stored}
+use Rattle.node_steps.specs.{Act, IsPeer, Stepped, answered, changed, repeated}
 use Rattle.operator_rows.specs.State.{Rows, State}
-use Rattle.operator_tables.specs.declared.decision.Decision.{Decision}
-use Rattle.operator_tables.specs.declared.request.Request.{Request}
-use Rattle.operator_steps.specs.declared.ending.Ending.{Ending}
-use Rattle.operator_steps.specs.Acts.{deadline, decided_acts, opened, own_acts, settled_if, told, url_of}
-use Rattle.operator_steps.specs.Ends.{ends_acts, url_in}
-use Rattle.operator_steps.specs.Moves.{Out}
-use Rattle.operator_steps.specs.Steps.{acknowledgement}
+use Rattle.operator_tables.specs.{Decision, Request}
+use Rattle.operator_steps.specs.{Ending, Out, acknowledgement, deadline, decided_acts, ends_acts, opened, own_acts}
+use Rattle.operator_steps.specs.{settled_if, told, url_in, url_of}
 
 -- the request that came to this operator in a packet
 pub record IsRequest (s : State) (at : ℕ) (q : Packet) (r : Request) : Type 0 where

@@ -2,18 +2,10 @@
 
 ghost use Rattle.std.specs.Prelude.{◌≡◌, ℕ, List, Some, Contains, OnOk, IfOk, IfSome, IfNone};
 ghost use Rattle.std.specs.FinMap as map;
-ghost use Rattle.ocpi_text.specs.Text.{key};
-ghost use Rattle.node_steps.specs.Drafts.{HasNumbers, HasNumbersOf, with_acts};
-ghost use Rattle.operator_steps.specs.declared.ending.Ending.{Ending as EndingOf};
-ghost use Rattle.operator_steps.specs.Ends.{
-  IsOpen,
-  IsOfSite,
-  all_resent,
-  end_acts,
-  ends_acts,
-  expired_acts,
-  resent_acts,
-};
+ghost use Rattle.ocpi_text.specs.{key};
+ghost use Rattle.node_steps.specs.{HasNumbers, HasNumbersOf, with_acts};
+ghost use Rattle.operator_steps.specs.{Ending as EndingOf, IsOfSite, IsOpen, all_resent, end_acts, ends_acts};
+ghost use Rattle.operator_steps.specs.{expired_acts, resent_acts};
 ghost use Rattle.operator_core.specs.Requests.{told_of_end};
 
 use crate::operator::Operator;

@@ -2,22 +2,11 @@
 //! interface).
 
 ghost use Rattle.std.specs.Prelude.{◌≡◌, ◌≤◌, ◌↔◌, ℕ, List, length, IsTrue, IfOk, IfErr, OnOk, IfSome, IfNone};
-ghost use Rattle.ocpi_types.specs.Credits.{IsBill};
-ghost use Rattle.ocpi_types.specs.declared.cdrs.Cdr.{Cdr};
-ghost use Rattle.node_steps.specs.Drafts.{step_of};
-ghost use Rattle.operator_rows.specs.FullSteps.{full_step_of};
-ghost use Rattle.operator_rows.specs.Steps.{MayFollowFull};
-ghost use Rattle.operator_steps.specs.Credits.{CreditLine};
-ghost use Rattle.operator_steps.specs.Faults.{IsCreditFault};
-ghost use Rattle.operator_steps.specs.Moves.{AreInRange, PlannedBy, Quietly, step_of_acts};
-ghost use Rattle.operator_core.specs.Credits.{
-  IsCompleted,
-  IsUncredited,
-  MayGoTo,
-  StopsCredit,
-  TakesBack,
-  credit_acts,
-};
+ghost use Rattle.ocpi_types.specs.{Cdr, IsBill};
+ghost use Rattle.node_steps.specs.{step_of};
+ghost use Rattle.operator_rows.specs.{MayFollowFull, full_step_of};
+ghost use Rattle.operator_steps.specs.{AreInRange, CreditLine, IsCreditFault, PlannedBy, Quietly, step_of_acts};
+ghost use Rattle.operator_core.specs.Credits.{IsCompleted, IsUncredited, MayGoTo, StopsCredit, TakesBack, credit_acts};
 ghost use Rattle.operator_core.specs.Planned.{PlansActs, StopsActs};
 
 use crate::operator::Operator;

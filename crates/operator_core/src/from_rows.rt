@@ -1,10 +1,9 @@
 //! An operator that is made of rows.
 
 ghost use Rattle.std.specs.Prelude.{◌≡◌, IfErr, IfOk};
-ghost use Rattle.stored_rows.specs.Faults.{IfBadRows};
-ghost use Rattle.operator_rows.specs.Sound.{IsConsistent, with_rows};
-ghost use Rattle.operator_rows.specs.State.{State, opening};
-ghost use Rattle.operator_rows.specs.Steps.{restarted};
+ghost use Rattle.stored_rows.specs.{IfBadRows};
+ghost use Rattle.operator_rows.specs.{IsConsistent, opening, restarted, with_rows};
+ghost use Rattle.operator_rows.specs.State.{State};
 ghost use Rattle.operator_stored.specs.Bad.{IsBad};
 ghost use Rattle.operator_stored.specs.Making.{IsMadeOf, StartsAgain};
 

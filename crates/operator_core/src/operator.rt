@@ -1,7 +1,7 @@
 //! The operator.
 
 ghost use Rattle.std.specs.Prelude.{◌≡◌, IfOk, IfErr, IsOk, OnErr, OnOk};
-ghost use Rattle.operator_rows.specs.State.{opening};
+ghost use Rattle.operator_rows.specs.{opening};
 
 use node_steps::{NodeFault, Stepped, copies};
 use ocpi_text::{CiKey, CiText, Moment, Whole};
@@ -25,7 +25,7 @@ pub struct Operator {
 impl Model for Operator {
     ghost use Rattle.std.specs.FinMap as map;
     ghost use Rattle.std.specs.Coded.{codes};
-    ghost use Rattle.operator_rows.specs.Steps.{Node};
+    ghost use Rattle.operator_rows.specs.{Node};
 
     ghost Value = { Node };
 
@@ -35,18 +35,11 @@ impl Model for Operator {
 }
 
 impl Operator {
-    ghost use Rattle.ocpi_text.specs.Text.{key};
-    ghost use Rattle.operator_rows.specs.Rows.{AreChanges, AreRowsOf};
-    ghost use Rattle.operator_rows.specs.Sound.{IsConsistent};
-    ghost use Rattle.operator_rows.specs.Steps.{HasFullRoomFor, MayFollowFull, after_full, restarted};
-    ghost use Rattle.operator_rows.specs.FullSteps.{full_step_of};
-    ghost use Rattle.operator_steps.specs.Charger.{ChargerStep};
-    ghost use Rattle.operator_steps.specs.Credits.{CreditStep};
-    ghost use Rattle.operator_steps.specs.Faults.{IsCreditFault, IsDue, IsOwnFault, IsReportFault};
-    ghost use Rattle.operator_steps.specs.Moves.{carried};
-    ghost use Rattle.operator_steps.specs.Service.{ServiceStep};
-    ghost use Rattle.operator_steps.specs.Steps.{OperatorStep};
-    ghost use Rattle.operator_steps.specs.Tick.{TickLine, TickStep};
+    ghost use Rattle.ocpi_text.specs.{key};
+    ghost use Rattle.operator_rows.specs.{AreChanges, AreRowsOf, HasFullRoomFor, IsConsistent, MayFollowFull};
+    ghost use Rattle.operator_rows.specs.{after_full, full_step_of, restarted};
+    ghost use Rattle.operator_steps.specs.{ChargerStep, CreditStep, IsCreditFault, IsDue, IsOwnFault, IsReportFault};
+    ghost use Rattle.operator_steps.specs.{OperatorStep, ServiceStep, TickLine, TickStep, carried};
     ghost use Rattle.operator_core.specs.Requests.{out_of};
 
     /// The operator of a site before its first event. An error is want of memory.

@@ -2,15 +2,12 @@
 
 ghost use Rattle.std.specs.Prelude.{◌≡◌, ◌↔◌, None, IsTrue, IfOk, IfErr, OnOk, IfSome, IfNone, List, ℕ};
 ghost use Rattle.std.specs.FinMap as map;
-ghost use Rattle.ocpi_text.specs.Text.{key};
-ghost use Rattle.ocpi_types.specs.declared.packet.Body.TheVariants as body;
-ghost use Rattle.node_steps.specs.Drafts.{step_of};
-ghost use Rattle.node_steps.specs.Peers.{IsPeer};
-ghost use Rattle.operator_rows.specs.FullSteps.{full_step_of};
-ghost use Rattle.operator_rows.specs.Steps.{MayFollowFull};
-ghost use Rattle.operator_steps.specs.Faults.{IsDue, MayStep};
-ghost use Rattle.operator_steps.specs.Moves.{AreInRange, PlannedBy, step_of_acts};
-ghost use Rattle.operator_steps.specs.Steps.{Acknowledges, Comes, IsForMe, IsRequestBody, IsTaken};
+ghost use Rattle.ocpi_text.specs.{key};
+ghost use Rattle.ocpi_types.specs.body;
+ghost use Rattle.node_steps.specs.{IsPeer, step_of};
+ghost use Rattle.operator_rows.specs.{MayFollowFull, full_step_of};
+ghost use Rattle.operator_steps.specs.{Acknowledges, AreInRange, Comes, IsDue, IsForMe, IsRequestBody, IsTaken};
+ghost use Rattle.operator_steps.specs.{MayStep, PlannedBy, step_of_acts};
 ghost use Rattle.operator_core.specs.Planned.{StopsActs, quiet_step};
 ghost use Rattle.operator_core.specs.Requests.{IsRequest, decided_by, repeated_by, result_count};
 

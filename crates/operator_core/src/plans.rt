@@ -1,9 +1,9 @@
 //! What plans are begun with.
 
 ghost use Rattle.std.specs.Prelude.{◌≡◌, IfOk, IfErr, OnOk};
-ghost use Rattle.node_steps.specs.Drafts.{IsInRange, StopsBy, later, opened, step_of};
-ghost use Rattle.operator_rows.specs.FullSteps.{full_step_of};
-ghost use Rattle.operator_steps.specs.Moves.{counters_of};
+ghost use Rattle.node_steps.specs.{IsInRange, StopsBy, later, opened, step_of};
+ghost use Rattle.operator_rows.specs.{full_step_of};
+ghost use Rattle.operator_steps.specs.{counters_of};
 ghost use Rattle.operator_core.specs.Planned.{quiet_step};
 
 use crate::operator::Operator;

@@ -1,29 +1,15 @@
 //! What a charge point reports to its operator (OCPI 2.2.1, Commands: the results of commands).
 
 ghost use Rattle.std.specs.Prelude.{◌≡◌, ◌≢◌, ℕ, List, IfOk, IfErr, OnOk, IfSome, IfNone};
-ghost use Rattle.ocpi_types.specs.declared.events.ChargerEvent.TheVariants as event;
-ghost use Rattle.site_book.specs.declared.claim.Claim.TheVariants.{OpenStart};
-ghost use Rattle.node_steps.specs.Drafts.{step_of};
-ghost use Rattle.operator_rows.specs.FullSteps.{full_step_of};
-ghost use Rattle.operator_rows.specs.State.{HasClaim};
-ghost use Rattle.operator_rows.specs.Steps.{MayFollowFull};
-ghost use Rattle.operator_steps.specs.Charger.{
-  ChargerLine,
-  EndsNone,
-  IsAbout,
-  IsEnded,
-  IsStarted,
-  StartsNone,
-  accepted,
-  outcome,
-  unlocked,
-};
-ghost use Rattle.operator_steps.specs.Ends.{IsOpen};
-ghost use Rattle.operator_steps.specs.Faults.{IsReportFault};
-ghost use Rattle.operator_steps.specs.Moves.{AreInRange, PlannedBy, step_of_acts};
+ghost use Rattle.ocpi_types.specs.event;
+ghost use Rattle.site_book.specs.{OpenStart};
+ghost use Rattle.node_steps.specs.{step_of};
+ghost use Rattle.operator_rows.specs.{HasClaim, MayFollowFull, full_step_of};
+ghost use Rattle.operator_steps.specs.{AreInRange, ChargerLine, EndsNone, IsAbout, IsEnded, IsOpen, IsReportFault};
+ghost use Rattle.operator_steps.specs.{IsStarted, PlannedBy, StartsNone, accepted, outcome, step_of_acts, unlocked};
 ghost use Rattle.operator_core.specs.Planned.{StopsActs};
 ghost use Rattle.operator_core.specs.Requests.{acts_of_end};
-ghost use Rattle.session_tables.specs.Moves.{MovesNone};
+ghost use Rattle.session_tables.specs.{MovesNone};
 
 pub(crate) mod bills;
 mod session_updates;

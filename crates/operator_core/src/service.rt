@@ -1,11 +1,9 @@
 //! An EVSE goes out of service, or comes back.
 
 ghost use Rattle.std.specs.Prelude.{◌∷◌, [], IfOk, IfSome, IfNone};
-ghost use Rattle.node_steps.specs.Acts.{changed};
-ghost use Rattle.operator_rows.specs.Steps.{MayFollowFull};
-ghost use Rattle.operator_rows.specs.FullSteps.{full_step_of};
-ghost use Rattle.operator_steps.specs.Moves.{PlannedBy, Quietly};
-ghost use Rattle.operator_steps.specs.Service.{ServiceLine};
+ghost use Rattle.node_steps.specs.{changed};
+ghost use Rattle.operator_rows.specs.{MayFollowFull, full_step_of};
+ghost use Rattle.operator_steps.specs.{PlannedBy, Quietly, ServiceLine};
 
 use crate::operator::Operator;
 use crate::plans::quiet;

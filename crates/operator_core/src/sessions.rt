@@ -1,16 +1,12 @@
 //! Sessions that begin, and their versions (OCPI 2.2.1, Sessions: Sender interface).
 
 ghost use Rattle.std.specs.Prelude.{◌≡◌, ◌≤◌, ◌+◌, ◌∷◌, [], ℕ, Option, IfOk, IfErr, OnOk};
-ghost use Rattle.ocpi_text.specs.Text.{key};
-ghost use Rattle.ocpi_text.specs.Whole.{max_whole};
-ghost use Rattle.ocpi_types.specs.declared.rows.Row.TheVariants as row;
-ghost use Rattle.ocpi_types.specs.declared.rows.Change.TheVariants as change;
-ghost use Rattle.ocpi_types.specs.declared.stored.Push.TheVariants as push;
-ghost use Rattle.node_steps.specs.Acts.{changed, pushed};
-ghost use Rattle.node_steps.specs.Drafts.{HasNumbers, HasNumbersOf, with_acts};
-ghost use Rattle.node_steps.specs.Peers.{HasPeer};
-ghost use Rattle.node_steps.specs.declared.fault.NodeFault.TheVariants.{NumbersUsedUp};
-ghost use Rattle.operator_steps.specs.Sessions.{first_of, replaced};
+ghost use Rattle.ocpi_text.specs.{key, max_whole};
+ghost use Rattle.ocpi_types.specs.row;
+ghost use Rattle.ocpi_types.specs.change;
+ghost use Rattle.ocpi_types.specs.push;
+ghost use Rattle.node_steps.specs.{HasNumbers, HasNumbersOf, HasPeer, NumbersUsedUp, changed, pushed, with_acts};
+ghost use Rattle.operator_steps.specs.{first_of, replaced};
 ghost use Rattle.operator_core.specs.Planned.{IsNewSession, IsNewVersion, all_begun, begun_acts, version_acts};
 
 mod beginnings;

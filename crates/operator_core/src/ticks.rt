@@ -1,19 +1,14 @@
 //! What the time does at an operator.
 
 ghost use Rattle.std.specs.Prelude.{◌≡◌, ◌≤◌, ◌+◌, Contains, length, map, IfOk, IfErr, OnOk};
-ghost use Rattle.ocpi_text.specs.Whole.{max_whole};
-ghost use Rattle.ocpi_types.specs.declared.rows.Counter.TheVariants as counter;
+ghost use Rattle.ocpi_text.specs.{max_whole};
+ghost use Rattle.ocpi_types.specs.counter;
 ghost use Rattle.authorization_book.specs.Waits as waits;
-ghost use Rattle.outbox.specs.Due.{AreExactly};
-ghost use Rattle.node_steps.specs.Acts.{changed};
-ghost use Rattle.node_steps.specs.Drafts.{HasNumbersOf, count_change, step_of, with_acts};
-ghost use Rattle.operator_rows.specs.FullSteps.{full_step_of};
-ghost use Rattle.operator_rows.specs.Steps.{MayFollowFull};
-ghost use Rattle.operator_steps.specs.declared.ending.Ending.{Ending as EndingOf};
-ghost use Rattle.operator_steps.specs.Ends.{IsOpen};
-ghost use Rattle.operator_steps.specs.Faults.{IsOwnFault};
-ghost use Rattle.operator_steps.specs.Moves.{AreInRange, PlannedBy, step_of_acts};
-ghost use Rattle.operator_steps.specs.Tick.{TickLine, TimeOut};
+ghost use Rattle.outbox.specs.{AreExactly};
+ghost use Rattle.node_steps.specs.{HasNumbersOf, changed, count_change, step_of, with_acts};
+ghost use Rattle.operator_rows.specs.{MayFollowFull, full_step_of};
+ghost use Rattle.operator_steps.specs.{AreInRange, Ending as EndingOf, IsOpen, IsOwnFault, PlannedBy, TickLine};
+ghost use Rattle.operator_steps.specs.{TimeOut, step_of_acts};
 ghost use Rattle.operator_core.specs.Happenings.{AreDueAt, BeginAt, HappenWith, IsHappening, happening_acts};
 ghost use Rattle.operator_core.specs.Planned.{StopsActs};
 ghost use Rattle.operator_core.specs.Requests.{AllStand};

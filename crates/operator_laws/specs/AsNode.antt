@@ -2,15 +2,14 @@
 use Rattle.std.specs.Prelude.{◌≡◌, ℕ, List, [], ◌∷◌, map, Some, Contains}
 use Rattle.std.specs.Option.{option_map}
 use Rattle.std.specs.FinMap.{get}
-use Rattle.ocpi_types.specs.Stored.{body_of_push}
-use Rattle.ocpi_types.specs.declared.packet.Packet.{Packet}
-use Rattle.ocpi_types.specs.declared.site.SiteLine.{SiteLine}
-use Rattle.outbox.specs.declared.push_book.Outgoing.{Outgoing}
+use Rattle.ocpi_types.specs.{Packet, SiteLine, body_of_push}
+use Rattle.outbox.specs.{Outgoing}
 use Rattle.node_laws.specs.Nodes.{Node, Exchange, Request, NodeStep}
 use Rattle.node_laws.specs.Laws.{NodeRun}
-use Rattle.operator_rows.specs.State.{State, opening}
-use Rattle.operator_rows.specs.Sound.{IsConsistent}
-use Rattle.operator_steps.specs.Events.{Input, Arrives, Serves, Reports, Credits, Ticks, Restarts, Event, Happens}
+use Rattle.operator_rows.specs.{IsConsistent, opening}
+use Rattle.operator_rows.specs.State.{State}
+use Rattle.operator_steps.specs.{Arrives, Event, Happens, Input, Reports, Restarts, Serves, Ticks}
+use Rattle.operator_steps.specs.Events.{Credits}
 use Rattle.operator_laws.specs.Laws.{IsOfParty, Run, sent}
 
 abbrev pub pushed_request : Outgoing → Request

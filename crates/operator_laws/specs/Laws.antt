@@ -5,31 +5,18 @@
 use Rattle.std.specs.Prelude.{◌≡◌, ◌⊎◌, ℕ, ◌+◌, ◌≤◌, ◌<◌, List, Some, Ok, Contains, slice_get}
 use Rattle.std.specs.List.{flat_map}
 use Rattle.std.specs.FinMap.{get}
-use Rattle.ocpi_text.specs.Party.{party_at}
-use Rattle.ocpi_text.specs.Text.{key}
-use Rattle.ocpi_types.specs.Stored.{body_of_reply, body_of_push}
-use Rattle.ocpi_types.specs.declared.cdrs.Cdr.{Cdr}
-use Rattle.ocpi_types.specs.declared.site.SiteLine.{SiteLine}
-use Rattle.ocpi_types.specs.declared.packet.Packet.{Packet}
-use Rattle.ocpi_types.specs.declared.packet.Body.{Body}
-use Rattle.ocpi_types.specs.declared.packet.Body.TheVariants as body
-use Rattle.ocpi_types.specs.declared.replies.Ack.{Ack}
-use Rattle.ocpi_types.specs.declared.replies.CommandResult.{CommandResult}
-use Rattle.ocpi_types.specs.declared.commands.Command.{Command}
-use Rattle.ocpi_types.specs.declared.stored.OpenCommand.{OpenCommand}
-use Rattle.ocpi_types.specs.declared.stored.Reply.{Reply}
-use Rattle.ocpi_types.specs.declared.stored.Reply.TheVariants as reply
-use Rattle.ocpi_types.specs.declared.token.Token.{Token}
-use Rattle.ocpi_types.specs.declared.stored.Reservation.{Reservation}
-use Rattle.ocpi_types.specs.declared.words.CommandResultType.{CommandResultType}
-use Rattle.ocpi_types.specs.declared.rows.Change.TheVariants.{Put}
-use Rattle.ocpi_types.specs.declared.rows.Row.TheVariants as row
+use Rattle.ocpi_text.specs.{key, party_at}
+use Rattle.ocpi_types.specs.{Ack, Body, Cdr, Command, CommandResult, CommandResultType, OpenCommand, Packet, Put, Reply}
+use Rattle.ocpi_types.specs.{Reservation, SiteLine, Token, body_of_push, body_of_reply}
+use Rattle.ocpi_types.specs.body
+use Rattle.ocpi_types.specs.reply
+use Rattle.ocpi_types.specs.row
 use Rattle.node_laws.specs.Nodes.{IsReply}
 use Rattle.node_laws.specs.Runs as runs
-use Rattle.outbox.specs.declared.push_book.Outgoing.{Outgoing}
-use Rattle.operator_rows.specs.State.{State, opening}
-use Rattle.operator_rows.specs.Sound.{IsConsistent}
-use Rattle.operator_steps.specs.Events.{Arrives, Event, Happens}
+use Rattle.outbox.specs.{Outgoing}
+use Rattle.operator_rows.specs.{IsConsistent, opening}
+use Rattle.operator_rows.specs.State.{State}
+use Rattle.operator_steps.specs.{Arrives, Event, Happens}
 use Rattle.operator_laws.specs.References.{AreSpent, HaveOneCarrier, Uses}
 
 -- a run from one state to another, event by event

@@ -1,10 +1,10 @@
 -- The authorization references of starts (OCPI 2.2.1, Commands: StartSession), and which open starts carry them.
 use Rattle.std.specs.Prelude.{◌≡◌, ℕ, List, Some}
 use Rattle.std.specs.FinMap.{get}
-use Rattle.ocpi_text.specs.Text.{key}
-use Rattle.ocpi_types.specs.declared.stored.OpenCommand.{OpenCommand}
+use Rattle.ocpi_text.specs.{key}
+use Rattle.ocpi_types.specs.{OpenCommand}
 use Rattle.operator_rows.specs.State.{Rows}
-use Rattle.operator_steps.specs.Acts.{reference_of}
+use Rattle.operator_steps.specs.{reference_of}
 
 -- the open command is a start with that reference, in key form
 abbrev pub Uses : OpenCommand → List ℕ → Type 0

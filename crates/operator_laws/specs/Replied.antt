@@ -1,23 +1,15 @@
 -- What the answer to a command brings about, then and for good; and what stands only because it was asked for.
 use Rattle.std.specs.Prelude.{◌≡◌, ◌⊎◌, ◌≤◌, ℕ, List, Some, None, Contains}
 use Rattle.std.specs.FinMap.{get}
-use Rattle.ocpi_text.specs.Text.{key}
-use Rattle.ocpi_types.specs.declared.commands.CancelReservation.{CancelReservation}
-use Rattle.ocpi_types.specs.declared.commands.ReserveNow.{ReserveNow}
-use Rattle.ocpi_types.specs.declared.packet.Body.TheVariants as body
-use Rattle.ocpi_types.specs.declared.packet.Packet.{Packet}
-use Rattle.ocpi_types.specs.declared.site.SiteLine.{SiteLine}
-use Rattle.ocpi_types.specs.declared.replies.CommandResult.{CommandResult}
-use Rattle.ocpi_types.specs.declared.commands.Command.{Command}
-use Rattle.ocpi_types.specs.declared.commands.Command.TheVariants as command
-use Rattle.ocpi_types.specs.declared.stored.OpenCommand.{OpenCommand}
-use Rattle.ocpi_types.specs.declared.stored.Reply.{Reply}
-use Rattle.ocpi_types.specs.declared.stored.Reservation.{Reservation}
+use Rattle.ocpi_text.specs.{key}
+use Rattle.ocpi_types.specs.{CancelReservation, Command, CommandResult, CommandResultType, OpenCommand, Packet, Reply}
+use Rattle.ocpi_types.specs.{Reservation, ReserveNow, SiteLine}
+use Rattle.ocpi_types.specs.body
+use Rattle.ocpi_types.specs.command
 use Rattle.ocpi_types.specs.declared.words.CommandResponseType.TheVariants.{Accepted}
-use Rattle.ocpi_types.specs.declared.words.CommandResultType.{CommandResultType}
-use Rattle.operator_rows.specs.State.{State, opening}
-use Rattle.operator_steps.specs.Acts.{responded, url_of}
-use Rattle.operator_steps.specs.Events.{Arrives, Event, Happens}
+use Rattle.operator_rows.specs.{opening}
+use Rattle.operator_rows.specs.State.{State}
+use Rattle.operator_steps.specs.{Arrives, Event, Happens, responded, url_of}
 use Rattle.operator_laws.specs.Laws.{Came, IsOfParty, Run, sent}
 
 -- the event answers the request of that packet: no reply was kept for it before, and this one is after

@@ -2,40 +2,24 @@
 -- pushed of them (OCPI 2.2.1, Sessions: Session object, Sender interface; CDRs: CDR object, Sender interface).
 use Rattle.std.specs.Prelude.{◌≡◌, ◌⊎◌, ◌≤◌, ◌<◌, ℕ, List, Some, Contains, ⊤}
 use Rattle.std.specs.FinMap.{get}
-use Rattle.ocpi_text.specs.OwnIds.{own_id_text}
-use Rattle.ocpi_text.specs.Text.{key}
-use Rattle.ocpi_text.specs.Whole.{max_whole}
-use Rattle.ocpi_text.specs.declared.own_ids.OwnIdKind.{OwnIdKind}
-use Rattle.ocpi_text.specs.declared.own_ids.OwnIdKind.TheVariants as own
-use Rattle.ocpi_types.specs.Credits.{is_credit}
-use Rattle.ocpi_types.specs.Stored.{body_of_push}
-use Rattle.ocpi_types.specs.declared.authorizations.Authorization.TheVariants.{Done}
-use Rattle.ocpi_types.specs.declared.authorizations.AuthorizationInfo.{AuthorizationInfo}
-use Rattle.ocpi_types.specs.declared.cdrs.Cdr.{Cdr}
-use Rattle.ocpi_types.specs.declared.commands.Command.TheVariants as command
-use Rattle.ocpi_types.specs.declared.commands.StartSession.{StartSession}
-use Rattle.ocpi_types.specs.declared.packet.Body.{Body}
-use Rattle.ocpi_types.specs.declared.packet.Body.TheVariants as body
-use Rattle.ocpi_types.specs.declared.packet.Packet.{Packet}
-use Rattle.ocpi_types.specs.declared.rows.Change.TheVariants.{Put}
-use Rattle.ocpi_types.specs.declared.rows.Row.{Row}
-use Rattle.ocpi_types.specs.declared.rows.Row.TheVariants as row
-use Rattle.ocpi_types.specs.declared.sessions.Session.{Session}
-use Rattle.ocpi_types.specs.declared.site.SiteLine.{SiteLine}
-use Rattle.ocpi_types.specs.declared.stored.Push.{Push}
-use Rattle.ocpi_types.specs.declared.stored.Push.TheVariants as push
-use Rattle.ocpi_types.specs.declared.stored.Reply.{Reply}
-use Rattle.ocpi_types.specs.declared.words.AuthMethod.TheVariants as how
+use Rattle.ocpi_text.specs.{OwnIdKind, key, max_whole, own_id_text}
+use Rattle.ocpi_text.specs.own
+use Rattle.ocpi_types.specs.{AuthorizationInfo, Body, Cdr, Done, Packet, Pending, Push, Put, Reply, Row, Session}
+use Rattle.ocpi_types.specs.{SiteLine, StartSession, body_of_push, is_credit}
+use Rattle.ocpi_types.specs.command
+use Rattle.ocpi_types.specs.body
+use Rattle.ocpi_types.specs.row
+use Rattle.ocpi_types.specs.push
+use Rattle.ocpi_types.specs.how
 use Rattle.ocpi_types.specs.declared.words.CommandResultType.TheVariants.{Accepted}
-use Rattle.ocpi_types.specs.declared.words.SessionStatus.TheVariants.{Pending}
-use Rattle.session_state.specs.Pasts.{IsSame}
+use Rattle.session_state.specs.{IsSame}
 use Rattle.session_book.specs.Numbers.{id_key}
-use Rattle.session_tables.specs.Beginnings.{cdr_token_of}
-use Rattle.stored_rows.specs.Records.{record_id_text}
-use Rattle.outbox.specs.declared.push_book.Outgoing.{Outgoing}
-use Rattle.operator_rows.specs.State.{Rows, State, opening}
-use Rattle.operator_rows.specs.Sound.{IsConsistent}
-use Rattle.operator_steps.specs.Events.{Event}
+use Rattle.session_tables.specs.{cdr_token_of}
+use Rattle.stored_rows.specs.{record_id_text}
+use Rattle.outbox.specs.{Outgoing}
+use Rattle.operator_rows.specs.{IsConsistent, opening}
+use Rattle.operator_rows.specs.State.{Rows, State}
+use Rattle.operator_steps.specs.{Event}
 use Rattle.operator_laws.specs.Laws.{Acknowledged, Came, IsOfParty, Run, sent}
 use Rattle.operator_laws.specs.Made.{IsAnsweredIn}
 use Rattle.operator_laws.specs.References.{Carries}

@@ -1,9 +1,8 @@
 -- The rows of an operator, with those of its tokens, sessions and charge detail records.
 use Rattle.std.proofs.Common.{◌≡◌, List, ◌++◌, ◌⊎◌, inl, inr, refl, sym, arith}
-use Rattle.ocpi_types.specs.Rows.{key_of}
-use Rattle.ocpi_types.specs.declared.rows.Row.{Row}
-use Rattle.ocpi_types.specs.declared.rows.Row.TheVariants as row
-use Rattle.ocpi_types.specs.declared.rows.Counter.TheVariants as counter
+use Rattle.ocpi_types.specs.{Row, key_of}
+use Rattle.ocpi_types.specs.row
+use Rattle.ocpi_types.specs.counter
 use Rattle.command_book.specs.Listing as command_lists
 use Rattle.outbox.specs.OutboxListing as outbox_lists
 use Rattle.reservation_book.specs.Rows as booked

@@ -1,20 +1,16 @@
 -- The kept claims stay those of the rows.
-use Rattle.std.proofs.Common.{◌≡◌, ◌≢◌, ◌↔◌, ℕ, List, ◌⊎◌, inl, inr, refl, sym, ap, subst, ◌∙◌}
-use Rattle.std.specs.Prelude.{Option, Some, None, IfSome, IfNone, Bool, true, false, IsTrue, is_some}
+use Rattle.std.proofs.Common.{◌≡◌, ◌≢◌, ◌↔◌, ℕ, List, ◌⊎◌, inl, inr, refl, sym, ap, subst, ◌∙◌, Option, Some, None}
+use Rattle.std.proofs.Common.{IfSome, IfNone, Bool, true, false, IsTrue, is_some}
 use Rattle.std.specs.FinMap.{get, insert, remove, empty, get-empty}
-use Rattle.ocpi_text.specs.Text.{key}
-use Rattle.tables.specs.Keys.{text_cmp, text_total, text_exact, text_number_cmp, text_number_total, text_number_exact, text_pair_cmp, text_pair_total, text_pair_exact}
+use Rattle.ocpi_text.specs.{key}
+use Rattle.tables.specs.{text_cmp, text_exact, text_number_cmp, text_number_exact, text_number_total, text_pair_cmp}
+use Rattle.tables.specs.{text_pair_exact, text_pair_total, text_total}
 use Rattle.tables.proofs.Maps.{of_insert, get-insert_same, get-insert_other, get-remove_other, of_remove, told}
 use Rattle.tables.proofs.Options.{none_some}
-use Rattle.ocpi_types.specs.declared.rows.Row.TheVariants as row
-use Rattle.ocpi_types.specs.declared.rows.RowKey.{RowKey}
-use Rattle.ocpi_types.specs.declared.rows.RowKey.TheVariants as keys
-use Rattle.ocpi_types.specs.declared.stored.OpenCommand.{OpenCommand}
-use Rattle.ocpi_types.specs.declared.stored.Reservation.{Reservation}
-use Rattle.ocpi_types.specs.declared.sessions.Session.{Session}
-use Rattle.site_book.specs.declared.claim.Claim.{Claim}
-use Rattle.site_book.specs.declared.claim.Claim.TheVariants.{OpenStart, Live, Reserved}
-use Rattle.site_book.specs.Sites.{Claims, IsEvse}
+use Rattle.ocpi_types.specs.row
+use Rattle.ocpi_types.specs.{OpenCommand, Reservation, RowKey, Session}
+use Rattle.ocpi_types.specs.keys
+use Rattle.site_book.specs.{Claim, Claims, IsEvse, Live, OpenStart, Reserved}
 use Rattle.operator_rows.specs.State.{State, Rows, Takes, HasClaim, OneClaimEach, no_rows}
 use Rattle.operator_rows.specs.Stored.{put_row, drop_row}
 use Rattle.operator_rows.specs.Claimed.{IsIndexed, Holds, released, claimed}

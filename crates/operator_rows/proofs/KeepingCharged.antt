@@ -1,28 +1,23 @@
 -- What holds at all times of the tokens, the sessions and the charge detail records is kept by each change of a row
 -- that may be made.
-use Rattle.std.proofs.Common.{◌≡◌, inl, inr, ℕ, List, sym, ap, subst, ◌∙◌}
-use Rattle.std.specs.Prelude.{Some}
+use Rattle.std.proofs.Common.{◌≡◌, inl, inr, ℕ, List, sym, ap, subst, ◌∙◌, Some}
 use Rattle.std.specs.FinMap.{get, get-empty}
-use Rattle.ocpi_text.specs.Text.{key}
-use Rattle.tables.specs.Keys.{text_cmp, text_total, text_exact}
+use Rattle.ocpi_text.specs.{key}
+use Rattle.tables.specs.{text_cmp, text_exact, text_total}
 use Rattle.tables.proofs.Maps.{of_insert}
 use Rattle.tables.proofs.Options.{none_some}
-use Rattle.ocpi_types.specs.declared.rows.Row.TheVariants as row
-use Rattle.ocpi_types.specs.declared.rows.Counter.TheVariants as counter
-use Rattle.ocpi_types.specs.declared.cdrs.Cdr.{Cdr}
-use Rattle.ocpi_types.specs.declared.sessions.Session.{Session}
-use Rattle.ocpi_types.specs.declared.site.SiteLine.{SiteLine}
-use Rattle.ocpi_types.specs.declared.token.Token.{Token}
+use Rattle.ocpi_types.specs.row
+use Rattle.ocpi_types.specs.counter
+use Rattle.ocpi_types.specs.{Cdr, Session, SiteLine, Token}
 use Rattle.authorization_book.specs.Waits.{Waits}
-use Rattle.authorization_book.specs.declared.awaited.Awaited.{Awaited}
+use Rattle.authorization_book.specs.{Awaited}
 use Rattle.outbox.specs.Resend.{Resend}
 use Rattle.outbox.proofs.Timing.{put_or, has_none}
-use Rattle.node_steps.specs.Peers.{HasPeer}
+use Rattle.node_steps.specs.{HasPeer}
 use Rattle.session_book.specs.Stored as charged
 use Rattle.session_book.specs.Numbers.{AreNumbered}
 use Rattle.token_desk.specs.Tokens as desk
-use Rattle.token_desk.specs.Tokens.{TokenKey, token_cmp, token_key}
-use Rattle.token_desk.specs.TypeOrder.{tokens_total, tokens_exact}
+use Rattle.token_desk.specs.{TokenKey, token_cmp, token_key, tokens_exact, tokens_total}
 use Rattle.operator_rows.specs.State.{State, Rows, opening}
 use Rattle.operator_rows.specs.Stored.{put_row}
 use Rattle.operator_rows.specs.Sound.{IsSound, MayAwait, MayStand, MayPutToken, MayPutSession, MayPutCdr, MayPutNumber, with_rows}

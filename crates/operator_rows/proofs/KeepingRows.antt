@@ -1,35 +1,26 @@
 -- The claims, and what holds at all times, as rows of each kind are put and dropped.
-use Rattle.std.proofs.Common.{◌≡◌, ◌≤◌, ℕ, List, inl, inr, refl, sym, ap, subst, ◌∙◌, arith}
-use Rattle.std.specs.Prelude.{Option, Some, Result, Ok, Err, OnOk, IfErr}
+use Rattle.std.proofs.Common.{◌≡◌, ◌≤◌, ℕ, List, inl, inr, refl, sym, ap, subst, ◌∙◌, arith, Option, Some, Result, Ok}
+use Rattle.std.proofs.Common.{Err, OnOk, IfErr}
 use Rattle.std.specs.Ordering.{nat_cmp}
 use Rattle.std.specs.FinMap.{get, get-empty, empty}
 use Rattle.tables.proofs.Options.{none_some}
-use Rattle.ocpi_text.specs.Text.{key}
-use Rattle.ocpi_types.specs.Parties.{SiteParties}
-use Rattle.ocpi_types.specs.declared.rows.Row.{Row}
-use Rattle.ocpi_types.specs.declared.rows.Row.TheVariants as row
-use Rattle.ocpi_types.specs.declared.rows.RowKey.{RowKey}
-use Rattle.ocpi_types.specs.declared.rows.RowKey.TheVariants as keys
-use Rattle.ocpi_types.specs.declared.rows.Counter.TheVariants as counter
-use Rattle.ocpi_types.specs.declared.site.SiteLine.{SiteLine}
-use Rattle.ocpi_types.specs.declared.sessions.Session.{Session}
-use Rattle.ocpi_types.specs.declared.stored.OpenCommand.{OpenCommand}
-use Rattle.ocpi_types.specs.declared.stored.Push.{Push}
-use Rattle.ocpi_types.specs.declared.stored.Reservation.{Reservation}
-use Rattle.site_book.specs.declared.claim.Claim.TheVariants.{OpenStart, Reserved}
-use Rattle.site_book.specs.Sites.{Claims, SiteState}
+use Rattle.ocpi_text.specs.{key}
+use Rattle.ocpi_types.specs.{OpenCommand, Push, Reservation, Row, RowKey, Session, SiteLine, SiteParties}
+use Rattle.ocpi_types.specs.row
+use Rattle.ocpi_types.specs.keys
+use Rattle.ocpi_types.specs.counter
+use Rattle.site_book.specs.{Claims, OpenStart, Reserved, SiteState}
 use Rattle.command_book.specs.Stored as commands
 use Rattle.reservation_book.specs.Rows as booked
 use Rattle.session_book.specs.Stored as charged
 use Rattle.token_desk.specs.Stored as desk
 use Rattle.token_desk.specs.Tokens.{Tokens}
-use Rattle.authorization_book.specs.Waits.{MayWait, Waits, waited_all}
-use Rattle.authorization_book.specs.declared.awaited.Awaited.{Awaited}
-use Rattle.authorization_book.specs.declared.waiting.Waiting.{Waiting}
+use Rattle.authorization_book.specs.{Awaited, MayWait, Waiting, waited_all}
+use Rattle.authorization_book.specs.Waits.{Waits}
 use Rattle.authorization_book.proofs.Changes.{waits_change}
 use Rattle.outbox.specs.Commands.{Commands}
 use Rattle.outbox.specs.Outbox as outbox
-use Rattle.outbox.specs.Outbox.{OutboxRows, HeldOutbox}
+use Rattle.outbox.specs.{HeldOutbox, OutboxRows}
 use Rattle.outbox.proofs.Timing.{has_none}
 use Rattle.operator_rows.specs.State.{State, Rows, Spent, opening, no_rows}
 use Rattle.operator_rows.specs.Stored.{put_row, drop_row}

@@ -1,39 +1,27 @@
 -- What holds of an operator at all times is kept by each change of a row that may be made, kind by kind.
-use Rattle.std.proofs.Common.{◌≡◌, inl, inr, ℕ, List, [], ◌∷◌, refl, sym, ap, subst, ◌∙◌, arith}
-use Rattle.std.specs.Prelude.{Some, None, IsTrue}
+use Rattle.std.proofs.Common.{◌≡◌, inl, inr, ℕ, List, [], ◌∷◌, refl, sym, ap, subst, ◌∙◌, arith, Some, None, IsTrue}
 use Rattle.std.specs.Cmp.{nat_cmp_total}
 use Rattle.std.specs.Ordering.{nat_cmp}
 use Rattle.std.specs.FinMap.{nat_cmp-IsAntisymmetric, get, empty, contains_key, get-empty}
-use Rattle.ocpi_text.specs.Text.{key}
-use Rattle.tables.specs.Keys.{text_cmp, text_total, text_exact, text_number_cmp, text_number_total, text_number_exact, text_pair_cmp, text_pair_total, text_pair_exact}
+use Rattle.ocpi_text.specs.{key}
+use Rattle.tables.specs.{text_cmp, text_exact, text_number_cmp, text_number_exact, text_number_total, text_pair_cmp}
+use Rattle.tables.specs.{text_pair_exact, text_pair_total, text_total}
 use Rattle.tables.proofs.Maps.{of_insert, of_remove, get-insert_other}
 use Rattle.tables.proofs.Options.{none_some, not_both}
-use Rattle.ocpi_types.specs.declared.rows.Row.{Row}
-use Rattle.ocpi_types.specs.declared.rows.Row.TheVariants as row
-use Rattle.ocpi_types.specs.declared.rows.RowKey.{RowKey}
-use Rattle.ocpi_types.specs.declared.rows.RowKey.TheVariants as keys
-use Rattle.ocpi_types.specs.declared.rows.Change.{Change}
-use Rattle.ocpi_types.specs.declared.rows.Change.TheVariants.{Put, Drop}
-use Rattle.ocpi_types.specs.declared.rows.Counter.TheVariants as counter
-use Rattle.ocpi_types.specs.declared.site.SiteLine.{SiteLine}
-use Rattle.ocpi_types.specs.declared.cdrs.Cdr.{Cdr}
-use Rattle.ocpi_types.specs.declared.sessions.Session.{Session}
-use Rattle.ocpi_types.specs.declared.token.Token.{Token}
-use Rattle.ocpi_types.specs.declared.stored.OpenCommand.{OpenCommand}
-use Rattle.ocpi_types.specs.declared.stored.Push.{Push}
-use Rattle.ocpi_types.specs.declared.stored.Reply.{Reply}
-use Rattle.ocpi_types.specs.declared.stored.Reservation.{Reservation}
-use Rattle.ocpi_types.specs.declared.words.CommandResultType.{CommandResultType}
-use Rattle.site_book.specs.Sites.{IsEvse, IsSiteOf}
+use Rattle.ocpi_types.specs.{Cdr, Change, CommandResultType, Drop, OpenCommand, Push, Put, Reply, Reservation, Row}
+use Rattle.ocpi_types.specs.{RowKey, Session, SiteLine, Token}
+use Rattle.ocpi_types.specs.row
+use Rattle.ocpi_types.specs.keys
+use Rattle.ocpi_types.specs.counter
+use Rattle.site_book.specs.{IsEvse, IsSiteOf}
 use Rattle.authorization_book.specs.Waits.{Waits}
 use Rattle.command_book.specs.Stored as commands
 use Rattle.outbox.specs.Outbox as outbox
 use Rattle.outbox.specs.Resend.{Resend}
-use Rattle.outbox.specs.declared.push_book.Outgoing.{Outgoing}
+use Rattle.outbox.specs.{Outgoing}
 use Rattle.outbox.proofs.Timing.{put_keeps, put_or, stood, has_none}
 use Rattle.outbox.proofs.Held.{none_held, put_push_held, end_push_held}
-use Rattle.node_steps.specs.Drafts.{Step}
-use Rattle.node_steps.specs.Peers.{HasPeer}
+use Rattle.node_steps.specs.{HasPeer, Step}
 use Rattle.operator_rows.specs.State.{State, Rows, OneClaimEach, as_outbox, opening}
 use Rattle.operator_rows.specs.Stored.{put_row, drop_row, changed, changed_all}
 use Rattle.operator_rows.specs.Sound.{IsSound, MayBeOpen, MayPut, MayPutRequest, MayDrop, MayChange, MayChangeAll, MayPutPush, MayPutReservation, MayPutPending, MayPutResult, MayPutToken, MayPutSession, MayPutCdr, MayPutNumber, with_rows}

@@ -1,27 +1,21 @@
 -- Only pushes that stand have resend times, and that stays so.
-use Rattle.std.proofs.Common.{◌≡◌, ◌≢◌, ◌⊎◌, inl, inr, ℕ, List, [], ◌∷◌, map, sym, ap, subst, ◌∙◌}
-use Rattle.std.specs.Prelude.{Option, Some, None, Ok, IsTrue, Contains, is_some}
+use Rattle.std.proofs.Common.{◌≡◌, ◌≢◌, ◌⊎◌, inl, inr, ℕ, List, [], ◌∷◌, map, sym, ap, subst, ◌∙◌, Option, Some, None}
+use Rattle.std.proofs.Common.{Ok, IsTrue, Contains, is_some}
 use Rattle.std.specs.Ordering.{nat_cmp}
 use Rattle.std.specs.Cmp.{nat_cmp_total}
 use Rattle.std.specs.FinMap.{nat_cmp-IsAntisymmetric, get, contains_key, empty, get-empty}
 use Rattle.tables.proofs.Elements.{in_none, in_front}
 use Rattle.tables.proofs.Options.{none_some, not_both}
-use Rattle.authorization_book.specs.Waits.{OneEach}
-use Rattle.authorization_book.specs.declared.awaited.Awaited.{Awaited}
-use Rattle.authorization_book.specs.declared.waiting.Waiting.{Waiting}
-use Rattle.ocpi_text.specs.Party.{party_at}
+use Rattle.authorization_book.specs.{Awaited, OneEach, Waiting}
+use Rattle.ocpi_text.specs.{party_at}
 use Rattle.authorization_book.proofs.Changes.{one_each_stays, waits_change}
-use Rattle.ocpi_types.specs.declared.rows.Change.{Change}
-use Rattle.ocpi_types.specs.declared.rows.Row.TheVariants as row
-use Rattle.ocpi_types.specs.declared.rows.RowKey.TheVariants as keys
-use Rattle.ocpi_types.specs.declared.site.SiteLine.{SiteLine}
-use Rattle.outbox.specs.Outbox.{AreResent, request_of, without}
-use Rattle.outbox.specs.Resend.{Resend, due_again}
-use Rattle.outbox.specs.declared.push_book.Outgoing.{Outgoing}
+use Rattle.ocpi_types.specs.{Change, SiteLine}
+use Rattle.ocpi_types.specs.row
+use Rattle.ocpi_types.specs.keys
+use Rattle.outbox.specs.{AreResent, Outgoing, due_again, request_of, without}
+use Rattle.outbox.specs.Resend.{Resend}
 use Rattle.outbox.proofs.Timing.{put_or, stood, has_some, has_none}
-use Rattle.node_steps.specs.Drafts.{Step}
-use Rattle.node_steps.specs.declared.plan.Volatile.{Volatile}
-use Rattle.node_steps.specs.declared.plan.Volatile.TheVariants.{Sent}
+use Rattle.node_steps.specs.{Sent, Step, Volatile}
 use Rattle.operator_rows.specs.State.{State, as_outbox, opening}
 use Rattle.operator_rows.specs.Stored.{change_key, changed_all}
 use Rattle.operator_rows.specs.Sound.{IsConsistent, IsSound}

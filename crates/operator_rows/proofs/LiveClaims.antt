@@ -1,15 +1,13 @@
 -- The kept claims stay those of the rows where a session is put in place of the one of its id.
-use Rattle.std.proofs.Common.{◌≡◌, ◌≢◌, ◌↔◌, ℕ, List, ◌⊎◌, inl, inr, refl, sym, ap, subst, ◌∙◌}
-use Rattle.std.specs.Prelude.{Option, Some, None, IfSome, IfNone}
+use Rattle.std.proofs.Common.{◌≡◌, ◌≢◌, ◌↔◌, ℕ, List, ◌⊎◌, inl, inr, refl, sym, ap, subst, ◌∙◌, Option, Some, None}
+use Rattle.std.proofs.Common.{IfSome, IfNone}
 use Rattle.std.specs.FinMap.{get, insert, remove}
-use Rattle.ocpi_text.specs.Text.{key}
-use Rattle.tables.specs.Keys.{text_total, text_exact}
+use Rattle.ocpi_text.specs.{key}
+use Rattle.tables.specs.{text_exact, text_total}
 use Rattle.tables.proofs.Maps.{get-insert_same, get-insert_other, get-remove_other, of_remove, told}
-use Rattle.ocpi_types.specs.declared.rows.Row.TheVariants as row
-use Rattle.ocpi_types.specs.declared.sessions.Session.{Session}
-use Rattle.site_book.specs.declared.claim.Claim.{Claim}
-use Rattle.site_book.specs.declared.claim.Claim.TheVariants.{OpenStart, Live, Reserved}
-use Rattle.site_book.specs.Sites.{Claims, IsEvse}
+use Rattle.ocpi_types.specs.row
+use Rattle.ocpi_types.specs.{Session}
+use Rattle.site_book.specs.{Claim, Claims, IsEvse, Live, OpenStart, Reserved}
 use Rattle.operator_rows.specs.State.{State, Rows, IsLive, Occupies, HasClaim, OneClaimEach}
 use Rattle.operator_rows.specs.Stored.{put_row}
 use Rattle.operator_rows.specs.Claimed.{IsIndexed, HoldsLive, released, claimed}

@@ -1,25 +1,19 @@
 -- Changes of different rows lead from the rows before them to those after them.
-use Rattle.std.proofs.Common.{suc, ◌≡◌, ◌≢◌, ◌↔◌, ℕ, List, [], ◌∷◌, map, ◌⊎◌, inl, inr, refl, sym, ap, subst, ◌∙◌}
-use Rattle.std.specs.Prelude.{Some, Contains, ⊤}
+use Rattle.std.proofs.Common.{suc, ◌≡◌, ◌≢◌, ◌↔◌, ℕ, List, [], ◌∷◌, map, ◌⊎◌, inl, inr, refl, sym, ap, subst, ◌∙◌, Some}
+use Rattle.std.proofs.Common.{Contains}
+use Rattle.std.specs.Prelude.{⊤}
 use Rattle.std.specs.declared.cmp.Ordering.{Ordering}
 use Rattle.std.specs.Cmp.{IsTotalOrder, nat_cmp_total}
 use Rattle.std.specs.FinMap.{FinMap, IsAntisymmetric, nat_cmp-IsAntisymmetric, get, insert, remove}
 use Rattle.std.proofs.lemmas.List.Elements.{Contains-append_cases, Contains-append_right}
-use Rattle.tables.specs.Keys.{text_total, text_exact, text_number_total, text_number_exact, text_pair_total, text_pair_exact}
+use Rattle.tables.specs.{text_exact, text_number_exact, text_number_total, text_pair_exact, text_pair_total, text_total}
 use Rattle.tables.proofs.Maps.{get-insert_same, get-insert_other, of_remove, get-remove_other, told}
-use Rattle.ocpi_text.specs.Text.{key}
-use Rattle.ocpi_types.specs.Rows.{key_of}
-use Rattle.ocpi_types.specs.declared.cdrs.Cdr.{Cdr}
-use Rattle.ocpi_types.specs.declared.sessions.Session.{Session}
-use Rattle.token_desk.specs.Tokens.{token_key}
-use Rattle.token_desk.specs.TypeOrder.{tokens_total, tokens_exact}
-use Rattle.ocpi_types.specs.declared.rows.Row.{Row}
-use Rattle.ocpi_types.specs.declared.rows.Row.TheVariants as row
-use Rattle.ocpi_types.specs.declared.rows.RowKey.{RowKey}
-use Rattle.ocpi_types.specs.declared.rows.RowKey.TheVariants as keys
-use Rattle.ocpi_types.specs.declared.rows.Change.{Change}
-use Rattle.ocpi_types.specs.declared.rows.Change.TheVariants.{Put, Drop}
-use Rattle.ocpi_types.specs.declared.rows.Counter.TheVariants as counter
+use Rattle.ocpi_text.specs.{key}
+use Rattle.ocpi_types.specs.{Cdr, Change, Drop, Put, Row, RowKey, Session, key_of}
+use Rattle.token_desk.specs.{token_key, tokens_exact, tokens_total}
+use Rattle.ocpi_types.specs.row
+use Rattle.ocpi_types.specs.keys
+use Rattle.ocpi_types.specs.counter
 use Rattle.tables.proofs.Elements.{in_none, in_single, in_front, of_map}
 use Rattle.operator_rows.specs.State.{Rows, State}
 use Rattle.operator_rows.specs.Stored.{put_row, drop_row, changed, changed_all, change_key, Each, AreApart}

@@ -1,12 +1,10 @@
 -- The room that rows have, as room is taken for others.
-use Rattle.std.proofs.Common.{◌≡◌, ℕ, ◌+◌, ◌<◌, List, inl, inr, sym, ap, subst, ◌∙◌, arith}
-use Rattle.std.specs.Prelude.{Some, IsTrue, slice_get}
+use Rattle.std.proofs.Common.{◌≡◌, ℕ, ◌+◌, ◌<◌, List, inl, inr, sym, ap, subst, ◌∙◌, arith, Some, IsTrue, slice_get}
 use Rattle.std.proofs.lemmas.Bool.{cases_lt}
 use Rattle.std.specs.FinMap.{FinMap, contains_key}
-use Rattle.tables.specs.Keys.{text_pair_cmp}
-use Rattle.ocpi_types.specs.declared.rows.Row.TheVariants as row
-use Rattle.ocpi_types.specs.declared.rows.Change.{Change}
-use Rattle.ocpi_types.specs.declared.rows.Change.TheVariants.{Put, Drop}
+use Rattle.tables.specs.{text_pair_cmp}
+use Rattle.ocpi_types.specs.row
+use Rattle.ocpi_types.specs.{Change, Drop, Put}
 use Rattle.command_book.specs.Room as commands
 use Rattle.reservation_book.specs.Rows as booked
 use Rattle.outbox.specs.Outbox as outbox

@@ -1,29 +1,24 @@
 -- The room for the resend times of requests, as rows change and requests are sent.
-use Rattle.std.proofs.Common.{◌≡◌, ◌≢◌, ◌⊎◌, ◌+◌, ◌<◌, inl, inr, true, false, ℕ, List, [], ◌∷◌, ◌++◌, take, length, get_or, refl, sym, ap, subst, ◌∙◌, add-one}
+use Rattle.std.proofs.Common.{◌≡◌, ◌≢◌, ◌⊎◌, ◌+◌, ◌<◌, inl, inr, true, false, ℕ, List, [], ◌∷◌, ◌++◌, take, length}
+use Rattle.std.proofs.Common.{get_or, refl, sym, ap, subst, ◌∙◌, add-one, Option, Some, None, Result, Ok, Err, OnOk}
+use Rattle.std.proofs.Common.{IsOk, IsTrue, Contains}
 use Rattle.std.proofs.Math.Seq.{take-suc}
-use Rattle.std.specs.Prelude.{Option, Some, None, Result, Ok, Err, OnOk, IsOk, IsTrue, Contains}
 use Rattle.std.specs.Cmp.{nat_cmp_total}
 use Rattle.std.specs.FinMap.{nat_cmp-IsAntisymmetric, get, remove, contains_key}
 use Rattle.std.proofs.lemmas.List.Elements.{All-contains, Contains-append_right, Contains-push_cases}
 use Rattle.tables.proofs.Elements.{in_none, in_single, in_front, in_map, first_pairs, later_pairs}
 use Rattle.tables.proofs.Maps.{get-remove_same, get-remove_other, told, others_keep}
-use Rattle.ocpi_types.specs.Rows.{key_of}
-use Rattle.ocpi_types.specs.declared.rows.Row.{Row}
-use Rattle.ocpi_types.specs.declared.rows.Row.TheVariants as row
-use Rattle.ocpi_types.specs.declared.rows.RowKey.{RowKey}
-use Rattle.ocpi_types.specs.declared.rows.RowKey.TheVariants as keys
-use Rattle.ocpi_types.specs.declared.rows.Change.{Change}
-use Rattle.ocpi_types.specs.declared.rows.Change.TheVariants.{Put, Drop}
+use Rattle.ocpi_types.specs.{Change, Drop, Put, Row, RowKey, key_of}
+use Rattle.ocpi_types.specs.row
+use Rattle.ocpi_types.specs.keys
 use Rattle.authorization_book.specs.Waits as waits
-use Rattle.authorization_book.specs.Waits.{HaveRoomForAll}
-use Rattle.outbox.specs.Outbox.{HeldOutbox, request_of, without, released_of, given_back_of}
+use Rattle.authorization_book.specs.{HaveRoomForAll}
+use Rattle.outbox.specs.{HasRoomUntil, HeldOutbox, KeepsSendRoom, Moments, Outgoing, SendRooms, due_again, given_back}
+use Rattle.outbox.specs.{given_back_of, released, released_of, request_of, unqueued, without}
 use Rattle.outbox.specs.Pushes.{Pushes}
-use Rattle.outbox.specs.Resend.{Resend, Moments, SendRooms, HasRoomUntil, KeepsSendRoom, due_again, unqueued, released, given_back}
-use Rattle.outbox.specs.declared.push_book.Outgoing.{Outgoing}
+use Rattle.outbox.specs.Resend.{Resend}
 use Rattle.outbox.proofs.Timing.{queue_total, queue_exact, put_keeps, has_some}
-use Rattle.node_steps.specs.Drafts.{Step}
-use Rattle.node_steps.specs.declared.plan.Volatile.{Volatile}
-use Rattle.node_steps.specs.declared.plan.Volatile.TheVariants.{Sent}
+use Rattle.node_steps.specs.{Sent, Step, Volatile}
 use Rattle.operator_rows.specs.State.{State}
 use Rattle.operator_rows.specs.Stored.{AreApart, Each, HasRoom, changed_all, change_key}
 use Rattle.operator_rows.specs.Sound.{IsSound, MayPut, MayDrop}

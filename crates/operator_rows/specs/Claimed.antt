@@ -1,11 +1,9 @@
 -- The claims that are kept beside the rows.
 use Rattle.std.specs.Prelude.{◌≡◌, ◌↔◌, ℕ, List, Option, Some, None}
 use Rattle.std.specs.FinMap.{get, insert, remove}
-use Rattle.ocpi_types.specs.declared.rows.RowKey.{RowKey}
-use Rattle.ocpi_types.specs.declared.rows.RowKey.TheVariants as keys
-use Rattle.site_book.specs.declared.claim.Claim.{Claim}
-use Rattle.site_book.specs.declared.claim.Claim.TheVariants.{OpenStart, Live, Reserved}
-use Rattle.site_book.specs.Sites.{Claims}
+use Rattle.ocpi_types.specs.{RowKey}
+use Rattle.ocpi_types.specs.keys
+use Rattle.site_book.specs.{Claim, Claims, Live, OpenStart, Reserved}
 use Rattle.operator_rows.specs.State.{Rows, HasClaim}
 
 -- the kept claims are those of the rows. So no EVSE has two

@@ -1,5 +1,5 @@
 -- What a plan of an operator says.
-use Rattle.node_steps.specs.Drafts.{step_of}
+use Rattle.node_steps.specs.{step_of}
 use Rattle.operator_rows.specs.declared.full_plan.FullPlan.{FullPlan}
 use Rattle.operator_rows.specs.Steps.{FullStep}
 

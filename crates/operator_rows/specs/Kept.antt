@@ -1,16 +1,16 @@
 -- What a value of `Books` keeps together.
 use Rattle.std.specs.Prelude.{◌≡◌, ◌≤◌, ℕ, Some, IsTrue}
 use Rattle.std.specs.FinMap.{get, empty, contains_key}
-use Rattle.ocpi_types.specs.Parties.{SiteParties}
-use Rattle.site_book.specs.Sites.{Claims, SiteState}
+use Rattle.ocpi_types.specs.{SiteParties}
+use Rattle.site_book.specs.{Claims, SiteState}
 use Rattle.command_book.specs.Stored as commands
 use Rattle.reservation_book.specs.Rows as booked
 use Rattle.session_book.specs.Stored as charged
 use Rattle.token_desk.specs.Tokens.{Tokens}
 use Rattle.authorization_book.specs.Waits.{Waits}
-use Rattle.authorization_book.specs.declared.awaited.Awaited.{Awaited}
+use Rattle.authorization_book.specs.{Awaited}
 use Rattle.outbox.specs.Commands.{Commands}
-use Rattle.outbox.specs.Outbox.{HeldOutbox}
+use Rattle.outbox.specs.{HeldOutbox}
 use Rattle.operator_rows.specs.State.{State, Spent}
 use Rattle.operator_rows.specs.Claimed.{IsIndexed}
 use Rattle.operator_rows.specs.Sound.{IsSound, MayAwait}

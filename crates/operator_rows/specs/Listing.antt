@@ -1,9 +1,8 @@
 -- The rows of an operator that are of none of its books, as lists.
 use Rattle.std.specs.Prelude.{ℕ, nat_eq, cond, List, [], ◌∷◌, ◌++◌, map}
 use Rattle.std.specs.FinMap.{entries}
-use Rattle.ocpi_types.specs.declared.rows.Row.{Row}
-use Rattle.ocpi_types.specs.declared.rows.Row.TheVariants as row
-use Rattle.ocpi_types.specs.declared.rows.Counter.TheVariants.{Serial}
+use Rattle.ocpi_types.specs.{Row, Serial}
+use Rattle.ocpi_types.specs.row
 use Rattle.operator_rows.specs.State.{Rows}
 
 -- the counter of packets, where it has given a number

@@ -1,9 +1,8 @@
 -- The laws of an operator's rows.
 use Rattle.std.specs.Prelude.{◌≡◌, List, Ok}
-use Rattle.ocpi_text.specs.Party.{party_at}
-use Rattle.ocpi_types.specs.declared.rows.Change.{Change}
-use Rattle.ocpi_types.specs.declared.site.SiteLine.{SiteLine}
-use Rattle.node_steps.specs.Drafts.{Step}
+use Rattle.ocpi_text.specs.{party_at}
+use Rattle.ocpi_types.specs.{Change, SiteLine}
+use Rattle.node_steps.specs.{Step}
 use Rattle.operator_rows.specs.State.{State, opening}
 use Rattle.operator_rows.specs.Stored.{AreApart, changed_all}
 use Rattle.operator_rows.specs.Rows.{AreChanges}

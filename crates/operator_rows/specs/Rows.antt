@@ -2,15 +2,11 @@
 use Rattle.std.specs.Prelude.{◌≡◌, ◌≢◌, ◌↔◌, ◌⊎◌, ℕ, List, map, Some, Contains}
 use Rattle.std.specs.List.{AllPairs}
 use Rattle.std.specs.FinMap.{get}
-use Rattle.ocpi_text.specs.Text.{key}
-use Rattle.ocpi_types.specs.Rows.{key_of}
-use Rattle.ocpi_types.specs.declared.rows.Row.{Row}
-use Rattle.ocpi_types.specs.declared.rows.Row.TheVariants as row
-use Rattle.ocpi_types.specs.declared.rows.Change.{Change}
-use Rattle.ocpi_types.specs.declared.rows.Change.TheVariants.{Put}
-use Rattle.ocpi_types.specs.declared.rows.Counter.{Counter}
-use Rattle.ocpi_types.specs.declared.rows.Counter.TheVariants.{Serial, Request, Session, Cdr, Reference}
-use Rattle.token_desk.specs.Tokens.{token_key}
+use Rattle.ocpi_text.specs.{key}
+use Rattle.ocpi_types.specs.{Change, Counter, Put, Reference, Request, Row, Serial, key_of}
+use Rattle.ocpi_types.specs.row
+use Rattle.ocpi_types.specs.declared.rows.Counter.TheVariants.{Session, Cdr}
+use Rattle.token_desk.specs.{token_key}
 use Rattle.operator_rows.specs.State.{Rows}
 use Rattle.operator_rows.specs.Stored.{change_key}
 

@@ -2,44 +2,25 @@
 -- made of them; and which changes of rows keep it.
 use Rattle.std.specs.Prelude.{◌≡◌, ◌≢◌, ◌≤◌, ℕ, List, [], ◌∷◌, Some, None, Ok, IsTrue, ⊤}
 use Rattle.std.specs.FinMap.{get, contains_key}
-use Rattle.ocpi_text.specs.Party.{party_at}
-use Rattle.ocpi_text.specs.Text.{key}
-use Rattle.ocpi_text.specs.Whole.{max_whole}
-use Rattle.ocpi_types.specs.declared.rows.Row.{Row}
-use Rattle.ocpi_types.specs.declared.rows.Row.TheVariants as row
-use Rattle.ocpi_types.specs.declared.rows.RowKey.{RowKey}
-use Rattle.ocpi_types.specs.declared.rows.RowKey.TheVariants as keys
-use Rattle.ocpi_types.specs.declared.rows.Change.{Change}
-use Rattle.ocpi_types.specs.declared.rows.Change.TheVariants.{Put, Drop}
-use Rattle.ocpi_types.specs.declared.rows.Counter.{Counter}
-use Rattle.ocpi_types.specs.declared.rows.Counter.TheVariants as counter
-use Rattle.ocpi_types.specs.declared.site.Site.{Site}
-use Rattle.ocpi_types.specs.declared.cdrs.Cdr.{Cdr}
-use Rattle.ocpi_types.specs.declared.sessions.Session.{Session}
-use Rattle.ocpi_types.specs.declared.token.Token.{Token}
-use Rattle.ocpi_types.specs.declared.commands.Command.{Command}
-use Rattle.ocpi_types.specs.declared.commands.Command.TheVariants as command
-use Rattle.ocpi_types.specs.declared.stored.OpenCommand.{OpenCommand}
-use Rattle.ocpi_types.specs.declared.stored.Push.{Push}
-use Rattle.ocpi_types.specs.declared.stored.Reservation.{Reservation}
-use Rattle.ocpi_types.specs.declared.words.CommandResultType.{CommandResultType}
-use Rattle.site_book.specs.declared.claim.Claim.{Claim}
-use Rattle.site_book.specs.declared.claim.Claim.TheVariants.{OpenStart, Live, Reserved}
-use Rattle.site_book.specs.Sites.{IsEvse, IsConnectorOf, IsSiteOf}
+use Rattle.ocpi_text.specs.{key, max_whole, own_id_text, party_at}
+use Rattle.ocpi_types.specs.{Cdr, Change, Command, CommandResultType, Counter, Drop, OpenCommand, Push, Put}
+use Rattle.ocpi_types.specs.{Reservation, Row, RowKey, Session, Site, Token}
+use Rattle.ocpi_types.specs.row
+use Rattle.ocpi_types.specs.keys
+use Rattle.ocpi_types.specs.counter
+use Rattle.ocpi_types.specs.command
+use Rattle.site_book.specs.{Claim, IsConnectorOf, IsEvse, IsSiteOf, Live, OpenStart, Reserved}
 use Rattle.command_book.specs.Stored as commands
-use Rattle.ocpi_text.specs.OwnIds.{own_id_text}
-use Rattle.ocpi_text.specs.declared.own_ids.OwnIdKind.TheVariants as kind
-use Rattle.session_state.specs.Versions.{HasCost}
+use Rattle.ocpi_text.specs.own as kind
+use Rattle.session_state.specs.{HasCost}
 use Rattle.session_book.specs.Stored as charged
 use Rattle.session_book.specs.Numbers.{AreNumbered}
-use Rattle.token_desk.specs.Tokens.{TokenKey}
+use Rattle.token_desk.specs.{TokenKey}
 use Rattle.token_desk.specs.Tokens as desk
-use Rattle.authorization_book.specs.Waits.{OneEach}
-use Rattle.authorization_book.specs.declared.awaited.Awaited.{Awaited}
+use Rattle.authorization_book.specs.{Awaited, OneEach}
 use Rattle.outbox.specs.Outbox as outbox
-use Rattle.outbox.specs.Pushes.{subject}
-use Rattle.outbox.specs.declared.push_book.Outgoing.{Outgoing}
-use Rattle.node_steps.specs.Peers.{HasPeer}
+use Rattle.outbox.specs.{Outgoing, subject}
+use Rattle.node_steps.specs.{HasPeer}
 use Rattle.operator_rows.specs.State.{State, Rows, HasClaim, IsLive, IsStart, OneClaimEach, Takes, as_outbox}
 use Rattle.operator_rows.specs.Stored.{changed}
 

@@ -1,26 +1,18 @@
 -- What an operator stores, and the claims that follow from it. Keys are in the form by which texts are compared.
 use Rattle.std.specs.Prelude.{◌≡◌, ℕ, List, Option, Some, None, ⊤}
 use Rattle.std.specs.FinMap.{FinMap, get, empty}
-use Rattle.ocpi_text.specs.Text.{key}
-use Rattle.tables.specs.Keys.{text_pair_cmp}
-use Rattle.ocpi_types.specs.declared.site.Site.{Site}
-use Rattle.ocpi_types.specs.declared.site.SiteLine.{SiteLine}
-use Rattle.ocpi_types.specs.declared.commands.Command.{Command}
-use Rattle.ocpi_types.specs.declared.commands.Command.TheVariants as command
-use Rattle.ocpi_types.specs.declared.stored.OpenCommand.{OpenCommand}
-use Rattle.ocpi_types.specs.declared.stored.Reservation.{Reservation}
-use Rattle.ocpi_types.specs.declared.sessions.Session.{Session}
-use Rattle.ocpi_types.specs.declared.words.SessionStatus.{SessionStatus}
-use Rattle.ocpi_types.specs.declared.words.SessionStatus.TheVariants as status
-use Rattle.site_book.specs.declared.claim.Claim.{Claim}
-use Rattle.site_book.specs.declared.claim.Claim.TheVariants.{OpenStart, Live, Reserved}
-use Rattle.site_book.specs.Sites.{OutOfService}
+use Rattle.ocpi_text.specs.{key}
+use Rattle.tables.specs.{text_pair_cmp}
+use Rattle.ocpi_types.specs.{Command, OpenCommand, Reservation, Session, SessionStatus, Site, SiteLine}
+use Rattle.ocpi_types.specs.command
+use Rattle.ocpi_types.specs.status
+use Rattle.site_book.specs.{Claim, Live, OpenStart, OutOfService, Reserved}
 use Rattle.command_book.specs.Stored as commands
 use Rattle.reservation_book.specs.Rows as booked
 use Rattle.session_book.specs.Stored as charged
 use Rattle.token_desk.specs.Tokens.{Tokens}
 use Rattle.authorization_book.specs.Waits.{Waits}
-use Rattle.outbox.specs.Outbox.{OutboxRows}
+use Rattle.outbox.specs.{OutboxRows}
 use Rattle.outbox.specs.Pushes.{Pushes}
 use Rattle.outbox.specs.Resend.{Resend}
 

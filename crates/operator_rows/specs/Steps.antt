@@ -2,25 +2,18 @@
 use Rattle.std.specs.Prelude.{◌≡◌, ◌≢◌, ◌≤◌, ◌⊎◌, ℕ, ℤ, List, Option, Some, None, Contains, IsTrue}
 use Rattle.std.specs.List.{AllPairs}
 use Rattle.std.specs.FinMap.{get, empty, contains_key}
-use Rattle.ocpi_types.specs.declared.rows.Change.{Change}
-use Rattle.ocpi_types.specs.declared.rows.Change.TheVariants.{Put, Drop}
-use Rattle.ocpi_types.specs.declared.rows.Row.TheVariants as row
-use Rattle.ocpi_types.specs.declared.rows.RowKey.TheVariants as keys
-use Rattle.ocpi_text.specs.Text.{key}
-use Rattle.ocpi_types.specs.declared.cdrs.Cdr.{Cdr}
-use Rattle.ocpi_types.specs.declared.sessions.Session.{Session}
-use Rattle.ocpi_types.specs.declared.words.SessionStatus.TheVariants.{Pending}
+use Rattle.ocpi_types.specs.{Cdr, Change, Drop, Pending, Put, Session}
+use Rattle.ocpi_types.specs.row
+use Rattle.ocpi_types.specs.keys
+use Rattle.ocpi_text.specs.{key}
 use Rattle.session_state.specs.Pasts as pasts
-use Rattle.session_state.specs.Versions.{HasCost}
+use Rattle.session_state.specs.{HasCost}
 use Rattle.authorization_book.specs.Waits as waits
-use Rattle.authorization_book.specs.Waits.{HaveRoomForAll, MayWait, waited_all}
-use Rattle.authorization_book.specs.declared.awaited.Awaited.{Awaited}
-use Rattle.authorization_book.specs.declared.waiting.Waiting.{Waiting}
-use Rattle.authorization_book.specs.declared.waiting.Waiting.TheVariants.{Begins}
+use Rattle.authorization_book.specs.{Awaited, Begins, HaveRoomForAll, MayWait, Waiting, waited_all}
 use Rattle.outbox.specs.Pushes.{Pushes}
-use Rattle.outbox.specs.Resend.{Resend, SendRooms, HasRoomUntil}
-use Rattle.node_steps.specs.Drafts.{Step}
-use Rattle.node_steps.specs.declared.plan.Volatile.{Volatile}
+use Rattle.outbox.specs.{HasRoomUntil, SendRooms}
+use Rattle.outbox.specs.Resend.{Resend}
+use Rattle.node_steps.specs.{Step, Volatile}
 pub use Rattle.node_steps.specs.Timing.{HasTimeRoom, HaveTimeRoom, number_of, time_taken, timed, timed_all, untimed, untimed_all}
 use Rattle.operator_rows.specs.State.{State}
 use Rattle.operator_rows.specs.Stored.{AreApart, Each, HasRoom, Rooms, changed, changed_all, change_key}

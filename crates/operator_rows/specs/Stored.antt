@@ -1,23 +1,19 @@
 -- What changes of rows make of what an operator stores, and the room that they need.
 use Rattle.std.specs.Prelude.{◌≢◌, ℕ, List, [], ◌∷◌, IsTrue, ⊤}
 use Rattle.std.specs.FinMap.{FinMap, insert, remove, contains_key}
-use Rattle.tables.specs.Keys.{text_pair_cmp}
-use Rattle.ocpi_types.specs.declared.rows.Row.{Row}
-use Rattle.ocpi_types.specs.declared.rows.Row.TheVariants as row
-use Rattle.ocpi_types.specs.declared.rows.RowKey.{RowKey}
-use Rattle.ocpi_types.specs.declared.rows.RowKey.TheVariants as keys
-use Rattle.ocpi_types.specs.declared.rows.Change.{Change}
-use Rattle.ocpi_types.specs.declared.rows.Change.TheVariants.{Put, Drop}
-use Rattle.ocpi_types.specs.declared.rows.Counter.{Counter}
-use Rattle.ocpi_types.specs.declared.rows.Counter.TheVariants as counter
+use Rattle.tables.specs.{text_pair_cmp}
+use Rattle.ocpi_types.specs.{Change, Counter, Drop, Put, Row, RowKey}
+use Rattle.ocpi_types.specs.row
+use Rattle.ocpi_types.specs.keys
+use Rattle.ocpi_types.specs.counter
 use Rattle.command_book.specs.Stored as commands
 use Rattle.command_book.specs.Room as command_room
 use Rattle.reservation_book.specs.Rows as booked
 use Rattle.session_book.specs.Stored as charged
 use Rattle.token_desk.specs.Stored as desk
-use Rattle.token_desk.specs.Tokens.{token_key}
+use Rattle.token_desk.specs.{token_key}
 use Rattle.outbox.specs.Outbox as outbox
-use Rattle.outbox.specs.Outbox.{OutboxRooms}
+use Rattle.outbox.specs.{OutboxRooms}
 pub use Rattle.node_steps.specs.Changes.{AreApart, Each, change_key}
 use Rattle.operator_rows.specs.State.{Rows}
 

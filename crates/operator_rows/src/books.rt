@@ -2,7 +2,7 @@
 
 ghost use Rattle.std.specs.Prelude.{◌≡◌, ◌≤◌, IsTrue, IfOk, option_copied};
 ghost use Rattle.std.specs.FinMap as map;
-ghost use Rattle.ocpi_text.specs.Whole.{max_whole};
+ghost use Rattle.ocpi_text.specs.{max_whole};
 ghost use Rattle.operator_rows.specs.Claimed.{IsIndexed};
 ghost use Rattle.operator_rows.specs.Sound.{IsConsistent};
 ghost use Rattle.operator_rows.specs.State.{IsSpent, as_outbox, opening};
@@ -45,8 +45,7 @@ pub struct Books {
 impl Model for Books {
     ghost use Rattle.std.specs.FinMap as map;
     ghost use Rattle.std.specs.Coded.{codes};
-    ghost use Rattle.tables.specs.Keys.{text_pair_cmp};
-    ghost use Rattle.tables.specs.Tables.{shown_of, rooms_of};
+    ghost use Rattle.tables.specs.{rooms_of, shown_of, text_pair_cmp};
     ghost use Rattle.operator_rows.specs.Kept.{AreKept, state_of};
     ghost use Rattle.operator_rows.specs.Steps.{Node};
 

@@ -1,9 +1,9 @@
 //! The claims on the site's EVSEs, which follow from open starts, sessions and reservations.
 
 ghost use Rattle.std.specs.Prelude.{◌≡◌, List, ℕ, IfSome, IfNone};
-ghost use Rattle.ocpi_text.specs.Text.{key};
-ghost use Rattle.ocpi_types.specs.declared.rows.RowKey.TheVariants as keys;
-ghost use Rattle.site_book.specs.Sites.{IsEvse};
+ghost use Rattle.ocpi_text.specs.{key};
+ghost use Rattle.ocpi_types.specs.keys;
+ghost use Rattle.site_book.specs.{IsEvse};
 ghost use Rattle.operator_rows.specs.Claimed.{Holds, HoldsLive, claimed, released};
 ghost use Rattle.operator_rows.specs.State.{IsLive, Occupies, Takes};
 

@@ -1,9 +1,9 @@
 //! The memory that a step needs, taken before it is carried out.
 
 ghost use Rattle.std.specs.Prelude.{◌≡◌, OnOk, IsOk};
-ghost use Rattle.node_steps.specs.Drafts.{step_of};
-ghost use Rattle.outbox.specs.Resend.{KeepsSendRoom};
-ghost use Rattle.authorization_book.specs.Waits.{HaveRoomForAll};
+ghost use Rattle.node_steps.specs.{step_of};
+ghost use Rattle.outbox.specs.{KeepsSendRoom};
+ghost use Rattle.authorization_book.specs.{HaveRoomForAll};
 ghost use Rattle.operator_rows.specs.FullSteps.{full_step_of};
 ghost use Rattle.operator_rows.specs.Steps.{HasFullRoomFor, HasRoomFor, HasTimeRoom, HaveTimeRoom};
 ghost use Rattle.operator_rows.specs.Stored.{Each, HasRoom, HasRoomOf, KeepsRoom};

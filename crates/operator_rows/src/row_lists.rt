@@ -2,8 +2,7 @@
 
 ghost use Rattle.std.specs.Prelude.{◌≡◌, ◌++◌, map as list_map, IfOk, OnOk};
 ghost use Rattle.std.specs.FinMap as map;
-ghost use Rattle.tables.specs.Keys.{text_pair_cmp};
-ghost use Rattle.tables.specs.Tables.{shown_of};
+ghost use Rattle.tables.specs.{shown_of, text_pair_cmp};
 ghost use Rattle.operator_rows.specs.Listing.{other_rows, serial_rows, service_row, spent_row};
 ghost use Rattle.operator_rows.specs.Rows.{AreRowsOf};
 

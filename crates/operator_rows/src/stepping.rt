@@ -2,8 +2,8 @@
 
 ghost use Rattle.std.specs.Prelude.{◌≡◌, ◌∷◌, [], IsTrue};
 ghost use Rattle.std.specs.FinMap as map;
-ghost use Rattle.authorization_book.specs.Waits.{HaveRoomForAll, MayWait, waited_all};
-ghost use Rattle.node_steps.specs.Drafts.{step_of};
+ghost use Rattle.authorization_book.specs.{HaveRoomForAll, MayWait, waited_all};
+ghost use Rattle.node_steps.specs.{step_of};
 ghost use Rattle.operator_rows.specs.FullSteps.{full_step_of};
 ghost use Rattle.operator_rows.specs.Kept.{AreAsked};
 ghost use Rattle.operator_rows.specs.Sound.{MayChange, MayChangeAll};

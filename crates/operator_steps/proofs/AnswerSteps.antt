@@ -1,32 +1,24 @@
 -- A provider answers whether a token may be used: what the answer asks for may be done.
-use Rattle.std.proofs.Common.{◌≡◌, ◌≢◌, ◌≤◌, ◌+◌, ℕ, List, [], ◌∷◌, ◌++◌, inl, inr, refl, sym, ap, subst, arith}
-use Rattle.std.specs.Prelude.{Option, Some, None, Contains, IsTrue, is_some}
+use Rattle.std.proofs.Common.{◌≡◌, ◌≢◌, ◌≤◌, ◌+◌, ℕ, List, [], ◌∷◌, ◌++◌, inl, inr, refl, sym, ap, subst, arith, Option}
+use Rattle.std.proofs.Common.{Some, None, Contains, IsTrue, is_some}
 use Rattle.std.specs.FinMap.{contains_key, get, remove, nat_cmp-IsAntisymmetric}
 use Rattle.std.specs.Cmp.{nat_cmp_total}
 use Rattle.tables.proofs.Elements.{in_none, in_front, in_single}
 use Rattle.tables.proofs.Maps.{of_remove}
 use Rattle.tables.proofs.Options.{known, none_contained}
-use Rattle.ocpi_text.specs.Text.{key}
-use Rattle.ocpi_text.specs.Whole.{max_whole}
-use Rattle.ocpi_types.specs.declared.authorizations.Authorization.{Authorization}
-use Rattle.ocpi_types.specs.declared.packet.Packet.{Packet}
-use Rattle.ocpi_types.specs.declared.rows.Change.TheVariants.{Put}
-use Rattle.ocpi_types.specs.declared.rows.Counter.TheVariants as counter
-use Rattle.ocpi_types.specs.declared.rows.Row.TheVariants as row
-use Rattle.ocpi_types.specs.declared.sessions.Session.{Session}
-use Rattle.ocpi_types.specs.declared.stored.Push.TheVariants as push
-use Rattle.authorization_book.specs.declared.awaited.Awaited.{Awaited}
-use Rattle.authorization_book.specs.declared.waiting.Waiting.TheVariants.{Begins, Ends}
-use Rattle.outbox.specs.Pushes.{IsAbout, IsReplaced, subject}
-use Rattle.node_steps.specs.Peers.{IsPeer}
+use Rattle.ocpi_text.specs.{key, max_whole}
+use Rattle.ocpi_types.specs.{Authorization, Packet, Put, Session}
+use Rattle.ocpi_types.specs.counter
+use Rattle.ocpi_types.specs.row
+use Rattle.ocpi_types.specs.push
+use Rattle.authorization_book.specs.{Awaited, Begins, Ends}
+use Rattle.outbox.specs.{IsAbout, IsReplaced, subject}
+use Rattle.node_steps.specs.{Act, IsPeer, all_changes, all_requests, all_volatile}
 use Rattle.session_book.specs.Numbers.{AreNumbered}
 use Rattle.session_book.specs.Stored.{counted}
-use Rattle.node_steps.specs.Acts.{Act, all_changes, all_requests, all_volatile}
 use Rattle.operator_rows.specs.State.{State, Rows}
-use Rattle.operator_rows.specs.Steps.{IsNext}
-use Rattle.operator_rows.specs.Sound.{IsConsistent, MayPutNumber, with_rows}
-use Rattle.session_tables.specs.Answers.{BeginsByAnswer, Decided}
-use Rattle.session_tables.specs.declared.beginning.Beginning.{Beginning}
+use Rattle.operator_rows.specs.{IsConsistent, IsNext, MayPutNumber, with_rows}
+use Rattle.session_tables.specs.{Beginning, BeginsByAnswer, Decided}
 use Rattle.operator_steps.specs.Acts.{spent}
 use Rattle.operator_steps.specs.Asking.{AnswerActs, IsAnswered}
 use Rattle.operator_steps.specs.Moves.{AreInRange, Work}

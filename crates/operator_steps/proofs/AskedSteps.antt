@@ -1,29 +1,23 @@
 -- A token is shown whose provider is asked: what that asks for may be done.
-use Rattle.std.proofs.Common.{◌≡◌, ◌+◌, ℕ, List, [], ◌∷◌, inl, inr, refl, sym, ap, subst, ◌∙◌, arith}
-use Rattle.std.specs.Prelude.{Option, None, is_some}
+use Rattle.std.proofs.Common.{◌≡◌, ◌+◌, ℕ, List, [], ◌∷◌, inl, inr, refl, sym, ap, subst, ◌∙◌, arith, Option, None}
+use Rattle.std.proofs.Common.{is_some}
 use Rattle.std.specs.FinMap.{get, insert, nat_cmp-IsAntisymmetric}
 use Rattle.std.specs.Cmp.{nat_cmp_total}
 use Rattle.tables.proofs.Elements.{in_single}
 use Rattle.tables.proofs.Maps.{of_insert}
 use Rattle.tables.proofs.Options.{known, none_contained}
-use Rattle.ocpi_text.specs.Text.{key}
-use Rattle.ocpi_types.specs.declared.packet.Body.{Body}
-use Rattle.ocpi_types.specs.declared.packet.Body.TheVariants as body
-use Rattle.ocpi_types.specs.declared.rows.Place.{Place}
-use Rattle.ocpi_types.specs.declared.token.Token.{Token}
-use Rattle.ocpi_types.specs.declared.words.TokenType.{TokenType}
-use Rattle.site_book.specs.Sites.{IsConnectorOf}
-use Rattle.authorization_book.specs.Waits.{IsAwaitedAt}
-use Rattle.authorization_book.specs.declared.awaited.Awaited.{Awaited}
-use Rattle.authorization_book.specs.declared.waiting.Waiting.TheVariants.{Begins}
-use Rattle.token_desk.specs.declared.answers.Swipe.{Swipe}
-use Rattle.token_desk.specs.declared.answers.Swipe.TheVariants as told
-use Rattle.node_steps.specs.Acts.{asked}
+use Rattle.ocpi_text.specs.{key}
+use Rattle.ocpi_types.specs.{Body, Place, Token, TokenType}
+use Rattle.ocpi_types.specs.body
+use Rattle.site_book.specs.{IsConnectorOf}
+use Rattle.authorization_book.specs.{Awaited, Begins, IsAwaitedAt}
+use Rattle.token_desk.specs.{Swipe}
+use Rattle.token_desk.specs.told
+use Rattle.node_steps.specs.{asked}
 use Rattle.operator_rows.specs.State.{State}
-use Rattle.operator_rows.specs.Sound.{IsConsistent, MayAwait}
-use Rattle.session_tables.specs.declared.shown.Shown.TheVariants as shown
-use Rattle.session_tables.specs.Places.{place_of}
-use Rattle.session_tables.specs.Swipes.{SwipeLine, Unplaced, Closed, Open, IsOpenTo, Free, Held, id_of, told_by}
+use Rattle.operator_rows.specs.{IsConsistent, MayAwait}
+use Rattle.session_tables.specs.shown
+use Rattle.session_tables.specs.{Closed, Free, Held, IsOpenTo, Open, SwipeLine, Unplaced, id_of, place_of, told_by}
 use Rattle.operator_steps.specs.Asking.{IsAsked, answer_deadline, question}
 use Rattle.operator_steps.specs.Moves.{Work}
 use Rattle.operator_steps.proofs.BegunSteps.{connector_of}

@@ -1,33 +1,26 @@
 -- A version of a session is pushed and stored: the rows allow it, and it may come next.
-use Rattle.std.proofs.Common.{◌≡◌, ◌≤◌, ◌<◌, ◌+◌, ℕ, Bool, true, false, nat_eq, List, inl, inr, refl, sym, ap, subst, arith}
-use Rattle.std.specs.Prelude.{Option, Some, None, Ok, is_some}
+use Rattle.std.proofs.Common.{◌≡◌, ◌≤◌, ◌<◌, ◌+◌, ℕ, Bool, true, false, nat_eq, List, inl, inr, refl, sym, ap, subst}
+use Rattle.std.proofs.Common.{arith, Option, Some, None, Ok, is_some}
 use Rattle.std.proofs.lemmas.Bool.{eqb-true, eqb-false}
 use Rattle.std.specs.Cmp.{nat_cmp_total}
 use Rattle.std.specs.Ordering.{nat_cmp}
 use Rattle.std.specs.FinMap.{get, get-empty, nat_cmp-IsAntisymmetric}
 use Rattle.tables.proofs.Maps.{of_remove}
 use Rattle.tables.proofs.Options.{known, none_some}
-use Rattle.ocpi_text.specs.Party.{party_at}
-use Rattle.ocpi_text.specs.OwnIds.{own_id_text}
-use Rattle.ocpi_text.specs.Text.{key}
-use Rattle.ocpi_text.specs.Whole.{max_whole}
-use Rattle.ocpi_text.specs.declared.own_ids.OwnIdKind.{OwnIdKind}
-use Rattle.ocpi_text.specs.declared.own_ids.OwnIdKind.TheVariants as kind
-use Rattle.ocpi_types.specs.declared.sessions.Session.{Session}
-use Rattle.ocpi_types.specs.declared.stored.Push.TheVariants as push
-use Rattle.site_book.specs.Sites.{IsConnectorOf}
-use Rattle.site_book.specs.declared.claim.Claim.{Claim}
-use Rattle.outbox.specs.Pushes.{IsAbout, IsReplaced, OneEach, Pushes, subject}
-use Rattle.outbox.specs.declared.push_book.Subject.{Subject}
-use Rattle.node_steps.specs.Peers.{HasPeer}
-use Rattle.operator_rows.specs.State.{State, Rows, HasClaim}
-use Rattle.operator_rows.specs.Steps.{IsNext, IsNextOf}
+use Rattle.ocpi_text.specs.{OwnIdKind, key, max_whole, own_id_text, party_at}
+use Rattle.ocpi_text.specs.own as kind
+use Rattle.ocpi_types.specs.{Session}
+use Rattle.ocpi_types.specs.push
+use Rattle.site_book.specs.{Claim, IsConnectorOf}
+use Rattle.outbox.specs.{IsAbout, IsReplaced, OneEach, Subject, subject}
+use Rattle.outbox.specs.Pushes.{Pushes}
+use Rattle.node_steps.specs.{HasPeer}
+use Rattle.operator_rows.specs.{HasClaim, IsNext, IsNextOf, MayPutSession, with_rows}
+use Rattle.operator_rows.specs.State.{State, Rows}
 use Rattle.session_book.specs.Numbers.{AreNumbered}
 use Rattle.session_book.proofs.OwnIds.{ids_differ}
 use Rattle.session_state.proofs.PastLemmas.{first_cost}
-use Rattle.session_tables.specs.declared.beginning.Beginning.{Beginning}
-use Rattle.session_tables.specs.Beginnings.{opening_of}
-use Rattle.operator_rows.specs.Sound.{MayPutSession, with_rows}
+use Rattle.session_tables.specs.{Beginning, opening_of}
 use Rattle.operator_steps.specs.Sessions.{first_of, versioned}
 use Rattle.operator_steps.proofs.DecidedSteps.{claim_of_same}
 use Rattle.operator_steps.proofs.Fitting.{AreFit}

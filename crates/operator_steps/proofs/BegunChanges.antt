@@ -1,39 +1,28 @@
 -- What the acts of sessions that begin at a moment change and send.
-use Rattle.std.proofs.Common.{◌≡◌, ◌≤◌, ◌<◌, ◌+◌, ◌++◌, ◌⊎◌, ℕ, List, [], ◌∷◌, inl, inr, refl, sym, ap, subst, ◌∙◌, arith}
-use Rattle.std.specs.Prelude.{Option, Some, None, Contains}
+use Rattle.std.proofs.Common.{◌≡◌, ◌≤◌, ◌<◌, ◌+◌, ◌++◌, ◌⊎◌, ℕ, List, [], ◌∷◌, inl, inr, refl, sym, ap, subst, ◌∙◌}
+use Rattle.std.proofs.Common.{arith, Option, Some, None, Contains}
 use Rattle.std.specs.Cmp.{nat_cmp_total}
 use Rattle.std.specs.FinMap.{get, insert, nat_cmp-IsAntisymmetric}
 use Rattle.std.proofs.lemmas.List.Elements.{Contains-append_cases}
 use Rattle.tables.proofs.Elements.{in_none, in_front, in_single}
 use Rattle.tables.proofs.Maps.{get-insert_other, get-remove_same, of_remove}
 use Rattle.tables.proofs.Options.{known, none_some, not_both}
-use Rattle.ocpi_text.specs.OwnIds.{own_id_text}
-use Rattle.ocpi_text.specs.Text.{key}
-use Rattle.ocpi_text.specs.declared.own_ids.OwnIdKind.TheVariants as kind
-use Rattle.ocpi_types.specs.declared.rows.Change.{Change}
-use Rattle.ocpi_types.specs.declared.rows.Change.TheVariants.{Put, Drop}
-use Rattle.ocpi_types.specs.declared.rows.Row.TheVariants as row
-use Rattle.ocpi_types.specs.declared.rows.RowKey.TheVariants as keys
-use Rattle.ocpi_types.specs.declared.sessions.Session.{Session}
-use Rattle.ocpi_types.specs.declared.stored.Push.{Push}
-use Rattle.ocpi_types.specs.declared.stored.Push.TheVariants as push
-use Rattle.ocpi_types.specs.declared.stored.Reservation.{Reservation}
-use Rattle.authorization_book.specs.Waits.{evse_of}
-use Rattle.authorization_book.specs.declared.awaited.Awaited.{Awaited}
+use Rattle.ocpi_text.specs.{key, own_id_text}
+use Rattle.ocpi_text.specs.own as kind
+use Rattle.ocpi_types.specs.{Change, Drop, Push, Put, Reservation, Session}
+use Rattle.ocpi_types.specs.row
+use Rattle.ocpi_types.specs.keys
+use Rattle.ocpi_types.specs.push
+use Rattle.authorization_book.specs.{Awaited, evse_of}
 use Rattle.outbox.specs.Outbox as outbox
 use Rattle.outbox.specs.Pushes as pushes
-use Rattle.outbox.specs.Pushes.{IsAbout, IsReplaced}
-use Rattle.outbox.specs.declared.push_book.Subject.{Subject}
-use Rattle.node_steps.specs.declared.plan.Volatile.{Volatile}
-use Rattle.node_steps.specs.declared.plan.Volatile.TheVariants.{Sent}
-use Rattle.node_steps.specs.Acts.{Act, all_changes, all_requests, all_volatile}
+use Rattle.outbox.specs.{IsAbout, IsReplaced, Subject}
+use Rattle.node_steps.specs.{Act, Sent, Volatile, all_changes, all_requests, all_volatile}
 use Rattle.node_steps.proofs.Gathering.{changes_append, requests_append, volatile_append}
-use Rattle.session_tables.specs.declared.beginning.Beginning.{Beginning}
-use Rattle.session_tables.specs.Places.{EndsBy, FreeAt, HeldAt, MayTakeAt}
-use Rattle.site_book.specs.declared.claim.Claim.TheVariants.{Reserved}
+use Rattle.session_tables.specs.{Beginning, EndsBy, FreeAt, HeldAt, MayTakeAt}
+use Rattle.site_book.specs.{Reserved}
 use Rattle.operator_rows.specs.State.{State, Rows}
-use Rattle.operator_rows.specs.Stored.{changed_all, change_key}
-use Rattle.operator_rows.specs.Steps.{number_of}
+use Rattle.operator_rows.specs.{change_key, changed_all, number_of}
 use Rattle.operator_steps.specs.Acts.{used}
 use Rattle.operator_steps.specs.Sessions.{IsBegun, first_of, versioned}
 use Rattle.operator_steps.specs.TickFacts.{AreLeftUnanswered, IsLeftUnanswered, None_left, Nothing_begins, Begins_session}

@@ -1,37 +1,21 @@
 -- A session begins: its acts fit, and what they send and put may be.
-use Rattle.std.proofs.Common.{◌≡◌, ◌≤◌, ◌+◌, ℕ, List, [], ◌∷◌, ◌++◌, refl, sym, ap, subst, ◌∙◌, arith}
-use Rattle.std.specs.Prelude.{Option, Some, None, Ok, is_some}
+use Rattle.std.proofs.Common.{◌≡◌, ◌≤◌, ◌+◌, ℕ, List, [], ◌∷◌, ◌++◌, refl, sym, ap, subst, ◌∙◌, arith, Option, Some}
+use Rattle.std.proofs.Common.{None, Ok, is_some}
 use Rattle.std.specs.FinMap.{get}
 use Rattle.tables.proofs.Options.{none_some}
-use Rattle.ocpi_text.specs.Party.{party_at}
-use Rattle.ocpi_text.specs.Text.{key}
-use Rattle.ocpi_text.specs.Whole.{max_whole}
-use Rattle.ocpi_types.specs.declared.rows.Change.{Change}
-use Rattle.ocpi_types.specs.declared.rows.Change.TheVariants.{Put, Drop}
-use Rattle.ocpi_types.specs.declared.rows.Row.TheVariants as row
-use Rattle.ocpi_types.specs.declared.rows.RowKey.TheVariants as keys
-use Rattle.ocpi_types.specs.declared.sessions.Session.{Session}
-use Rattle.ocpi_types.specs.declared.site.Connector.{Connector}
-use Rattle.ocpi_types.specs.declared.site.Evse.{Evse}
-use Rattle.ocpi_types.specs.declared.site.Location.{Location}
-use Rattle.ocpi_types.specs.declared.token.Token.{Token}
-use Rattle.ocpi_types.specs.declared.words.AuthMethod.{AuthMethod}
-use Rattle.authorization_book.specs.declared.awaited.Awaited.{Awaited}
-use Rattle.node_steps.specs.declared.plan.Volatile.TheVariants.{Sent}
-use Rattle.session_tables.specs.Answers.{BeginsThere}
-use Rattle.session_tables.specs.Places.{Free, Held, IsConnectorAt, MayTake}
-use Rattle.ocpi_types.specs.declared.stored.Push.TheVariants as push
-use Rattle.site_book.specs.Sites.{IsConnectorOf}
-use Rattle.site_book.specs.declared.claim.Claim.{Claim}
-use Rattle.site_book.specs.declared.claim.Claim.TheVariants.{Reserved}
-use Rattle.outbox.specs.Pushes.{IsAbout, IsReplaced, OneEach, subject}
-use Rattle.outbox.specs.declared.push_book.Subject.{Subject}
-use Rattle.node_steps.specs.Acts.{Act, all_changes, all_requests}
-use Rattle.node_steps.specs.Peers.{IsPeer}
-use Rattle.operator_rows.specs.State.{State, Rows, HasClaim}
-use Rattle.operator_rows.specs.Sound.{IsSound, with_rows}
-use Rattle.operator_rows.specs.Steps.{IsNext}
-use Rattle.session_tables.specs.declared.beginning.Beginning.{Beginning}
+use Rattle.ocpi_text.specs.{key, max_whole, party_at}
+use Rattle.ocpi_types.specs.{AuthMethod, Change, Connector, Drop, Evse, Location, Put, Session, Token}
+use Rattle.ocpi_types.specs.row
+use Rattle.ocpi_types.specs.keys
+use Rattle.authorization_book.specs.{Awaited}
+use Rattle.node_steps.specs.{Act, IsPeer, Sent, all_changes, all_requests}
+use Rattle.session_tables.specs.{Beginning, BeginsThere, IsConnectorAt, MayTake}
+use Rattle.session_tables.specs.Places.{Free, Held}
+use Rattle.ocpi_types.specs.push
+use Rattle.site_book.specs.{Claim, IsConnectorOf, Reserved}
+use Rattle.outbox.specs.{IsAbout, IsReplaced, OneEach, Subject, subject}
+use Rattle.operator_rows.specs.{HasClaim, IsNext, IsSound, with_rows}
+use Rattle.operator_rows.specs.State.{State, Rows}
 use Rattle.operator_steps.specs.Acts.{freed, used}
 use Rattle.operator_steps.specs.Sessions.{IsBegun, first_of, versioned}
 use Rattle.operator_steps.proofs.Beginning.{first_may, replaced_only, version_fits}

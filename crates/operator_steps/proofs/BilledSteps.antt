@@ -1,36 +1,25 @@
 -- A session goes on or ends: its new version is pushed and stored, and, where it is complete, its charge detail record.
 use Rattle.std.proofs.Common.{◌≡◌, ◌<◌, ◌≤◌, ◌+◌, ℕ, List, [], ◌∷◌, ◌++◌, inl, inr, refl, sym, ap, subst, ◌∙◌, arith}
-use Rattle.std.specs.Prelude.{Option, Some, None, Contains, is_some}
+use Rattle.std.proofs.Common.{Option, Some, None, Contains, is_some}
 use Rattle.std.specs.FinMap.{get, get-empty, insert}
 use Rattle.std.specs.Ordering.{nat_cmp}
-use Rattle.tables.specs.Keys.{text_total, text_exact}
+use Rattle.tables.specs.{text_exact, text_total}
 use Rattle.tables.proofs.Maps.{of_insert}
 use Rattle.tables.proofs.Options.{known, none_contained, none_some}
-use Rattle.ocpi_text.specs.Moment.{last_moment}
-use Rattle.ocpi_text.specs.Text.{key}
-use Rattle.ocpi_text.specs.Whole.{max_whole}
-use Rattle.ocpi_text.specs.declared.own_ids.OwnIdKind.TheVariants as kind
-use Rattle.ocpi_types.specs.declared.cdrs.Cdr.{Cdr}
-use Rattle.ocpi_types.specs.declared.events.ChargerEvent.{ChargerEvent}
-use Rattle.ocpi_types.specs.declared.rows.Change.TheVariants.{Put, Drop}
-use Rattle.ocpi_types.specs.declared.rows.Counter.TheVariants as counter
-use Rattle.ocpi_types.specs.declared.rows.Row.TheVariants as row
-use Rattle.ocpi_types.specs.declared.rows.RowKey.TheVariants as keys
-use Rattle.ocpi_types.specs.declared.sessions.Session.{Session}
-use Rattle.ocpi_types.specs.declared.site.Connector.{Connector}
-use Rattle.ocpi_types.specs.declared.site.Evse.{Evse}
-use Rattle.ocpi_types.specs.declared.site.Location.{Location}
-use Rattle.ocpi_types.specs.declared.stored.Push.TheVariants as push
-use Rattle.outbox.specs.Pushes.{IsReplaced, subject}
-use Rattle.node_steps.specs.declared.plan.Volatile.TheVariants.{Sent}
-use Rattle.node_steps.specs.Acts.{Act, all_changes, all_requests, changed, pushed}
-use Rattle.node_steps.specs.Peers.{IsPeer}
+use Rattle.ocpi_text.specs.{key, last_moment, max_whole}
+use Rattle.ocpi_text.specs.own as kind
+use Rattle.ocpi_types.specs.{Cdr, ChargerEvent, Connector, Drop, Evse, Location, Put, Session}
+use Rattle.ocpi_types.specs.counter
+use Rattle.ocpi_types.specs.row
+use Rattle.ocpi_types.specs.keys
+use Rattle.ocpi_types.specs.push
+use Rattle.outbox.specs.{IsReplaced, subject}
+use Rattle.node_steps.specs.{Act, IsPeer, Sent, all_changes, all_requests, changed, pushed}
 use Rattle.session_book.specs.Numbers.{AreNumbered, id_key}
 use Rattle.session_book.specs.Stored as charged
 use Rattle.session_tables.specs.Moves.{Moves}
 use Rattle.operator_rows.specs.State.{State, Rows}
-use Rattle.operator_rows.specs.Sound.{IsConsistent, MayPutSession, with_rows}
-use Rattle.operator_rows.specs.Steps.{IsNext}
+use Rattle.operator_rows.specs.{IsConsistent, IsNext, MayPutSession, with_rows}
 use Rattle.operator_steps.specs.Moves.{AreInRange}
 use Rattle.operator_steps.specs.Sessions.{IsBilled, Billed, Unbilled, IsMoved, next_cdr, numbered_cdrs, versioned}
 use Rattle.operator_steps.proofs.Beginning.{replaced_only, same_number, version_fits}

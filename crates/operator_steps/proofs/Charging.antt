@@ -1,19 +1,15 @@
 -- The versions of sessions and the charge detail records that changes put may come next.
 use Rattle.std.proofs.Common.{◌≡◌, ◌≢◌, ℕ, false, true, eqb, List, [], ◌∷◌, ◌++◌, inl, inr, refl, sym, ap, subst, ◌∙◌}
-use Rattle.std.specs.Prelude.{IsTrue, Contains, None, not}
+use Rattle.std.proofs.Common.{IsTrue, Contains, None, not}
 use Rattle.std.specs.FinMap.{get}
 use Rattle.std.proofs.lemmas.Bool.{eq-eqb, and_parts}
 use Rattle.std.proofs.lemmas.List.Elements.{Contains-append_cases}
 use Rattle.tables.proofs.Elements.{in_none, in_single}
-use Rattle.ocpi_text.specs.Text.{key}
-use Rattle.ocpi_types.specs.declared.cdrs.Cdr.{Cdr}
-use Rattle.ocpi_types.specs.declared.rows.Change.{Change}
-use Rattle.ocpi_types.specs.declared.rows.Change.TheVariants.{Put}
-use Rattle.ocpi_types.specs.declared.rows.Row.TheVariants as row
-use Rattle.ocpi_types.specs.declared.sessions.Session.{Session}
+use Rattle.ocpi_text.specs.{key}
+use Rattle.ocpi_types.specs.{Cdr, Change, Put, Session}
+use Rattle.ocpi_types.specs.row
 use Rattle.operator_rows.specs.State.{State}
-use Rattle.operator_rows.specs.Steps.{IsNext}
-use Rattle.operator_rows.specs.Stored.{change_key}
+use Rattle.operator_rows.specs.{IsNext, change_key}
 use Rattle.operator_steps.proofs.Orderly.{is_without, kind, of_cons}
 
 -- each version that is put may come next, and each charge detail record is new

@@ -1,16 +1,13 @@
 -- The counters after a step of acts are those that its acts come to.
 use Rattle.std.proofs.Common.{◌≡◌, ◌≢◌, List, [], ◌∷◌, refl, ap, ◌∙◌}
 use Rattle.tables.proofs.Elements.{in_front}
-use Rattle.ocpi_types.specs.declared.rows.Change.{Change}
-use Rattle.ocpi_types.specs.declared.rows.Change.TheVariants.{Put, Drop}
-use Rattle.ocpi_types.specs.declared.rows.Counter.{Counter}
-use Rattle.ocpi_types.specs.declared.rows.Counter.TheVariants as counter
-use Rattle.ocpi_types.specs.declared.rows.Row.TheVariants as row
-use Rattle.ocpi_types.specs.declared.rows.RowKey.TheVariants as keys
-use Rattle.node_steps.specs.Acts.{Act, all_changes}
-use Rattle.node_steps.specs.Drafts.{Counters, counted}
+use Rattle.ocpi_types.specs.{Change, Counter, Drop, Put}
+use Rattle.ocpi_types.specs.counter
+use Rattle.ocpi_types.specs.row
+use Rattle.ocpi_types.specs.keys
+use Rattle.node_steps.specs.{Act, Counters, all_changes, counted}
 use Rattle.operator_rows.specs.State.{State, Rows}
-use Rattle.operator_rows.specs.Stored.{changed, changed_all, change_key}
+use Rattle.operator_rows.specs.{change_key, changed, changed_all}
 use Rattle.operator_steps.specs.Moves.{counters_of, step_of_acts}
 use Rattle.operator_steps.proofs.Orderly.{AreOrderly, AreUncounted, IsOfStep, in_later}
 use Rattle.operator_steps.proofs.Fitting.{numbered_for, rows_after}

@@ -3,17 +3,15 @@ use Rattle.std.proofs.Common.{◌≡◌, ◌+◌, ℕ, List, [], ◌∷◌, refl
 use Rattle.std.specs.FinMap.{get-empty}
 use Rattle.std.specs.Ordering.{nat_cmp}
 use Rattle.tables.proofs.Options.{none_some}
-use Rattle.ocpi_text.specs.Text.{key}
-use Rattle.ocpi_text.specs.declared.own_ids.OwnIdKind.TheVariants as kind
-use Rattle.ocpi_types.specs.declared.cdrs.Cdr.{Cdr}
-use Rattle.ocpi_types.specs.declared.rows.Change.TheVariants.{Put}
-use Rattle.ocpi_types.specs.declared.rows.Row.TheVariants as row
-use Rattle.ocpi_types.specs.declared.stored.Push.TheVariants as push
-use Rattle.node_steps.specs.declared.plan.Volatile.TheVariants.{Sent}
-use Rattle.node_steps.specs.Acts.{Act, changed, pushed}
+use Rattle.ocpi_text.specs.{key}
+use Rattle.ocpi_text.specs.own as kind
+use Rattle.ocpi_types.specs.{Cdr, Put}
+use Rattle.ocpi_types.specs.row
+use Rattle.ocpi_types.specs.push
+use Rattle.node_steps.specs.{Act, Sent, changed, pushed}
 use Rattle.stored_rows.proofs.CreditIds.{no_credit_id}
 use Rattle.operator_rows.specs.State.{State}
-use Rattle.operator_rows.specs.Sound.{IsConsistent}
+use Rattle.operator_rows.specs.{IsConsistent}
 use Rattle.operator_steps.specs.Credits.{CreditLine, Credited, NothingToCredit, CreditsTo, next_credit}
 use Rattle.operator_steps.specs.Facts.{CreditsMayFollow}
 use Rattle.operator_steps.proofs.Charging.{next_append, next_bill, next_kinds}

@@ -1,30 +1,22 @@
 -- A command is decided: the acts may be carried out.
-use Rattle.std.proofs.Common.{◌≡◌, ◌≤◌, ◌+◌, ℕ, List, [], ◌∷◌, ◌++◌, inl, inr, refl, sym, ap, subst, ◌∙◌, arith}
-use Rattle.std.specs.Prelude.{Option, Some, None, IsTrue, is_some}
+use Rattle.std.proofs.Common.{◌≡◌, ◌≤◌, ◌+◌, ℕ, List, [], ◌∷◌, ◌++◌, inl, inr, refl, sym, ap, subst, ◌∙◌, arith, Option}
+use Rattle.std.proofs.Common.{Some, None, IsTrue, is_some}
 use Rattle.std.specs.FinMap.{get, insert, remove, contains_key}
-use Rattle.tables.specs.Keys.{text_number_total, text_number_exact, text_pair_total, text_pair_exact}
+use Rattle.tables.specs.{text_number_exact, text_number_total, text_pair_exact, text_pair_total}
 use Rattle.tables.proofs.Options.{known, none_contained}
 use Rattle.tables.proofs.Maps.{get-insert_same, of_remove}
-use Rattle.ocpi_text.specs.Text.{key}
-use Rattle.ocpi_types.specs.declared.rows.Place.{Place}
-use Rattle.ocpi_types.specs.declared.commands.Command.{Command}
-use Rattle.ocpi_types.specs.declared.commands.Command.TheVariants as command
-use Rattle.ocpi_types.specs.declared.stored.OpenCommand.{OpenCommand}
-use Rattle.ocpi_types.specs.declared.stored.Reply.{Reply}
-use Rattle.ocpi_types.specs.declared.stored.Reservation.{Reservation}
-use Rattle.ocpi_types.specs.declared.words.CommandResultType.{CommandResultType}
+use Rattle.ocpi_text.specs.{key}
+use Rattle.ocpi_types.specs.{Command, CommandResultType, OpenCommand, Place, Reply, Reservation}
+use Rattle.ocpi_types.specs.command
 use Rattle.ocpi_types.specs.declared.words.CommandResultType.TheVariants.{Accepted}
-use Rattle.site_book.specs.Sites.{IsSiteOf}
-use Rattle.site_book.specs.declared.claim.Claim.{Claim}
-use Rattle.site_book.specs.declared.claim.Claim.TheVariants.{OpenStart, Live, Reserved}
+use Rattle.site_book.specs.{Claim, IsSiteOf, Live, OpenStart, Reserved}
 use Rattle.command_book.specs.Stored as book
-use Rattle.node_steps.specs.Acts.{Act, all_changes, answered}
-use Rattle.node_steps.specs.Peers.{HasPeer, IsPeer}
-use Rattle.operator_rows.specs.State.{State, Rows, HasClaim, IsStart, Takes}
-use Rattle.operator_rows.specs.Sound.{HasPlace, IsConsistent, IsOwnStart, IsSound, MayBeOpen, MayClaim, MayPutReservation}
-use Rattle.operator_tables.specs.declared.decision.Decision.{Decision}
-use Rattle.operator_tables.specs.declared.decision.Decision.TheVariants as decision
-use Rattle.operator_tables.specs.Outcomes.{HoldsFor, Opens, Reserves, Starts, Tells}
+use Rattle.node_steps.specs.{Act, HasPeer, IsPeer, all_changes, answered}
+use Rattle.operator_rows.specs.{HasClaim, HasPlace, IsConsistent, IsOwnStart, IsSound, IsStart, MayBeOpen, MayClaim}
+use Rattle.operator_rows.specs.{MayPutReservation, Takes}
+use Rattle.operator_rows.specs.State.{State, Rows}
+use Rattle.operator_tables.specs.{Decision, HoldsFor, Opens, Reserves, Starts, Tells}
+use Rattle.operator_tables.specs.decision
 use Rattle.operator_steps.specs.Acts.{deadline, decided_acts, freed, marked, opened, own_acts, reference_of, reply_of, settled, spent, url_of, used}
 use Rattle.operator_steps.proofs.Orderly.{AreOrderly, orderly_kinds}
 use Rattle.operator_steps.proofs.Fitting.{AreFit, fit_none, left_by_act, numbered_for}

@@ -1,15 +1,14 @@
 -- Commands that end one after the other: which rows they change, and how many numbers they take.
-use Rattle.std.proofs.Common.{◌≡◌, ◌≢◌, ◌<◌, ◌≤◌, ◌+◌, ℕ, suc, List, [], ◌∷◌, length, ◌⊎◌, inl, inr, refl, sym, ap, subst, arith}
-use Rattle.std.specs.Prelude.{Contains}
+use Rattle.std.proofs.Common.{◌≡◌, ◌≢◌, ◌<◌, ◌≤◌, ◌+◌, ℕ, suc, List, [], ◌∷◌, length, ◌⊎◌, inl, inr, refl, sym, ap}
+use Rattle.std.proofs.Common.{subst, arith, Contains}
 use Rattle.std.specs.List.{AllPairs}
 use Rattle.std.proofs.lemmas.List.Elements.{Contains-append_cases, All-contains}
 use Rattle.tables.proofs.Elements.{in_none, in_front, in_single, first_pairs, later_pairs}
-use Rattle.ocpi_types.specs.declared.rows.Change.{Change}
-use Rattle.ocpi_types.specs.declared.rows.RowKey.{RowKey}
-use Rattle.ocpi_types.specs.declared.rows.RowKey.TheVariants as keys
+use Rattle.ocpi_types.specs.{Change, RowKey}
+use Rattle.ocpi_types.specs.keys
 use Rattle.command_book.specs.Stored as book
-use Rattle.node_steps.specs.Acts.{all_changes, all_messages, all_requests}
-use Rattle.operator_rows.specs.Stored.{change_key}
+use Rattle.node_steps.specs.{all_changes, all_messages, all_requests}
+use Rattle.operator_rows.specs.{change_key}
 use Rattle.operator_steps.specs.declared.ending.Ending.{Ending}
 use Rattle.operator_steps.specs.Ends.{end_acts, ends_acts}
 use Rattle.operator_steps.specs.Tick.{request_of}

@@ -1,6 +1,6 @@
 -- Reservations that end one after the other, of which nobody is told.
-use Rattle.std.proofs.Common.{◌≡◌, ◌≢◌, ℕ, List, [], ◌∷◌, length, inl, inr, refl, sym, ap, subst, ◌∙◌, arith}
-use Rattle.std.specs.Prelude.{Some, Contains, map}
+use Rattle.std.proofs.Common.{◌≡◌, ◌≢◌, ℕ, List, [], ◌∷◌, length, inl, inr, refl, sym, ap, subst, ◌∙◌, arith, Some}
+use Rattle.std.proofs.Common.{Contains, map}
 use Rattle.std.specs.FinMap.{get}
 use Rattle.std.specs.List.{AllPairs}
 use Rattle.std.specs.List.Sorted.{IsStrictlySortedBy}
@@ -8,17 +8,13 @@ use Rattle.std.proofs.lemmas.List.Elements.{All-contains}
 use Rattle.std.proofs.lemmas.List.Kept.{AllPairs-cons}
 use Rattle.tables.proofs.Elements.{in_none, in_front, in_map, all_of, no_pairs, first_pairs, later_pairs, first_below, sorted_back}
 use Rattle.tables.proofs.Entries.{apart_of_less}
-use Rattle.ocpi_types.specs.declared.rows.Change.{Change}
-use Rattle.ocpi_types.specs.declared.rows.RowKey.TheVariants as keys
-use Rattle.reservation_book.specs.Places.{Key, expiry_cmp}
-use Rattle.reservation_book.specs.Rows.{Reservations}
-use Rattle.reservation_book.specs.Tokens.{Stands}
-use Rattle.reservation_book.specs.Calls.{AreExpired, expiry_at}
-use Rattle.reservation_book.specs.declared.standing.Standing.{Standing}
+use Rattle.ocpi_types.specs.{Change}
+use Rattle.ocpi_types.specs.keys
+use Rattle.reservation_book.specs.{AreExpired, Key, Reservations, Standing, Stands, expiry_at, expiry_cmp}
 use Rattle.reservation_book.proofs.Orders.{expiry_total}
-use Rattle.node_steps.specs.Acts.{all_changes, all_messages, all_volatile, all_requests}
+use Rattle.node_steps.specs.{all_changes, all_messages, all_requests, all_volatile}
 use Rattle.operator_rows.specs.State.{State}
-use Rattle.operator_rows.specs.Stored.{change_key}
+use Rattle.operator_rows.specs.{change_key}
 use Rattle.operator_steps.specs.Acts.{freed}
 use Rattle.operator_steps.specs.Ends.{expired_acts}
 use Rattle.operator_steps.proofs.Orderly.{AreOrderly, AreOther, of_cons, in_later, orderly_append, orderly_kinds, orderly_none}

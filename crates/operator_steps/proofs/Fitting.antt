@@ -1,19 +1,16 @@
 -- Acts one after the other, each of which the rows that those before it left allow.
-use Rattle.std.proofs.Common.{◌≡◌, ◌≢◌, ◌≤◌, ℕ, true, false, cond, nat_eq, List, [], ◌∷◌, ◌++◌, refl, sym, ap, subst, ◌∙◌, arith}
+use Rattle.std.proofs.Common.{◌≡◌, ◌≢◌, ◌≤◌, ℕ, true, false, cond, nat_eq, List, [], ◌∷◌, ◌++◌, refl, sym, ap, subst}
+use Rattle.std.proofs.Common.{◌∙◌, arith, IsTrue}
 use Rattle.std.proofs.lemmas.Bool.{eqb-true, eqb-false}
-use Rattle.std.specs.Prelude.{⊤, IsTrue}
+use Rattle.std.specs.Prelude.{⊤}
 use Rattle.std.specs.FinMap.{get, empty, contains_key, get-empty}
 use Rattle.std.specs.Ordering.{nat_cmp}
 use Rattle.tables.proofs.Options.{none_contained}
-use Rattle.ocpi_types.specs.declared.rows.Change.{Change}
-use Rattle.ocpi_types.specs.declared.rows.Change.TheVariants.{Put}
-use Rattle.ocpi_types.specs.declared.rows.Row.TheVariants as row
-use Rattle.ocpi_types.specs.declared.rows.Counter.TheVariants.{Serial, Request}
-use Rattle.node_steps.specs.Acts.{Act, all_changes}
-use Rattle.node_steps.specs.Drafts.{Counters, count_change, count_changes, counted}
+use Rattle.ocpi_types.specs.{Change, Put, Request, Serial}
+use Rattle.ocpi_types.specs.row
+use Rattle.node_steps.specs.{Act, Counters, all_changes, count_change, count_changes, counted}
 use Rattle.operator_rows.specs.State.{State, Rows}
-use Rattle.operator_rows.specs.Stored.{changed_all}
-use Rattle.operator_rows.specs.Sound.{IsSound, MayChangeAll, with_rows}
+use Rattle.operator_rows.specs.{IsSound, MayChangeAll, changed_all, with_rows}
 use Rattle.operator_steps.specs.Moves.{counters_of, step_of_acts}
 
 -- the rows allow the changes of the act
@@ -45,10 +42,6 @@ numbered_for acts s = with_counters (counted (counters_of s) acts) s
 pub changed_append : (xs ys : List Change) (s : Rows) → changed_all (xs ++ ys) s ≡ changed_all ys (changed_all xs s)
 changed_append [] ys s = refl
 changed_append (x ∷ xs) ys s = changed_append xs ys _
-
-pub left_append : (acts rest : List Act) (s : State) → left_by (acts ++ rest) s ≡ left_by rest (left_by acts s)
-left_append [] rest s = refl
-left_append (a ∷ acts) rest s = left_append acts rest (left_by_act a s)
 
 -- what acts leave is what their changes make of the rows
 pub left_is : (acts : List Act) (s : State) → left_by acts s ≡ with_rows (changed_all (all_changes acts) s.rows) s

@@ -1,27 +1,21 @@
 -- What of the claims on EVSEs is left once commands have timed out and reservations have expired.
-use Rattle.std.proofs.Common.{◌≡◌, ◌≢◌, ◌<◌, ◌+◌, ◌↔◌, ℕ, List, [], ◌∷◌, map, inl, inr, refl, sym, ap, subst, ◌∙◌, arith}
-use Rattle.std.specs.Prelude.{Option, Some, Contains}
+use Rattle.std.proofs.Common.{◌≡◌, ◌≢◌, ◌<◌, ◌+◌, ◌↔◌, ℕ, List, [], ◌∷◌, map, inl, inr, refl, sym, ap, subst, ◌∙◌}
+use Rattle.std.proofs.Common.{arith, Option, Some, Contains, IsTrue}
 use Rattle.std.specs.FinMap.{get}
 use Rattle.std.proofs.lemmas.Bool.{cases_lt}
-use Rattle.tables.specs.Keys.{text_number_total, text_number_exact, text_pair_total, text_pair_exact}
+use Rattle.tables.specs.{text_number_exact, text_number_total, text_pair_exact, text_pair_total}
 use Rattle.tables.proofs.Elements.{in_none, in_front}
 use Rattle.tables.proofs.Maps.{get-remove_other, of_remove}
-use Rattle.ocpi_types.specs.declared.stored.OpenCommand.{OpenCommand}
-use Rattle.ocpi_types.specs.declared.stored.Reservation.{Reservation}
-use Rattle.ocpi_types.specs.declared.token.Token.{Token}
+use Rattle.ocpi_types.specs.{OpenCommand, Reservation, Token}
 use Rattle.command_book.specs.Stored as book
-use Rattle.reservation_book.specs.Calls.{AreExpired}
-use Rattle.reservation_book.specs.Places.{Key}
+use Rattle.reservation_book.specs.{AreExpired, Key, Standing}
 use Rattle.reservation_book.specs.Rows as booked
-use Rattle.reservation_book.specs.declared.standing.Standing.{Standing}
-use Rattle.site_book.specs.declared.claim.Claim.{Claim}
-use Rattle.site_book.specs.declared.claim.Claim.TheVariants.{OpenStart, Live, Reserved}
-use Rattle.site_book.specs.Sites.{works}
-use Rattle.std.specs.Prelude.{IsTrue}
-use Rattle.session_tables.specs.Places.{EndsBy, Free, FreeAt, Held, HeldAt, MayTake, MayTakeAt}
-use Rattle.node_steps.specs.Acts.{all_changes}
-use Rattle.operator_rows.specs.State.{State, Rows, HasClaim}
-use Rattle.operator_rows.specs.Stored.{changed_all}
+use Rattle.site_book.specs.{Claim, Live, OpenStart, Reserved, works}
+use Rattle.session_tables.specs.{EndsBy, FreeAt, HeldAt, MayTake, MayTakeAt}
+use Rattle.session_tables.specs.Places.{Free, Held}
+use Rattle.node_steps.specs.{all_changes}
+use Rattle.operator_rows.specs.{HasClaim, changed_all}
+use Rattle.operator_rows.specs.State.{State, Rows}
 use Rattle.operator_steps.specs.declared.ending.Ending.{Ending}
 use Rattle.operator_steps.specs.Acts.{freed}
 use Rattle.operator_steps.specs.Ends.{end_acts, ends_acts, expired_acts}

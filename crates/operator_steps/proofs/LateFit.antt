@@ -1,34 +1,25 @@
 -- Sessions that begin where no answer came in time: the rows allow each, once those before it have begun.
-use Rattle.std.proofs.Common.{◌≡◌, ◌≢◌, ◌≤◌, ◌<◌, ◌+◌, ℕ, List, ◌∷◌, inl, inr, refl, sym, ap, subst, ◌∙◌, arith}
-use Rattle.std.specs.Prelude.{Option, Some, None, Contains}
+use Rattle.std.proofs.Common.{◌≡◌, ◌≢◌, ◌≤◌, ◌<◌, ◌+◌, ℕ, List, ◌∷◌, inl, inr, refl, sym, ap, subst, ◌∙◌, arith, Option}
+use Rattle.std.proofs.Common.{Some, None, Contains}
 use Rattle.std.specs.Cmp.{nat_cmp_total}
 use Rattle.std.specs.FinMap.{get, insert, nat_cmp-IsAntisymmetric}
 use Rattle.std.specs.List.{AllPairs}
-use Rattle.tables.specs.Keys.{text_total, text_exact, text_pair_total, text_pair_exact}
+use Rattle.tables.specs.{text_exact, text_pair_exact, text_pair_total, text_total}
 use Rattle.tables.proofs.Elements.{in_front, later_pairs}
 use Rattle.tables.proofs.Maps.{of_insert, of_remove}
-use Rattle.ocpi_text.specs.Text.{key}
-use Rattle.ocpi_text.specs.Whole.{max_whole}
-use Rattle.ocpi_types.specs.declared.sessions.Session.{Session}
-use Rattle.ocpi_types.specs.declared.stored.Push.TheVariants as push
-use Rattle.ocpi_types.specs.declared.stored.Reservation.{Reservation}
-use Rattle.authorization_book.specs.Waits.{evse_of}
-use Rattle.authorization_book.specs.declared.awaited.Awaited.{Awaited}
+use Rattle.ocpi_text.specs.{key, max_whole}
+use Rattle.ocpi_types.specs.{Reservation, Session}
+use Rattle.ocpi_types.specs.push
+use Rattle.authorization_book.specs.{Awaited, evse_of}
 use Rattle.outbox.specs.Outbox as outbox
 use Rattle.outbox.specs.Pushes as pushes
-use Rattle.outbox.specs.Pushes.{IsAbout, IsReplaced, subject, subject_of}
-use Rattle.outbox.specs.declared.push_book.Outgoing.{Outgoing}
-use Rattle.outbox.specs.declared.push_book.Subject.{Subject}
-use Rattle.reservation_book.specs.Places.{Key}
-use Rattle.site_book.specs.Sites.{IsConnectorOf}
-use Rattle.site_book.specs.declared.claim.Claim.{Claim}
-use Rattle.site_book.specs.declared.claim.Claim.TheVariants.{OpenStart, Live, Reserved}
-use Rattle.node_steps.specs.Acts.{Act, all_changes}
-use Rattle.session_tables.specs.declared.beginning.Beginning.{Beginning}
-use Rattle.session_tables.specs.Places.{EndsBy, FreeAt, HeldAt, MayTakeAt}
-use Rattle.operator_rows.specs.State.{State, Rows, HasClaim}
-use Rattle.operator_rows.specs.Sound.{IsConsistent, IsSound, with_rows}
-use Rattle.operator_rows.specs.Stored.{changed_all}
+use Rattle.outbox.specs.{IsAbout, IsReplaced, Outgoing, Subject, subject, subject_of}
+use Rattle.reservation_book.specs.{Key}
+use Rattle.site_book.specs.{Claim, IsConnectorOf, Live, OpenStart, Reserved}
+use Rattle.node_steps.specs.{Act, all_changes}
+use Rattle.session_tables.specs.{Beginning, EndsBy, FreeAt, HeldAt, MayTakeAt}
+use Rattle.operator_rows.specs.{HasClaim, IsConsistent, IsSound, changed_all, with_rows}
+use Rattle.operator_rows.specs.State.{State, Rows}
 use Rattle.operator_steps.specs.Sessions.{IsBegun, first_of}
 use Rattle.operator_steps.specs.TickFacts.{AreLeftUnanswered, IsLeftUnanswered, None_left, Nothing_begins, Begins_session}
 use Rattle.operator_steps.proofs.BegunSteps.{IsUsed, begun_acts, begun_is, connector_of, used_fits}

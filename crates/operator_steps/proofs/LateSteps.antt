@@ -1,31 +1,22 @@
 -- Sessions that begin where no answer came in time: they change different rows, and what they send and put may be.
-use Rattle.std.proofs.Common.{◌≡◌, ◌≢◌, ◌≤◌, ◌<◌, ◌+◌, ℕ, List, [], ◌∷◌, refl, sym, ap, subst, ◌∙◌, arith}
-use Rattle.std.specs.Prelude.{Option, Some, None, Contains, is_some}
+use Rattle.std.proofs.Common.{◌≡◌, ◌≢◌, ◌≤◌, ◌<◌, ◌+◌, ℕ, List, [], ◌∷◌, refl, sym, ap, subst, ◌∙◌, arith, Option, Some}
+use Rattle.std.proofs.Common.{None, Contains, is_some}
 use Rattle.std.specs.FinMap.{get}
 use Rattle.std.specs.List.{AllPairs}
 use Rattle.std.proofs.lemmas.List.Elements.{All-contains}
 use Rattle.tables.proofs.Elements.{in_single, first_pairs, later_pairs}
-use Rattle.ocpi_text.specs.OwnIds.{own_id_text}
-use Rattle.ocpi_text.specs.Text.{key}
-use Rattle.ocpi_text.specs.Whole.{max_whole}
-use Rattle.ocpi_text.specs.declared.own_ids.OwnIdKind.TheVariants as kind
-use Rattle.ocpi_types.specs.declared.rows.Change.{Change}
-use Rattle.ocpi_types.specs.declared.rows.RowKey.TheVariants as keys
-use Rattle.ocpi_types.specs.declared.sessions.Session.{Session}
-use Rattle.ocpi_types.specs.declared.stored.Reservation.{Reservation}
-use Rattle.authorization_book.specs.Waits.{evse_of}
-use Rattle.outbox.specs.Pushes.{IsAbout, IsReplaced, subject_of}
-use Rattle.outbox.specs.declared.push_book.Subject.{Subject}
-use Rattle.node_steps.specs.declared.plan.Volatile.{Volatile}
-use Rattle.node_steps.specs.declared.plan.Volatile.TheVariants.{Sent}
-use Rattle.node_steps.specs.Acts.{Act, all_changes, all_volatile}
+use Rattle.ocpi_text.specs.{key, max_whole, own_id_text}
+use Rattle.ocpi_text.specs.own as kind
+use Rattle.ocpi_types.specs.{Change, Reservation, Session}
+use Rattle.ocpi_types.specs.keys
+use Rattle.authorization_book.specs.{evse_of}
+use Rattle.outbox.specs.{IsAbout, IsReplaced, Subject, subject_of}
+use Rattle.node_steps.specs.{Act, Sent, Volatile, all_changes, all_volatile}
 use Rattle.node_steps.proofs.Gathering.{changes_append}
 use Rattle.session_book.proofs.OwnIds.{ids_differ}
-use Rattle.session_tables.specs.declared.beginning.Beginning.{Beginning}
+use Rattle.session_tables.specs.{Beginning}
 use Rattle.operator_rows.specs.State.{State}
-use Rattle.operator_rows.specs.Sound.{IsConsistent}
-use Rattle.operator_rows.specs.Stored.{change_key}
-use Rattle.operator_rows.specs.Steps.{number_of}
+use Rattle.operator_rows.specs.{IsConsistent, change_key, number_of}
 use Rattle.operator_steps.specs.Sessions.{IsBegun, first_of}
 use Rattle.operator_steps.specs.TickFacts.{AreLeftUnanswered, IsLeftUnanswered, None_left, Nothing_begins, Begins_session}
 use Rattle.operator_steps.proofs.Beginning.{first_next}

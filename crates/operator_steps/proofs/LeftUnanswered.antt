@@ -1,18 +1,15 @@
 -- The authorizations that get no answer, read from the state before a moment or from what the timeouts and expiries
 -- left.
-use Rattle.std.proofs.Common.{◌+◌, ◌↔◌, ℕ, List}
-use Rattle.std.specs.Prelude.{Option, Some, None}
-use Rattle.ocpi_text.specs.Text.{key}
-use Rattle.ocpi_types.specs.declared.site.Site.{Site}
-use Rattle.ocpi_types.specs.declared.stored.Push.TheVariants as push
-use Rattle.authorization_book.specs.declared.awaited.Awaited.{Awaited}
-use Rattle.outbox.specs.Pushes.{IsAbout, IsReplaced, Pushes, subject}
+use Rattle.std.proofs.Common.{◌+◌, ◌↔◌, ℕ, List, Option, Some, None}
+use Rattle.ocpi_text.specs.{key}
+use Rattle.ocpi_types.specs.{Site}
+use Rattle.ocpi_types.specs.push
+use Rattle.authorization_book.specs.{Awaited}
+use Rattle.outbox.specs.{IsAbout, IsReplaced, Subject, subject}
+use Rattle.outbox.specs.Pushes.{Pushes}
 use Rattle.outbox.specs.Resend.{Resend}
-use Rattle.outbox.specs.declared.push_book.Subject.{Subject}
-use Rattle.node_steps.specs.Acts.{Act}
-use Rattle.session_tables.specs.declared.beginning.Beginning.{Beginning}
-use Rattle.session_tables.specs.Answers.{BeginsWithoutAnswer, Decided}
-use Rattle.session_tables.specs.Places.{MayTake, MayTakeAt}
+use Rattle.node_steps.specs.{Act}
+use Rattle.session_tables.specs.{Beginning, BeginsWithoutAnswer, Decided, MayTake, MayTakeAt}
 use Rattle.operator_rows.specs.State.{State, Rows}
 use Rattle.operator_steps.specs.Asking.{AreUnanswered, IsUnanswered}
 use Rattle.operator_steps.specs.Asking as seen

@@ -1,22 +1,17 @@
 -- A session goes on or ends: its new version may be put, and comes next.
-use Rattle.std.proofs.Common.{◌≡◌, ◌≤◌, ◌<◌, ℕ, ℤ, inl, inr, refl, sym, ap, subst, ◌∙◌, arith}
-use Rattle.std.specs.Prelude.{Some, is_some}
+use Rattle.std.proofs.Common.{◌≡◌, ◌≤◌, ◌<◌, ℕ, ℤ, inl, inr, refl, sym, ap, subst, ◌∙◌, arith, Some, is_some}
 use Rattle.std.specs.FinMap.{get}
-use Rattle.ocpi_text.specs.Moment.{last_moment}
-use Rattle.ocpi_text.specs.Text.{key}
-use Rattle.ocpi_types.specs.declared.events.ChargerEvent.{ChargerEvent}
-use Rattle.ocpi_types.specs.declared.events.ChargerEvent.TheVariants as event
-use Rattle.ocpi_types.specs.declared.sessions.Session.{Session}
-use Rattle.site_book.specs.Sites.{IsConnectorOf}
-use Rattle.site_book.specs.declared.claim.Claim.{Claim}
-use Rattle.site_book.specs.declared.claim.Claim.TheVariants.{Live}
+use Rattle.ocpi_text.specs.{key, last_moment}
+use Rattle.ocpi_types.specs.{ChargerEvent, Session}
+use Rattle.ocpi_types.specs.event
+use Rattle.site_book.specs.{Claim, IsConnectorOf, Live}
 use Rattle.session_state.specs.Pasts as pasts
 use Rattle.session_state.proofs.PastLemmas as past
-use Rattle.session_tables.specs.Moves.{Makes, Moves}
-use Rattle.node_steps.specs.Peers.{HasPeer}
-use Rattle.operator_rows.specs.State.{State, Rows, HasClaim}
-use Rattle.operator_rows.specs.Sound.{IsSound, MayPutSession, with_rows}
-use Rattle.operator_rows.specs.Steps.{IsNext, IsNextOf}
+use Rattle.session_tables.specs.{Makes}
+use Rattle.session_tables.specs.Moves.{Moves}
+use Rattle.node_steps.specs.{HasPeer}
+use Rattle.operator_rows.specs.{HasClaim, IsNext, IsNextOf, IsSound, MayPutSession, with_rows}
+use Rattle.operator_rows.specs.State.{State, Rows}
 
 -- what a report makes of a version is one of the moves of a session
 made : (price : ℤ) (at : ℕ) (report : ChargerEvent) (v w : Session) → v.last_updated < last_moment → Makes price at report v w → pasts.Makes price v w

@@ -1,21 +1,18 @@
 -- The changes of acts are of different rows, and of no counter that a step stores; then those of a step of them are of
 -- different rows.
-use Rattle.std.proofs.Common.{zero, suc, ◌≡◌, ◌≢◌, ◌⊎◌, ℕ, Bool, true, false, cond, eqb, nat_eq, List, [], ◌∷◌, ◌++◌, inl, inr, refl, sym, ap, subst, ◌∙◌}
-use Rattle.std.specs.Prelude.{⊤, IsTrue, Contains, not, ◌&&◌}
+use Rattle.std.proofs.Common.{zero, suc, ◌≡◌, ◌≢◌, ◌⊎◌, ℕ, Bool, true, false, cond, eqb, nat_eq, List, [], ◌∷◌, ◌++◌}
+use Rattle.std.proofs.Common.{inl, inr, refl, sym, ap, subst, ◌∙◌, IsTrue, Contains, not, ◌&&◌}
+use Rattle.std.specs.Prelude.{⊤}
 use Rattle.std.proofs.lemmas.Bool.{eq-eqb, and_parts}
 use Rattle.std.proofs.lemmas.List.Elements.{Contains-append_cases, Contains-append_right}
 use Rattle.tables.proofs.Elements.{in_none, in_front, in_single}
-use Rattle.ocpi_types.specs.declared.rows.Change.{Change}
-use Rattle.ocpi_types.specs.declared.rows.Change.TheVariants.{Put}
-use Rattle.ocpi_types.specs.declared.rows.Row.TheVariants as row
-use Rattle.ocpi_types.specs.declared.rows.RowKey.{RowKey}
-use Rattle.ocpi_types.specs.declared.rows.RowKey.TheVariants as keys
-use Rattle.ocpi_types.specs.declared.rows.Counter.{Counter}
-use Rattle.ocpi_types.specs.declared.rows.Counter.TheVariants.{Serial, Request, Session, Cdr, Reference}
-use Rattle.node_steps.specs.Acts.{Act, all_changes}
-use Rattle.node_steps.specs.Drafts.{Counters, count_change, count_changes, counted, step_by}
+use Rattle.ocpi_types.specs.{Change, Counter, Put, Reference, Request, RowKey, Serial}
+use Rattle.ocpi_types.specs.row
+use Rattle.ocpi_types.specs.keys
+use Rattle.ocpi_types.specs.declared.rows.Counter.TheVariants.{Session, Cdr}
+use Rattle.node_steps.specs.{Act, Counters, all_changes, count_change, count_changes, counted, step_by}
 use Rattle.node_steps.proofs.Gathering.{changes_append}
-use Rattle.operator_rows.specs.Stored.{AreApart, Each, change_key}
+use Rattle.operator_rows.specs.{AreApart, Each, change_key}
 
 -- no change of the one list is of a row of the other
 abbrev pub AreOther : List Change → List Change → Type 0

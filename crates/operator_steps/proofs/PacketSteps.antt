@@ -1,15 +1,11 @@
 -- A packet comes: what it asks for may be done.
 use Rattle.std.proofs.Common.{ℕ, List, [], ◌∷◌, refl, sym, subst, ◌∙◌}
-use Rattle.ocpi_text.specs.Text.{key}
-use Rattle.ocpi_types.specs.declared.packet.Packet.{Packet}
-use Rattle.ocpi_types.specs.declared.rows.Change.TheVariants.{Put}
-use Rattle.ocpi_types.specs.declared.rows.Row.TheVariants as row
-use Rattle.ocpi_types.specs.declared.stored.Reply.{Reply}
-use Rattle.ocpi_types.specs.declared.token.Token.{Token}
-use Rattle.node_steps.specs.Acts.{Act, acknowledged, all_changes, answered, changed, repeated}
-use Rattle.node_steps.specs.Peers.{HasPeer, IsPeer}
+use Rattle.ocpi_text.specs.{key}
+use Rattle.ocpi_types.specs.{Packet, Put, Reply, Token}
+use Rattle.ocpi_types.specs.row
+use Rattle.node_steps.specs.{Act, HasPeer, IsPeer, acknowledged, all_changes, answered, changed, repeated}
 use Rattle.operator_rows.specs.State.{State}
-use Rattle.operator_rows.specs.Sound.{IsConsistent}
+use Rattle.operator_rows.specs.{IsConsistent}
 use Rattle.operator_tables.proofs.Lines.{all_tell}
 use Rattle.operator_steps.specs.Facts.{PacketsMayFollow}
 use Rattle.operator_steps.specs.Moves.{AreInRange, Work}

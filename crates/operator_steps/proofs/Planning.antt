@@ -1,23 +1,16 @@
 -- What the acts of a step must be, for it to be carried out.
-use Rattle.std.proofs.Common.{◌≡◌, ◌≢◌, ◌≤◌, ◌+◌, ℕ, List, ◌++◌, inl, inr, refl, sym, ap, subst, ◌∙◌, arith}
-use Rattle.std.specs.Prelude.{Contains, IsTrue}
+use Rattle.std.proofs.Common.{◌≡◌, ◌≢◌, ◌≤◌, ◌+◌, ℕ, List, ◌++◌, inl, inr, sym, ap, ◌∙◌, arith, Contains, IsTrue}
 use Rattle.std.specs.FinMap.{contains_key}
 use Rattle.std.proofs.lemmas.List.Elements.{Contains-append_cases, Contains-append_right}
 use Rattle.tables.proofs.Elements.{in_none}
-use Rattle.ocpi_types.specs.declared.rows.Row.TheVariants as row
-use Rattle.ocpi_types.specs.declared.rows.RowKey.TheVariants as keys
-use Rattle.ocpi_types.specs.declared.rows.Change.{Change}
-use Rattle.ocpi_types.specs.declared.rows.Change.TheVariants.{Put}
-use Rattle.authorization_book.specs.Waits.{MayWait, waited_all}
-use Rattle.authorization_book.specs.declared.awaited.Awaited.{Awaited}
-use Rattle.authorization_book.specs.declared.waiting.Waiting.TheVariants.{Begins}
-use Rattle.node_steps.specs.Acts.{Act, all_changes, all_requests, all_volatile}
-use Rattle.node_steps.specs.Drafts.{Counters, count_changes, counted}
+use Rattle.ocpi_types.specs.row
+use Rattle.ocpi_types.specs.keys
+use Rattle.ocpi_types.specs.{Change, Put}
+use Rattle.authorization_book.specs.{Awaited, Begins, MayWait, waited_all}
+use Rattle.node_steps.specs.{Act, Counters, all_changes, all_requests, all_volatile, count_changes, counted}
 use Rattle.operator_rows.specs.State.{State}
-use Rattle.operator_rows.specs.Sound.{IsConsistent, MayAwait}
-use Rattle.operator_rows.specs.Stored.{change_key}
-use Rattle.operator_rows.specs.Steps.{FullStep, MayFollow, MayFollowFull, after, number_of}
-use Rattle.operator_steps.specs.Moves.{AreInRange, PlannedBy, StepBy, Work, carried, counters_of, quiet, step_of_acts, step_of_work}
+use Rattle.operator_rows.specs.{IsConsistent, MayAwait, MayFollow, MayFollowFull, after, change_key, number_of}
+use Rattle.operator_steps.specs.Moves.{Work, counters_of, quiet, step_of_acts, step_of_work}
 use Rattle.operator_steps.proofs.Charging.{AreNext}
 use Rattle.operator_steps.proofs.Orderly.{AreOrderly, of_counters, orderly_apart}
 use Rattle.operator_steps.proofs.Fitting.{AreFit, fit_step, numbered_for}
@@ -90,11 +83,3 @@ may_follow_full s work h plan = record {
       let request = ap (λ (c : Counters). c.request) (counters_follow s work.acts plan.acts) in
       omega (arith, given, request);
 }
-
--- a plan that a line asks for is a step that it asks for, once it is carried out
-pub planned_step : (Line : Work → Type 0) (s : State) (x : FullStep) → PlannedBy Line s x → StepBy Line s (carried s x)
-planned_step Line s x h = record { work = h.work; line = h.line; in_range = h.in_range; out_is = subst (λ z. carried s x ≡ carried s z) h.step_is refl }
-
--- and it may be carried out, where its acts may
-pub planned_may : (Line : Work → Type 0) (s : State) (x : FullStep) → ((work : Work) → Line work → AreInRange s work.acts → MayFollowFull s (step_of_work s work)) → PlannedBy Line s x → MayFollowFull s x
-planned_may Line s x may h = subst (MayFollowFull s) (sym h.step_is) (may h.work h.line h.in_range)

@@ -1,20 +1,16 @@
 -- A charge point reports: what it asks for may be done.
-use Rattle.std.proofs.Common.{◌≡◌, ◌≤◌, ◌+◌, ℕ, List, [], ◌∷◌, sym, ap, subst}
-use Rattle.std.specs.Prelude.{None, Contains}
+use Rattle.std.proofs.Common.{◌≡◌, ◌≤◌, ◌+◌, ℕ, List, [], ◌∷◌, sym, ap, subst, None, Contains}
 use Rattle.tables.proofs.Elements.{in_front}
-use Rattle.ocpi_text.specs.Whole.{max_whole}
-use Rattle.ocpi_types.specs.declared.events.ChargerEvent.{ChargerEvent}
-use Rattle.ocpi_types.specs.declared.events.ChargerEvent.TheVariants as event
-use Rattle.ocpi_types.specs.declared.rows.Change.TheVariants.{Put}
-use Rattle.ocpi_types.specs.declared.rows.Counter.TheVariants as counter
-use Rattle.ocpi_types.specs.declared.rows.Place.{Place}
-use Rattle.ocpi_types.specs.declared.rows.Row.TheVariants as row
-use Rattle.ocpi_types.specs.declared.token.Token.{Token}
-use Rattle.node_steps.specs.Acts.{Act, all_changes}
+use Rattle.ocpi_text.specs.{max_whole}
+use Rattle.ocpi_types.specs.{ChargerEvent, Place, Put, Token}
+use Rattle.ocpi_types.specs.event
+use Rattle.ocpi_types.specs.counter
+use Rattle.ocpi_types.specs.row
+use Rattle.node_steps.specs.{Act, all_changes}
 use Rattle.operator_rows.specs.State.{State}
-use Rattle.operator_rows.specs.Sound.{IsConsistent}
-use Rattle.session_tables.specs.declared.beginning.Beginning.{Beginning}
-use Rattle.session_tables.specs.declared.shown.Shown.TheVariants as shown
+use Rattle.operator_rows.specs.{IsConsistent}
+use Rattle.session_tables.specs.{Beginning}
+use Rattle.session_tables.specs.shown
 use Rattle.operator_steps.specs.Facts.{ReportsMayFollow}
 use Rattle.operator_steps.specs.Asking.{IsAsked}
 use Rattle.operator_steps.specs.Charger.{ChargerLine, Ended, Started, Moved, Begun, Asked, Idle, Shows}

@@ -1,21 +1,18 @@
 -- Pushes that are sent again, one after the other.
-use Rattle.std.proofs.Common.{◌≡◌, ◌≢◌, ◌<◌, ◌++◌, ℕ, suc, List, [], ◌∷◌, length, inl, inr, refl, sym, ap, subst, ◌∙◌, arith}
-use Rattle.std.specs.Prelude.{Option, Some, None, Contains, IsTrue, is_some, true, false}
+use Rattle.std.proofs.Common.{◌≡◌, ◌≢◌, ◌<◌, ◌++◌, ℕ, suc, List, [], ◌∷◌, length, inl, inr, refl, sym, ap, subst, ◌∙◌}
+use Rattle.std.proofs.Common.{arith, Option, Some, None, Contains, IsTrue, is_some, true, false}
 use Rattle.std.specs.List.{AllPairs}
 use Rattle.std.specs.FinMap.{get, contains_key}
 use Rattle.std.proofs.lemmas.List.Elements.{All-contains, Contains-append_cases}
 use Rattle.tables.proofs.Elements.{in_none, in_front, in_single, first_pairs, later_pairs}
-use Rattle.ocpi_types.specs.declared.rows.Change.{Change}
-use Rattle.ocpi_types.specs.declared.rows.RowKey.TheVariants as keys
-use Rattle.ocpi_types.specs.declared.rows.Counter.{Counter}
+use Rattle.ocpi_types.specs.{Change, Counter}
+use Rattle.ocpi_types.specs.keys
 use Rattle.outbox.specs.Pushes.{Pushes}
-use Rattle.outbox.specs.declared.push_book.Outgoing.{Outgoing}
-use Rattle.node_steps.specs.declared.plan.Volatile.{Volatile}
-use Rattle.node_steps.specs.Acts.{Act, all_changes, all_messages, all_volatile, all_requests}
+use Rattle.outbox.specs.{Outgoing}
+use Rattle.node_steps.specs.{Act, Volatile, all_changes, all_messages, all_requests, all_volatile}
 use Rattle.node_steps.proofs.Gathering.{changes_append, volatile_append, requests_append}
 use Rattle.operator_rows.specs.State.{State}
-use Rattle.operator_rows.specs.Stored.{AreApart, change_key}
-use Rattle.operator_rows.specs.Steps.{number_of}
+use Rattle.operator_rows.specs.{AreApart, change_key, number_of}
 use Rattle.operator_steps.specs.Ends.{all_resent, resent_acts}
 use Rattle.operator_steps.proofs.Orderly.{AreOrderly, IsOfStep, in_later}
 use Rattle.operator_steps.proofs.Fitting.{AreFit, fit_append, left_by}

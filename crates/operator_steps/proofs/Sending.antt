@@ -1,6 +1,6 @@
 -- What acts send until it is acknowledged: each is sent once, and stands after the step.
-use Rattle.std.proofs.Common.{◌≡◌, ◌≢◌, ◌⊎◌, ℕ, List, [], ◌∷◌, ◌++◌, inl, inr, refl, sym, ap, subst, ◌∙◌, arith}
-use Rattle.std.specs.Prelude.{Some, None, Contains, IsTrue, is_some}
+use Rattle.std.proofs.Common.{◌≡◌, ◌≢◌, ◌⊎◌, ℕ, List, [], ◌∷◌, ◌++◌, inl, inr, refl, sym, ap, subst, ◌∙◌, arith, Some}
+use Rattle.std.proofs.Common.{None, Contains, IsTrue, is_some}
 use Rattle.std.specs.List.{AllPairs}
 use Rattle.std.specs.Ordering.{nat_cmp}
 use Rattle.std.specs.Cmp.{nat_cmp_total}
@@ -10,19 +10,14 @@ use Rattle.std.proofs.lemmas.List.Kept.{AllPairs-cons}
 use Rattle.tables.proofs.Elements.{all_of, in_none, in_front, in_single, no_pairs, joined}
 use Rattle.tables.proofs.Options.{known, not_both}
 use Rattle.tables.proofs.Maps.{get-insert_same, get-insert_other, get-remove_other}
-use Rattle.ocpi_types.specs.declared.rows.Change.{Change}
-use Rattle.ocpi_types.specs.declared.rows.Change.TheVariants.{Put, Drop}
-use Rattle.ocpi_types.specs.declared.rows.Row.TheVariants as row
-use Rattle.ocpi_types.specs.declared.rows.RowKey.TheVariants as keys
-use Rattle.ocpi_types.specs.declared.rows.Counter.TheVariants as counter
-use Rattle.ocpi_types.specs.declared.stored.Push.{Push}
-use Rattle.node_steps.specs.declared.plan.Volatile.{Volatile}
-use Rattle.node_steps.specs.Acts.{Act, all_changes, all_volatile}
+use Rattle.ocpi_types.specs.{Change, Drop, Push, Put}
+use Rattle.ocpi_types.specs.row
+use Rattle.ocpi_types.specs.keys
+use Rattle.ocpi_types.specs.counter
+use Rattle.node_steps.specs.{Act, Volatile, all_changes, all_volatile}
 use Rattle.node_steps.proofs.Gathering.{changes_append, volatile_append}
 use Rattle.operator_rows.specs.State.{State, Rows}
-use Rattle.operator_rows.specs.Stored.{AreApart, changed, changed_all, change_key}
-use Rattle.operator_rows.specs.Sound.{IsConsistent}
-use Rattle.operator_rows.specs.Steps.{MaySend, number_of}
+use Rattle.operator_rows.specs.{AreApart, IsConsistent, MaySend, change_key, changed, changed_all, number_of}
 use Rattle.operator_steps.proofs.Orderly.{of_cons, in_later, each_in}
 
 -- no change is of the push of that number

@@ -1,10 +1,10 @@
 -- An EVSE that goes out of service or comes back: the act may be carried out.
 use Rattle.std.proofs.Common.{ℕ, List, [], ◌∷◌, Bool, refl, sym, subst}
-use Rattle.ocpi_types.specs.declared.rows.Change.TheVariants.{Put, Drop}
-use Rattle.ocpi_types.specs.declared.rows.Row.TheVariants as row
-use Rattle.ocpi_types.specs.declared.rows.RowKey.TheVariants as keys
-use Rattle.site_book.specs.Sites.{IsEvse}
-use Rattle.node_steps.specs.Acts.{Act, changed}
+use Rattle.ocpi_types.specs.{Drop, Put}
+use Rattle.ocpi_types.specs.row
+use Rattle.ocpi_types.specs.keys
+use Rattle.site_book.specs.{IsEvse}
+use Rattle.node_steps.specs.{Act, changed}
 use Rattle.operator_rows.specs.State.{State}
 use Rattle.operator_steps.specs.Facts.{ServiceMayFollow}
 use Rattle.operator_steps.specs.Service.{ServiceLine, Unknown, Unchanged, Withdrawn, Restored}

@@ -1,25 +1,17 @@
 -- A driver shows a token: the session that begins, or the question that is asked, may be.
-use Rattle.std.proofs.Common.{◌≡◌, ℕ, List, sym, ap, subst, ◌∙◌}
-use Rattle.std.specs.Prelude.{Option, Some, None}
-use Rattle.ocpi_text.specs.Text.{key}
-use Rattle.ocpi_types.specs.declared.site.Connector.{Connector}
-use Rattle.ocpi_types.specs.declared.site.Evse.{Evse}
-use Rattle.ocpi_types.specs.declared.site.Location.{Location}
-use Rattle.ocpi_types.specs.declared.token.Token.{Token}
-use Rattle.ocpi_types.specs.declared.words.AuthMethod.TheVariants as how
-use Rattle.ocpi_types.specs.declared.words.TokenType.{TokenType}
-use Rattle.site_book.specs.declared.claim.Claim.{Claim}
-use Rattle.site_book.specs.declared.claim.Claim.TheVariants.{Reserved}
+use Rattle.std.proofs.Common.{◌≡◌, ℕ, List, sym, ap, subst, ◌∙◌, Option, Some, None}
+use Rattle.ocpi_text.specs.{key}
+use Rattle.ocpi_types.specs.{Connector, Evse, Location, Token, TokenType}
+use Rattle.ocpi_types.specs.how
+use Rattle.site_book.specs.{Claim, Reserved}
 use Rattle.token_desk.specs.Swipes as desk
-use Rattle.token_desk.specs.declared.answers.Swipe.{Swipe}
-use Rattle.token_desk.specs.declared.answers.Swipe.TheVariants as told
-use Rattle.operator_rows.specs.State.{State, HasClaim}
-use Rattle.operator_rows.specs.Sound.{IsSound}
-use Rattle.session_tables.specs.declared.beginning.Beginning.{Beginning}
-use Rattle.session_tables.specs.declared.shown.Shown.TheVariants as shown
-use Rattle.session_tables.specs.Beginnings.{begins}
-use Rattle.session_tables.specs.Places.{IsConnectorAt}
-use Rattle.session_tables.specs.Swipes.{SwipeLine, Unplaced, Closed, Open, IsOpenTo, Free, Held, id_of, provider_of, told_by}
+use Rattle.token_desk.specs.{Swipe}
+use Rattle.token_desk.specs.told
+use Rattle.operator_rows.specs.{HasClaim, IsSound}
+use Rattle.operator_rows.specs.State.{State}
+use Rattle.session_tables.specs.{Beginning, Closed, Free, Held, IsConnectorAt, IsOpenTo, Open, SwipeLine, Unplaced}
+use Rattle.session_tables.specs.{begins, id_of, provider_of, told_by}
+use Rattle.session_tables.specs.shown
 use Rattle.operator_steps.proofs.BegunSteps.{IsUsed, MayBegin, connector_of}
 
 -- the token that is shown is that of the provider, where one is given

@@ -1,31 +1,23 @@
 -- A charge point carries a start out: its provider is told, and a session begins.
 use Rattle.std.proofs.Common.{◌≡◌, ◌<◌, ◌≤◌, ◌+◌, ℕ, List, [], ◌∷◌, ◌++◌, inl, inr, refl, sym, ap, subst, ◌∙◌, arith}
-use Rattle.std.specs.Prelude.{Option, Some, None}
+use Rattle.std.proofs.Common.{Option, Some, None}
 use Rattle.std.specs.Cmp.{nat_cmp_total}
 use Rattle.std.specs.FinMap.{get, insert, remove, nat_cmp-IsAntisymmetric}
-use Rattle.tables.specs.Keys.{text_number_total, text_number_exact}
+use Rattle.tables.specs.{text_number_exact, text_number_total}
 use Rattle.tables.proofs.Maps.{of_insert, of_remove}
 use Rattle.tables.proofs.Options.{none_some}
-use Rattle.ocpi_text.specs.Text.{key}
-use Rattle.ocpi_text.specs.Whole.{max_whole}
-use Rattle.ocpi_types.specs.declared.events.ChargerEvent.{ChargerEvent}
-use Rattle.ocpi_types.specs.declared.replies.CommandResult.{CommandResult}
-use Rattle.ocpi_types.specs.declared.sessions.Session.{Session}
-use Rattle.ocpi_types.specs.declared.stored.Push.TheVariants as push
-use Rattle.site_book.specs.Sites.{IsConnectorOf}
-use Rattle.site_book.specs.declared.claim.Claim.{Claim}
-use Rattle.site_book.specs.declared.claim.Claim.TheVariants.{OpenStart, Live, Reserved}
+use Rattle.ocpi_text.specs.{key, max_whole}
+use Rattle.ocpi_types.specs.{ChargerEvent, CommandResult, Session}
+use Rattle.ocpi_types.specs.push
+use Rattle.site_book.specs.{Claim, IsConnectorOf, Live, OpenStart, Reserved}
 use Rattle.command_book.specs.Stored as book
-use Rattle.outbox.specs.Pushes.{IsAbout, IsReplaced, Pushes, subject, subject_of}
-use Rattle.outbox.specs.declared.push_book.Subject.{Subject}
-use Rattle.node_steps.specs.declared.plan.Volatile.TheVariants.{Sent}
-use Rattle.node_steps.specs.Acts.{Act, all_changes, all_requests}
-use Rattle.node_steps.specs.Peers.{IsPeer}
-use Rattle.operator_rows.specs.State.{State, Rows, HasClaim, IsStart}
-use Rattle.operator_rows.specs.Sound.{IsConsistent}
-use Rattle.operator_rows.specs.Steps.{IsNext}
+use Rattle.outbox.specs.{IsAbout, IsReplaced, Subject, subject, subject_of}
+use Rattle.outbox.specs.Pushes.{Pushes}
+use Rattle.node_steps.specs.{Act, IsPeer, Sent, all_changes, all_requests}
+use Rattle.operator_rows.specs.{HasClaim, IsConsistent, IsNext, IsStart}
+use Rattle.operator_rows.specs.State.{State, Rows}
 use Rattle.session_tables.specs.Accepts.{Accepts}
-use Rattle.session_tables.specs.declared.beginning.Beginning.{Beginning}
+use Rattle.session_tables.specs.{Beginning}
 use Rattle.operator_steps.specs.declared.ending.Ending.{Ending}
 use Rattle.operator_steps.specs.Acts.{told}
 use Rattle.operator_steps.specs.Charger.{IsStarted}

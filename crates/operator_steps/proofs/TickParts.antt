@@ -1,6 +1,6 @@
 -- The parts of what a moment comes to: the counter of sessions, the sessions that begin, and the rest beside them.
-use Rattle.std.proofs.Common.{◌≡◌, ◌≢◌, ◌<◌, ◌≤◌, ◌+◌, ◌||◌, ℕ, Bool, true, false, cond, eqb, nat_eq, List, [], ◌∷◌, map, length, inl, inr, refl, sym, ap, subst, ◌∙◌, arith}
-use Rattle.std.specs.Prelude.{Contains, IsTrue, is_some}
+use Rattle.std.proofs.Common.{◌≡◌, ◌≢◌, ◌<◌, ◌≤◌, ◌+◌, ◌||◌, ℕ, Bool, true, false, cond, eqb, nat_eq, List, [], ◌∷◌}
+use Rattle.std.proofs.Common.{map, length, inl, inr, refl, sym, ap, subst, ◌∙◌, arith, Contains, IsTrue, is_some}
 use Rattle.std.specs.Cmp.{nat_cmp_total}
 use Rattle.std.specs.FinMap.{get, remove, contains_key, nat_cmp-IsAntisymmetric}
 use Rattle.std.specs.List.{AllPairs}
@@ -8,30 +8,21 @@ use Rattle.std.proofs.lemmas.Bool.{cases_lt, eqb-true, eqb-false}
 use Rattle.tables.proofs.Elements.{in_none, of_map}
 use Rattle.tables.proofs.Maps.{of_remove}
 use Rattle.tables.proofs.Options.{known, none_contained}
-use Rattle.ocpi_text.specs.Text.{key}
-use Rattle.ocpi_text.specs.Whole.{max_whole}
-use Rattle.ocpi_types.specs.declared.rows.Change.{Change}
-use Rattle.ocpi_types.specs.declared.rows.Change.TheVariants.{Put}
-use Rattle.ocpi_types.specs.declared.rows.Counter.TheVariants as counter
-use Rattle.ocpi_types.specs.declared.rows.Row.TheVariants as row
-use Rattle.ocpi_types.specs.declared.rows.RowKey.{RowKey}
-use Rattle.ocpi_types.specs.declared.rows.RowKey.TheVariants as keys
+use Rattle.ocpi_text.specs.{key, max_whole}
+use Rattle.ocpi_types.specs.{Change, Put, RowKey}
+use Rattle.ocpi_types.specs.counter
+use Rattle.ocpi_types.specs.row
+use Rattle.ocpi_types.specs.keys
 use Rattle.authorization_book.specs.Waits as waits
-use Rattle.authorization_book.specs.declared.awaited.Awaited.{Awaited}
-use Rattle.authorization_book.specs.declared.waiting.Waiting.TheVariants.{Begins, Ends}
+use Rattle.authorization_book.specs.{Awaited, Begins, Ends}
 use Rattle.command_book.specs.Stored as book
-use Rattle.reservation_book.specs.Calls.{AreExpired}
-use Rattle.reservation_book.specs.declared.standing.Standing.{Standing}
+use Rattle.reservation_book.specs.{AreExpired, Standing}
 use Rattle.session_book.specs.Numbers.{AreNumbered}
 use Rattle.session_book.specs.Stored as charged
-use Rattle.node_steps.specs.declared.plan.Volatile.{Volatile}
-use Rattle.node_steps.specs.declared.plan.Volatile.TheVariants.{Sent}
-use Rattle.node_steps.specs.Acts.{Act, all_changes, all_messages, all_requests, all_volatile, changed}
-use Rattle.node_steps.specs.Drafts.{count_change}
+use Rattle.node_steps.specs.{Act, Sent, Volatile, all_changes, all_messages, all_requests, all_volatile, changed}
+use Rattle.node_steps.specs.{count_change}
 use Rattle.operator_rows.specs.State.{State, Rows}
-use Rattle.operator_rows.specs.Sound.{IsConsistent, MayPutNumber, with_rows}
-use Rattle.operator_rows.specs.Stored.{change_key, changed_all}
-use Rattle.operator_rows.specs.Steps.{number_of}
+use Rattle.operator_rows.specs.{IsConsistent, MayPutNumber, change_key, changed_all, number_of, with_rows}
 use Rattle.operator_steps.specs.declared.ending.Ending.{Ending}
 use Rattle.operator_steps.specs.Ends.{ends_acts, expired_acts}
 use Rattle.operator_steps.specs.TickFacts.{AreLeftUnanswered, None_left, Nothing_begins, Begins_session}

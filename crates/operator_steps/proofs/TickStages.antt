@@ -1,6 +1,7 @@
 -- The stages of a moment: each sees, of what it reads, what stood before the moment.
-use Rattle.std.proofs.Common.{◌≡◌, ◌≢◌, ◌<◌, ◌≤◌, ◌+◌, ◌++◌, ◌↔◌, ℕ, true, false, cond, nat_eq, List, [], ◌∷◌, length, map, inl, inr, refl, sym, ap, subst, ◌∙◌, arith}
-use Rattle.std.specs.Prelude.{Option, Some, None, Contains, IsTrue, is_some}
+use Rattle.std.proofs.Common.{◌≡◌, ◌≢◌, ◌<◌, ◌≤◌, ◌+◌, ◌++◌, ◌↔◌, ℕ, true, false, cond, nat_eq, List, [], ◌∷◌, length}
+use Rattle.std.proofs.Common.{map, inl, inr, refl, sym, ap, subst, ◌∙◌, arith, Option, Some, None, Contains, IsTrue}
+use Rattle.std.proofs.Common.{is_some}
 use Rattle.std.specs.Cmp.{nat_cmp_total}
 use Rattle.std.specs.Ordering.{nat_cmp}
 use Rattle.std.specs.FinMap.{get, contains_key, get-empty, nat_cmp-IsAntisymmetric}
@@ -9,33 +10,26 @@ use Rattle.std.proofs.lemmas.List.Elements.{Contains-append_cases}
 use Rattle.tables.proofs.Elements.{in_none, in_front}
 use Rattle.tables.proofs.Maps.{get-insert_other, get-remove_other, of_insert}
 use Rattle.tables.proofs.Options.{none_some, none_contained, not_both}
-use Rattle.ocpi_types.specs.declared.rows.Change.{Change}
-use Rattle.ocpi_types.specs.declared.rows.Change.TheVariants.{Put, Drop}
-use Rattle.ocpi_types.specs.declared.rows.Counter.TheVariants as counter
-use Rattle.ocpi_types.specs.declared.rows.Row.TheVariants as row
-use Rattle.ocpi_types.specs.declared.rows.RowKey.{RowKey}
-use Rattle.ocpi_types.specs.declared.rows.RowKey.TheVariants as keys
+use Rattle.ocpi_types.specs.{Change, Drop, Put, RowKey}
+use Rattle.ocpi_types.specs.counter
+use Rattle.ocpi_types.specs.row
+use Rattle.ocpi_types.specs.keys
 use Rattle.authorization_book.specs.Waits as waits
-use Rattle.authorization_book.specs.declared.waiting.Waiting.TheVariants.{Ends}
+use Rattle.authorization_book.specs.{Ends}
 use Rattle.command_book.specs.Stored as book
 use Rattle.outbox.specs.Outbox as outbox
-use Rattle.outbox.specs.Pushes.{IsAbout, Pushes, subject_of}
-use Rattle.outbox.specs.Due.{AreExactly, IsDue}
-use Rattle.outbox.specs.Resend.{Resend, due_again}
-use Rattle.outbox.specs.declared.push_book.Subject.{Subject}
-use Rattle.reservation_book.specs.Calls.{AreExpired}
+use Rattle.outbox.specs.{AreExactly, IsAbout, IsDue, Subject, due_again, subject_of}
+use Rattle.outbox.specs.Pushes.{Pushes}
+use Rattle.outbox.specs.Resend.{Resend}
+use Rattle.reservation_book.specs.{AreExpired, Standing}
 use Rattle.reservation_book.specs.Rows as booked
-use Rattle.reservation_book.specs.declared.standing.Standing.{Standing}
 use Rattle.session_book.specs.Stored as charged
-use Rattle.node_steps.specs.declared.plan.Volatile.{Volatile}
-use Rattle.node_steps.specs.declared.plan.Volatile.TheVariants.{Sent}
-use Rattle.node_steps.specs.Acts.{Act, all_changes, all_volatile, changed}
-use Rattle.node_steps.specs.Drafts.{count_change, count_changes, counted}
+use Rattle.node_steps.specs.{Act, Sent, Volatile, all_changes, all_volatile, changed, count_change, count_changes}
+use Rattle.node_steps.specs.{counted}
 use Rattle.node_steps.proofs.Gathering.{changes_append, volatile_append}
-use Rattle.operator_rows.specs.State.{State, Rows, as_outbox}
-use Rattle.operator_rows.specs.Sound.{IsConsistent}
-use Rattle.operator_rows.specs.Stored.{change_key, changed_all}
-use Rattle.operator_rows.specs.Steps.{number_of, timed, timed_all, untimed, untimed_all}
+use Rattle.operator_rows.specs.{IsConsistent, as_outbox, change_key, changed_all, number_of, timed, timed_all, untimed}
+use Rattle.operator_rows.specs.{untimed_all}
+use Rattle.operator_rows.specs.State.{State, Rows}
 use Rattle.operator_steps.specs.declared.ending.Ending.{Ending}
 use Rattle.operator_steps.specs.Asking.{AreUnanswered, Deadlines}
 use Rattle.operator_steps.specs.Moves.{Quietly, Stage, Stages, Work, acted, and_then, counters_of, quiet, step_of_acts}

@@ -1,6 +1,6 @@
 -- The step of a moment may be carried out.
-use Rattle.std.proofs.Common.{◌≡◌, ◌≢◌, ◌<◌, ◌≤◌, ◌+◌, ◌++◌, ◌⊎◌, ℕ, true, false, cond, nat_eq, List, [], ◌∷◌, map, length, inl, inr, refl, sym, ap, subst, ◌∙◌, arith}
-use Rattle.std.specs.Prelude.{Contains, IsTrue}
+use Rattle.std.proofs.Common.{◌≡◌, ◌≢◌, ◌<◌, ◌≤◌, ◌+◌, ◌++◌, ◌⊎◌, ℕ, true, false, cond, nat_eq, List, [], ◌∷◌, map}
+use Rattle.std.proofs.Common.{length, inl, inr, refl, sym, ap, subst, ◌∙◌, arith, Contains, IsTrue}
 use Rattle.std.specs.FinMap.{contains_key}
 use Rattle.std.specs.List.{AllPairs}
 use Rattle.std.specs.declared.cmp.Ordering.TheVariants.{Less}
@@ -8,28 +8,24 @@ use Rattle.std.proofs.lemmas.Bool.{eqb-true}
 use Rattle.std.proofs.lemmas.List.{length-append}
 use Rattle.std.proofs.lemmas.List.Elements.{All-contains, Contains-append_cases, Contains-append_left, Contains-append_right}
 use Rattle.std.proofs.lemmas.List.Kept.{AllPairs-cons}
-use Rattle.tables.specs.Keys.{text_number_cmp, text_number_total}
+use Rattle.tables.specs.{text_number_cmp, text_number_total}
 use Rattle.tables.proofs.Elements.{in_none, in_front, in_map, all_of, no_pairs, first_pairs, later_pairs}
 use Rattle.tables.proofs.Entries.{apart_of_less}
-use Rattle.ocpi_text.specs.Whole.{max_whole}
-use Rattle.ocpi_types.specs.declared.rows.Change.{Change}
-use Rattle.ocpi_types.specs.declared.rows.Change.TheVariants.{Put}
-use Rattle.ocpi_types.specs.declared.rows.Counter.TheVariants as counter
-use Rattle.ocpi_types.specs.declared.rows.Row.TheVariants as row
-use Rattle.ocpi_types.specs.declared.rows.RowKey.TheVariants as keys
-use Rattle.authorization_book.specs.Waits.{evse_of}
+use Rattle.ocpi_text.specs.{max_whole}
+use Rattle.ocpi_types.specs.{Change, Put}
+use Rattle.ocpi_types.specs.counter
+use Rattle.ocpi_types.specs.row
+use Rattle.ocpi_types.specs.keys
+use Rattle.authorization_book.specs.{evse_of}
 use Rattle.outbox.specs.Outbox as outbox
-use Rattle.outbox.specs.Pushes.{IsAbout}
-use Rattle.reservation_book.specs.declared.standing.Standing.{Standing}
+use Rattle.outbox.specs.{IsAbout}
+use Rattle.reservation_book.specs.{Standing}
 use Rattle.session_book.specs.Stored as charged
-use Rattle.node_steps.specs.declared.plan.Volatile.{Volatile}
-use Rattle.node_steps.specs.Acts.{Act, all_changes, all_messages, all_requests, all_volatile, changed}
-use Rattle.node_steps.specs.Drafts.{count_change}
+use Rattle.node_steps.specs.{Act, Volatile, all_changes, all_messages, all_requests, all_volatile, changed}
+use Rattle.node_steps.specs.{count_change}
 use Rattle.node_steps.proofs.Gathering.{changes_append, messages_append, requests_append, volatile_append}
 use Rattle.operator_rows.specs.State.{State, Rows}
-use Rattle.operator_rows.specs.Sound.{IsConsistent, IsSound, with_rows}
-use Rattle.operator_rows.specs.Stored.{change_key, changed_all}
-use Rattle.operator_rows.specs.Steps.{number_of}
+use Rattle.operator_rows.specs.{IsConsistent, IsSound, change_key, changed_all, number_of, with_rows}
 use Rattle.operator_steps.specs.declared.ending.Ending.{Ending}
 use Rattle.operator_steps.specs.Ends.{IsOpen, all_resent, ends_acts, expired_acts}
 use Rattle.operator_steps.specs.Moves.{AreInRange, Work}

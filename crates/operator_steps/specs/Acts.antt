@@ -1,27 +1,20 @@
 -- What an operator does in answer to a command: its acts (OCPI 2.2.1, Commands).
 use Rattle.std.specs.Prelude.{ℕ, ◌+◌, ◌*◌, min, List, [], ◌∷◌, ◌++◌, Option, Some, None}
-use Rattle.ocpi_text.specs.Text.{key}
-use Rattle.ocpi_text.specs.Moment.{last_moment}
-use Rattle.ocpi_types.specs.declared.replies.CommandResult.{CommandResult}
+use Rattle.ocpi_text.specs.{key, last_moment}
+use Rattle.ocpi_types.specs.{Command, CommandResponseType, CommandResult, CommandResultType, Drop, OpenCommand, Put}
+use Rattle.ocpi_types.specs.{Reply, Reservation}
 use Rattle.ocpi_types.specs.declared.replies.CommandResponse.TheVariants as response
-use Rattle.ocpi_types.specs.declared.rows.Change.TheVariants.{Put, Drop}
-use Rattle.ocpi_types.specs.declared.rows.Row.TheVariants as row
-use Rattle.ocpi_types.specs.declared.rows.RowKey.TheVariants as keys
-use Rattle.ocpi_types.specs.declared.commands.Command.{Command}
-use Rattle.ocpi_types.specs.declared.commands.Command.TheVariants as command
-use Rattle.ocpi_types.specs.declared.stored.OpenCommand.{OpenCommand}
-use Rattle.ocpi_types.specs.declared.stored.Push.TheVariants as push
-use Rattle.ocpi_types.specs.declared.stored.Reply.{Reply}
-use Rattle.ocpi_types.specs.declared.stored.Reply.TheVariants as reply
-use Rattle.ocpi_types.specs.declared.stored.Reservation.{Reservation}
-use Rattle.ocpi_types.specs.declared.words.CommandResponseType.{CommandResponseType}
-use Rattle.ocpi_types.specs.declared.words.CommandResponseType.TheVariants as word
-use Rattle.ocpi_types.specs.declared.words.CommandResultType.{CommandResultType}
+use Rattle.ocpi_types.specs.row
+use Rattle.ocpi_types.specs.keys
+use Rattle.ocpi_types.specs.command
+use Rattle.ocpi_types.specs.push
+use Rattle.ocpi_types.specs.reply
+use Rattle.ocpi_types.specs.response as word
 use Rattle.command_book.specs.Stored as book
-use Rattle.node_steps.specs.Acts.{Act, changed, answered, pushed}
+use Rattle.node_steps.specs.{Act, answered, changed, pushed}
 pub use Rattle.operator_tables.specs.Decides.{result_of}
-use Rattle.operator_tables.specs.declared.decision.Decision.{Decision}
-use Rattle.operator_tables.specs.declared.decision.Decision.TheVariants as decision
+use Rattle.operator_tables.specs.{Decision}
+use Rattle.operator_tables.specs.decision
 
 -- the seconds within which a result follows
 abbrev pub timeout : ℕ

@@ -2,29 +2,18 @@
 -- time (OCPI 2.2.1, Tokens: Real-time authorization).
 use Rattle.std.specs.Prelude.{◌≡◌, ℕ, ◌+◌, min, map, List, [], ◌∷◌, ◌++◌, Option, Some, None}
 use Rattle.std.specs.FinMap.{get}
-use Rattle.ocpi_text.specs.Moment.{last_moment}
-use Rattle.ocpi_text.specs.Text.{key}
-use Rattle.ocpi_types.specs.declared.authorizations.Authorization.{Authorization}
-use Rattle.ocpi_types.specs.declared.authorizations.Authorize.{Authorize}
-use Rattle.ocpi_types.specs.declared.packet.Body.TheVariants as body
-use Rattle.ocpi_types.specs.declared.packet.Packet.{Packet}
-use Rattle.ocpi_types.specs.declared.rows.Counter.TheVariants as counter
-use Rattle.ocpi_types.specs.declared.rows.Place.{Place}
-use Rattle.ocpi_types.specs.declared.token.Token.{Token}
-use Rattle.authorization_book.specs.Waits.{IsDue}
-use Rattle.authorization_book.specs.declared.awaited.Awaited.{Awaited}
-use Rattle.authorization_book.specs.declared.waiting.Waiting.TheVariants.{Begins, Ends}
-use Rattle.outbox.specs.Due.{AreExactly}
-use Rattle.node_steps.specs.Acts.{Act, asked, changed}
-use Rattle.node_steps.specs.Drafts.{count_change}
-use Rattle.node_steps.specs.Peers.{IsPeer}
+use Rattle.ocpi_text.specs.{key, last_moment}
+use Rattle.ocpi_types.specs.{Authorization, Authorize, Packet, Place, Token}
+use Rattle.ocpi_types.specs.body
+use Rattle.ocpi_types.specs.counter
+use Rattle.authorization_book.specs.{Awaited, Begins, Ends, IsDue}
+use Rattle.outbox.specs.{AreExactly}
+use Rattle.node_steps.specs.{Act, IsPeer, asked, changed, count_change}
 use Rattle.operator_rows.specs.State.{State}
 use Rattle.operator_steps.specs.Acts.{spent}
 use Rattle.operator_steps.specs.Moves.{Work}
 use Rattle.operator_steps.specs.Sessions.{IsBegun, numbered_sessions}
-use Rattle.session_tables.specs.declared.beginning.Beginning.{Beginning}
-use Rattle.session_tables.specs.Answers.{BeginsByAnswer, BeginsWithoutAnswer, Decided}
-use Rattle.session_tables.specs.Places.{MayTake}
+use Rattle.session_tables.specs.{Beginning, BeginsByAnswer, BeginsWithoutAnswer, Decided, MayTake}
 
 -- the moment by which an authorization that is asked for is answered
 abbrev pub answer_deadline : ℕ → ℕ

@@ -1,30 +1,22 @@
 -- What a charge point reports to its operator (OCPI 2.2.1, Commands: the results of commands).
 use Rattle.std.specs.Prelude.{◌≡◌, ℕ, ◌+◌, List, [], ◌∷◌, ◌++◌, Option, Some, None}
 use Rattle.std.specs.FinMap.{get}
-use Rattle.ocpi_text.specs.Text.{key}
-use Rattle.ocpi_types.specs.declared.events.ChargerEvent.{ChargerEvent}
-use Rattle.ocpi_types.specs.declared.events.ChargerEvent.TheVariants as event
-use Rattle.ocpi_types.specs.declared.commands.Command.{Command}
-use Rattle.ocpi_types.specs.declared.commands.Command.TheVariants as command
-use Rattle.ocpi_types.specs.declared.stored.OpenCommand.{OpenCommand}
-use Rattle.ocpi_types.specs.declared.words.CommandResultType.{CommandResultType}
-use Rattle.ocpi_types.specs.declared.words.CommandResultType.TheVariants as result
-use Rattle.site_book.specs.declared.claim.Claim.TheVariants.{OpenStart}
+use Rattle.ocpi_text.specs.{key}
+use Rattle.ocpi_types.specs.{ChargerEvent, Command, CommandResultType, OpenCommand, Place, Token}
+use Rattle.ocpi_types.specs.event
+use Rattle.ocpi_types.specs.command
+use Rattle.ocpi_types.specs.result
+use Rattle.site_book.specs.{OpenStart}
 use Rattle.operator_steps.specs.declared.ending.Ending.{Ending}
-use Rattle.operator_rows.specs.State.{State, Rows, HasClaim}
-use Rattle.node_steps.specs.Acts.{Act}
+use Rattle.operator_rows.specs.{HasClaim}
+use Rattle.operator_rows.specs.State.{State, Rows}
+use Rattle.node_steps.specs.{Act}
 use Rattle.operator_steps.specs.Ends.{IsOfSite, ends_acts}
-use Rattle.ocpi_types.specs.declared.rows.Place.{Place}
-use Rattle.ocpi_types.specs.declared.token.Token.{Token}
 use Rattle.operator_steps.specs.Asking.{IsAsked}
 use Rattle.operator_steps.specs.Moves.{Out, StepBy, Work, quiet}
 use Rattle.operator_steps.specs.Sessions.{IsBegun, IsMoved, numbered_sessions}
-use Rattle.session_tables.specs.declared.beginning.Beginning.{Beginning}
-use Rattle.session_tables.specs.declared.shown.Shown.{Shown}
-use Rattle.session_tables.specs.declared.shown.Shown.TheVariants.{Nothing, Begins, Asks}
+use Rattle.session_tables.specs.{Asks, Beginning, Begins, MovesNone, Nothing, Shown, SwipeLine}
 use Rattle.session_tables.specs.Accepts.{Accepts}
-use Rattle.session_tables.specs.Moves.{MovesNone}
-use Rattle.session_tables.specs.Swipes.{SwipeLine}
 
 -- how a command ends that the charge point carries out, but for a start, which begins a session
 abbrev pub accepted : Command → Option CommandResultType

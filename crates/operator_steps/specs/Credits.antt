@@ -2,19 +2,12 @@
 -- interface).
 use Rattle.std.specs.Prelude.{◌≡◌, ◌<◌, ◌≤◌, ℕ, ◌+◌, List, [], ◌∷◌, length, Some, None}
 use Rattle.std.specs.FinMap.{get}
-use Rattle.ocpi_text.specs.Moment.{last_moment}
-use Rattle.ocpi_text.specs.Text.{key}
-use Rattle.ocpi_types.specs.Credits.{credit_at, credit_id}
-use Rattle.ocpi_types.specs.Stamps.{next_stamp}
-use Rattle.ocpi_types.specs.declared.cdrs.Cdr.{Cdr}
-use Rattle.ocpi_types.specs.declared.rows.Change.TheVariants.{Put}
-use Rattle.ocpi_types.specs.declared.rows.Row.TheVariants as row
-use Rattle.ocpi_types.specs.declared.sessions.Session.{Session}
-use Rattle.ocpi_types.specs.declared.stored.Push.TheVariants as push
-use Rattle.ocpi_types.specs.declared.words.SessionStatus.TheVariants.{Completed}
+use Rattle.ocpi_text.specs.{key, last_moment}
+use Rattle.ocpi_types.specs.{Cdr, Completed, Put, Session, credit_at, credit_id, next_stamp}
+use Rattle.ocpi_types.specs.row
+use Rattle.ocpi_types.specs.push
 use Rattle.session_book.specs.Records.{HasCredit, IsSoleBill}
-use Rattle.node_steps.specs.Acts.{Act, changed, pushed}
-use Rattle.node_steps.specs.Peers.{IsPeer}
+use Rattle.node_steps.specs.{Act, IsPeer, changed, pushed}
 use Rattle.operator_rows.specs.State.{Rows, State}
 use Rattle.operator_steps.specs.Moves.{Out, Quietly, StepBy}
 

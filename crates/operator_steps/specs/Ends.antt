@@ -2,13 +2,13 @@
 use Rattle.std.specs.Prelude.{◌≡◌, ℕ, map, List, [], ◌∷◌, Option, Some, None, Contains}
 use Rattle.std.specs.List.{flat_map}
 use Rattle.std.specs.FinMap.{get}
-use Rattle.ocpi_text.specs.Text.{key}
-use Rattle.ocpi_types.specs.declared.stored.OpenCommand.{OpenCommand}
+use Rattle.ocpi_text.specs.{key}
+use Rattle.ocpi_types.specs.{OpenCommand}
 use Rattle.command_book.specs.Stored as book
 use Rattle.outbox.specs.Pushes.{Pushes}
-use Rattle.outbox.specs.declared.push_book.Outgoing.{Outgoing}
-use Rattle.reservation_book.specs.declared.standing.Standing.{Standing}
-use Rattle.node_steps.specs.Acts.{Act, in_turn, resent}
+use Rattle.outbox.specs.{Outgoing}
+use Rattle.reservation_book.specs.{Standing}
+use Rattle.node_steps.specs.{Act, in_turn, resent}
 use Rattle.operator_rows.specs.State.{Rows}
 use Rattle.operator_steps.specs.declared.ending.Ending.{Ending}
 use Rattle.operator_steps.specs.Acts.{closed, freed, settled, url_of}

@@ -1,10 +1,8 @@
 -- The events of an operator, each with what it may leave.
 use Rattle.std.specs.Prelude.{◌≡◌, ℕ, Bool, List}
-use Rattle.ocpi_types.specs.declared.events.ChargerEvent.{ChargerEvent}
-use Rattle.ocpi_types.specs.declared.packet.Packet.{Packet}
-use Rattle.ocpi_types.specs.declared.rows.Change.{Change}
+use Rattle.ocpi_types.specs.{Change, ChargerEvent, Packet}
 use Rattle.operator_rows.specs.State.{State}
-use Rattle.operator_rows.specs.Steps.{restarted}
+use Rattle.operator_rows.specs.{restarted}
 use Rattle.operator_steps.specs.Moves.{Out, Quietly, StepBy, Work, idle}
 use Rattle.operator_steps.specs.Steps.{Comes}
 use Rattle.operator_steps.specs.Charger.{ChargerLine}

@@ -1,10 +1,8 @@
 -- What follows for each step of an operator.
 use Rattle.std.specs.Prelude.{ℕ, List, Bool}
-use Rattle.ocpi_types.specs.declared.events.ChargerEvent.{ChargerEvent}
-use Rattle.ocpi_types.specs.declared.packet.Packet.{Packet}
+use Rattle.ocpi_types.specs.{ChargerEvent, Packet}
 use Rattle.operator_rows.specs.State.{State}
-use Rattle.operator_rows.specs.Sound.{IsConsistent}
-use Rattle.operator_rows.specs.Steps.{MayFollowFull}
+use Rattle.operator_rows.specs.{IsConsistent, MayFollowFull}
 use Rattle.operator_steps.specs.Moves.{AreInRange, Quietly, Stage, Work, step_of_work}
 use Rattle.operator_steps.specs.Steps.{Comes}
 use Rattle.operator_steps.specs.Charger.{ChargerLine}

@@ -1,9 +1,7 @@
 -- When an operator refuses an event.
 use Rattle.std.specs.Prelude.{ℕ, List, ⊤}
-use Rattle.ocpi_types.specs.declared.packet.Packet.{Packet}
-use Rattle.ocpi_types.specs.declared.events.ChargerEvent.{ChargerEvent}
-use Rattle.node_steps.specs.declared.fault.NodeFault.{NodeFault}
-use Rattle.node_steps.specs.declared.fault.NodeFault.TheVariants.{NotForMe, UnknownOperator, UnknownToken, StampEnd, NumbersUsedUp, Memory}
+use Rattle.ocpi_types.specs.{ChargerEvent, Packet}
+use Rattle.node_steps.specs.{Memory, NodeFault, NotForMe, NumbersUsedUp, StampEnd, UnknownOperator, UnknownToken}
 use Rattle.operator_rows.specs.State.{State}
 use Rattle.operator_steps.specs.Charger.{ChargerLine}
 use Rattle.operator_steps.specs.Credits.{CreditLine, HasNoCreditStamp}

@@ -1,16 +1,12 @@
 -- What the acts of a step come to.
 use Rattle.std.specs.Prelude.{◌≡◌, ◌≤◌, ℕ, List, [], ◌∷◌, ◌++◌, Contains}
-use Rattle.ocpi_text.specs.Whole.{max_whole}
-use Rattle.ocpi_types.specs.declared.packet.Packet.{Packet}
-use Rattle.ocpi_types.specs.declared.rows.Change.{Change}
-use Rattle.ocpi_types.specs.declared.rows.Change.TheVariants.{Put}
-use Rattle.ocpi_types.specs.declared.rows.Counter.{Counter}
-use Rattle.ocpi_types.specs.declared.rows.Row.TheVariants as row
-use Rattle.authorization_book.specs.declared.waiting.Waiting.{Waiting}
-use Rattle.node_steps.specs.Acts.{Act, all_changes}
-use Rattle.node_steps.specs.Drafts.{Counters, IsInRange, Step, counted, step_by}
+use Rattle.ocpi_text.specs.{max_whole}
+use Rattle.ocpi_types.specs.{Change, Counter, Packet, Put}
+use Rattle.ocpi_types.specs.row
+use Rattle.authorization_book.specs.{Waiting}
+use Rattle.node_steps.specs.{Act, Counters, IsInRange, Step, all_changes, counted, step_by}
 use Rattle.operator_rows.specs.State.{State}
-use Rattle.operator_rows.specs.Steps.{FullStep, after_full}
+use Rattle.operator_rows.specs.{FullStep, after_full}
 
 -- what a step leaves, the changes of rows that it makes, and the packets that it sends, in order
 pub record Out : Type 0 where

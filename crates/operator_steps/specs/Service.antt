@@ -1,10 +1,10 @@
 -- An EVSE goes out of service, or comes back.
 use Rattle.std.specs.Prelude.{◌≡◌, ℕ, Bool, true, false, List, [], ◌∷◌}
-use Rattle.ocpi_types.specs.declared.rows.Change.TheVariants.{Put, Drop}
-use Rattle.ocpi_types.specs.declared.rows.Row.TheVariants as row
-use Rattle.ocpi_types.specs.declared.rows.RowKey.TheVariants as keys
-use Rattle.site_book.specs.Sites.{IsEvse, works}
-use Rattle.node_steps.specs.Acts.{Act, changed}
+use Rattle.ocpi_types.specs.{Drop, Put}
+use Rattle.ocpi_types.specs.row
+use Rattle.ocpi_types.specs.keys
+use Rattle.site_book.specs.{IsEvse, works}
+use Rattle.node_steps.specs.{Act, changed}
 use Rattle.operator_rows.specs.State.{State}
 use Rattle.operator_steps.specs.Moves.{Out, Quietly, StepBy}
 

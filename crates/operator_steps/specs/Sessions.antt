@@ -1,32 +1,19 @@
 -- What an operator does where a session begins, goes on or ends: its acts (OCPI 2.2.1, Sessions: Sender interface;
 -- CDRs: Sender interface).
 use Rattle.std.specs.Prelude.{◌≡◌, ◌≢◌, ◌<◌, ℕ, ◌+◌, List, [], ◌∷◌, ◌++◌, Option, Some, None}
-use Rattle.ocpi_text.specs.Moment.{last_moment}
-use Rattle.ocpi_text.specs.OwnIds.{own_id_text}
-use Rattle.ocpi_text.specs.Text.{key}
-use Rattle.ocpi_text.specs.declared.own_ids.OwnIdKind.TheVariants as own
-use Rattle.ocpi_types.specs.declared.cdrs.Cdr.{Cdr}
-use Rattle.ocpi_types.specs.declared.events.ChargerEvent.{ChargerEvent}
-use Rattle.ocpi_types.specs.declared.rows.Change.TheVariants.{Put}
-use Rattle.ocpi_types.specs.declared.rows.Counter.TheVariants as counter
-use Rattle.ocpi_types.specs.declared.rows.Row.TheVariants as row
-use Rattle.ocpi_types.specs.declared.sessions.Session.{Session}
-use Rattle.ocpi_types.specs.declared.site.Connector.{Connector}
-use Rattle.ocpi_types.specs.declared.site.Evse.{Evse}
-use Rattle.ocpi_types.specs.declared.site.Location.{Location}
-use Rattle.ocpi_types.specs.declared.stored.Push.TheVariants as push
-use Rattle.ocpi_types.specs.declared.words.SessionStatus.TheVariants.{Completed}
-use Rattle.session_state.specs.Records.{cdr_of}
-use Rattle.session_state.specs.Versions.{first_version}
-use Rattle.outbox.specs.Pushes.{IsReplaced, subject}
-use Rattle.node_steps.specs.Acts.{Act, acknowledged, changed, pushed}
-use Rattle.node_steps.specs.Peers.{IsPeer}
+use Rattle.ocpi_text.specs.{key, last_moment, own_id_text}
+use Rattle.ocpi_text.specs.own
+use Rattle.ocpi_types.specs.{Cdr, ChargerEvent, Completed, Connector, Evse, Location, Put, Session}
+use Rattle.ocpi_types.specs.counter
+use Rattle.ocpi_types.specs.row
+use Rattle.ocpi_types.specs.push
+use Rattle.session_state.specs.{cdr_of, first_version}
+use Rattle.outbox.specs.{IsReplaced, subject}
+use Rattle.node_steps.specs.{Act, IsPeer, acknowledged, changed, pushed}
 use Rattle.operator_rows.specs.State.{State}
 use Rattle.operator_steps.specs.Acts.{used}
-use Rattle.session_tables.specs.declared.beginning.Beginning.{Beginning}
-use Rattle.session_tables.specs.Beginnings.{opening_of}
+use Rattle.session_tables.specs.{Beginning, IsConnectorAt, cdr_location_of, opening_of}
 use Rattle.session_tables.specs.Moves.{Moves}
-use Rattle.session_tables.specs.Places.{IsConnectorAt, cdr_location_of}
 
 -- the push of an older version, where one stands, is sent no more
 abbrev pub replaced : Option ℕ → List Act

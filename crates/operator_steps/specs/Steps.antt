@@ -1,26 +1,18 @@
 -- What a packet makes an operator do.
 use Rattle.std.specs.Prelude.{◌≡◌, ◌≢◌, ◌⊎◌, ℕ, List, [], ◌∷◌, Some, None}
 use Rattle.std.specs.FinMap.{get}
-use Rattle.ocpi_text.specs.Text.{key}
-use Rattle.ocpi_types.specs.declared.packet.Packet.{Packet}
-use Rattle.ocpi_types.specs.declared.packet.Body.{Body}
-use Rattle.ocpi_types.specs.declared.packet.Body.TheVariants as body
-use Rattle.ocpi_types.specs.declared.replies.Ack.{Ack}
-use Rattle.ocpi_types.specs.declared.commands.Command.{Command}
-use Rattle.ocpi_types.specs.declared.stored.Reply.{Reply}
-use Rattle.ocpi_types.specs.declared.authorizations.Authorization.{Authorization}
-use Rattle.ocpi_types.specs.declared.rows.Change.TheVariants.{Put}
-use Rattle.ocpi_types.specs.declared.rows.Row.TheVariants as row
-use Rattle.ocpi_types.specs.declared.stored.Reply.TheVariants as reply
-use Rattle.ocpi_types.specs.declared.token.Token.{Token}
-use Rattle.token_desk.specs.Putting.{IsNewer, IsNotNewer}
-use Rattle.authorization_book.specs.declared.awaited.Awaited.{Awaited}
-use Rattle.outbox.specs.Outbox.{IsTo}
-use Rattle.node_steps.specs.Acts.{Act, acknowledged, answered, changed, repeated}
-use Rattle.node_steps.specs.Peers.{IsPeer}
+use Rattle.ocpi_text.specs.{key}
+use Rattle.ocpi_types.specs.{Ack, Authorization, Body, Command, Packet, Put, Reply, Token}
+use Rattle.ocpi_types.specs.body
+use Rattle.ocpi_types.specs.row
+use Rattle.ocpi_types.specs.reply
+use Rattle.token_desk.specs.{IsNewer, IsNotNewer}
+use Rattle.authorization_book.specs.{Awaited}
+use Rattle.outbox.specs.{IsTo}
+use Rattle.node_steps.specs.{Act, IsPeer, acknowledged, answered, changed, repeated}
 use Rattle.operator_rows.specs.State.{State}
 use Rattle.operator_tables.specs.Decides.{Decides}
-use Rattle.operator_tables.specs.declared.decision.Decision.{Decision}
+use Rattle.operator_tables.specs.{Decision}
 use Rattle.operator_steps.specs.Acts.{decided_acts}
 use Rattle.operator_steps.specs.Asking.{IsAnswered, IsAwaited}
 use Rattle.operator_steps.specs.Moves.{Out, StepBy, Work, quiet}

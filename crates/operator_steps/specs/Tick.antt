@@ -1,13 +1,13 @@
 -- What the time does at an operator, stage by stage.
 use Rattle.std.specs.Prelude.{◌≡◌, ◌≤◌, ℕ, List, [], ◌∷◌, map, Contains}
-use Rattle.ocpi_types.specs.declared.words.CommandResultType.TheVariants.{Timeout}
+use Rattle.ocpi_types.specs.{Timeout}
 use Rattle.command_book.specs.Stored as book
 use Rattle.command_book.specs.Due.{AreDue}
-use Rattle.outbox.specs.Due.{AreExactly, IsDue}
-use Rattle.reservation_book.specs.declared.standing.Standing.{Standing}
-use Rattle.reservation_book.specs.Calls.{AreExpired}
-use Rattle.node_steps.specs.Acts.{Act}
-use Rattle.operator_rows.specs.State.{State, as_outbox}
+use Rattle.outbox.specs.{AreExactly, IsDue}
+use Rattle.reservation_book.specs.{AreExpired, Standing}
+use Rattle.node_steps.specs.{Act}
+use Rattle.operator_rows.specs.{as_outbox}
+use Rattle.operator_rows.specs.State.{State}
 use Rattle.operator_steps.specs.declared.ending.Ending.{Ending}
 use Rattle.operator_steps.specs.Ends.{IsOfSite, all_resent, ends_acts, expired_acts}
 use Rattle.operator_steps.specs.Asking.{Deadlines}

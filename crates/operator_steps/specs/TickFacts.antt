@@ -1,31 +1,25 @@
 -- What a moment comes to, read from the state before it.
 use Rattle.std.specs.Prelude.{◌≡◌, ◌↔◌, ℕ, ◌+◌, length, map, List, [], ◌∷◌, ◌++◌, Option, Some, None, Contains}
 use Rattle.std.specs.FinMap.{get}
-use Rattle.ocpi_text.specs.Text.{key}
-use Rattle.ocpi_types.specs.declared.rows.Change.TheVariants.{Drop}
-use Rattle.ocpi_types.specs.declared.rows.Counter.TheVariants as counter
-use Rattle.ocpi_types.specs.declared.rows.RowKey.TheVariants as keys
+use Rattle.ocpi_text.specs.{key}
+use Rattle.ocpi_types.specs.{Drop}
+use Rattle.ocpi_types.specs.counter
+use Rattle.ocpi_types.specs.keys
 use Rattle.authorization_book.specs.Waits as waits
-use Rattle.authorization_book.specs.declared.awaited.Awaited.{Awaited}
-use Rattle.authorization_book.specs.declared.waiting.Waiting.TheVariants.{Ends}
+use Rattle.authorization_book.specs.{Awaited, Ends}
 use Rattle.command_book.specs.Stored as book
 use Rattle.command_book.specs.Due.{AreDue}
-use Rattle.outbox.specs.Due.{AreExactly, IsDue}
-use Rattle.reservation_book.specs.Calls.{AreExpired}
-use Rattle.reservation_book.specs.declared.standing.Standing.{Standing}
-use Rattle.node_steps.specs.Acts.{Act, all_changes, changed}
-use Rattle.node_steps.specs.Drafts.{count_change}
-use Rattle.node_steps.specs.Peers.{HasPeer}
-use Rattle.operator_rows.specs.State.{State, as_outbox}
-use Rattle.operator_rows.specs.Sound.{IsConsistent}
+use Rattle.outbox.specs.{AreExactly, IsDue}
+use Rattle.reservation_book.specs.{AreExpired, Standing}
+use Rattle.node_steps.specs.{Act, HasPeer, all_changes, changed, count_change}
+use Rattle.operator_rows.specs.{IsConsistent, as_outbox}
+use Rattle.operator_rows.specs.State.{State}
 use Rattle.operator_steps.specs.declared.ending.Ending.{Ending}
 use Rattle.operator_steps.specs.Ends.{all_resent, ends_acts, expired_acts}
 use Rattle.operator_steps.specs.Moves.{Work}
 use Rattle.operator_steps.specs.Sessions.{IsBegun}
 use Rattle.operator_steps.specs.Tick.{TickLine, TimeOut}
-use Rattle.session_tables.specs.declared.beginning.Beginning.{Beginning}
-use Rattle.session_tables.specs.Answers.{BeginsWithoutAnswer, Decided}
-use Rattle.session_tables.specs.Places.{MayTakeAt}
+use Rattle.session_tables.specs.{Beginning, BeginsWithoutAnswer, Decided, MayTakeAt}
 
 -- whether a session begins where the authorization that is awaited under that number gets no answer, read before the
 -- moment: the claims that end by the moment are passed over

@@ -1,41 +1,24 @@
 -- Rows that are bad are those of no operator of the site, and those of an operator make the very same.
-use Rattle.std.proofs.Common.{◌≡◌, ◌≢◌, ◌≤◌, ℕ, zero, suc, Bool, true, false, List, ◌⊎◌, inl, inr, refl, sym, ap, subst, ◌∙◌, arith}
-use Rattle.std.specs.Prelude.{Some, Contains, IsTrue, is_some, slice_get}
+use Rattle.std.proofs.Common.{◌≡◌, ◌≢◌, ◌≤◌, ℕ, zero, suc, Bool, true, false, List, ◌⊎◌, inl, inr, refl, sym, ap, subst}
+use Rattle.std.proofs.Common.{◌∙◌, arith, Some, Contains, IsTrue, is_some, slice_get}
 use Rattle.std.specs.FinMap.{get, contains_key}
 use Rattle.std.proofs.lemmas.Option.{slice_get_within, get_or_from_slice_get}
-use Rattle.ocpi_text.specs.OwnIds.{own_id_text}
-use Rattle.ocpi_text.specs.Text.{key}
-use Rattle.ocpi_text.specs.declared.own_ids.OwnIdKind.TheVariants as own
-use Rattle.ocpi_types.specs.Credits.{IsBill, IsCredit, is_credit}
-use Rattle.ocpi_types.specs.declared.cdrs.Cdr.{Cdr}
-use Rattle.ocpi_types.specs.declared.sessions.Session.{Session}
-use Rattle.ocpi_types.specs.declared.site.Evse.{Evse}
-use Rattle.ocpi_types.specs.declared.site.Location.{Location}
-use Rattle.ocpi_types.specs.declared.site.SiteLine.{SiteLine}
-use Rattle.ocpi_types.specs.declared.rows.Counter.{Counter}
-use Rattle.ocpi_types.specs.declared.rows.Counter.TheVariants as counter
-use Rattle.ocpi_types.specs.declared.rows.Row.{Row}
-use Rattle.ocpi_types.specs.declared.rows.Row.TheVariants as row
-use Rattle.ocpi_types.specs.declared.rows.RowKey.{RowKey}
-use Rattle.ocpi_types.specs.declared.rows.RowKey.TheVariants as keys
-use Rattle.ocpi_types.specs.declared.stored.OpenCommand.{OpenCommand}
-use Rattle.ocpi_types.specs.declared.stored.Reply.{Reply}
-use Rattle.ocpi_types.specs.declared.words.CommandResultType.{CommandResultType}
-use Rattle.ocpi_types.specs.declared.words.SessionStatus.TheVariants.{Completed}
-use Rattle.session_state.specs.Costs.{price_of}
-use Rattle.site_book.specs.Sites.{IsConnectorOf, IsEvse, IsEvseOf, IsSiteOf}
-use Rattle.site_book.specs.declared.claim.Claim.{Claim}
+use Rattle.ocpi_text.specs.{key, own_id_text}
+use Rattle.ocpi_text.specs.own
+use Rattle.ocpi_types.specs.{Cdr, CommandResultType, Completed, Counter, Evse, IsBill, IsCredit, Location, OpenCommand}
+use Rattle.ocpi_types.specs.{Reply, Row, RowKey, Session, SiteLine, is_credit}
+use Rattle.ocpi_types.specs.counter
+use Rattle.ocpi_types.specs.row
+use Rattle.ocpi_types.specs.keys
+use Rattle.session_state.specs.{price_of}
+use Rattle.site_book.specs.{Claim, IsConnectorOf, IsEvse, IsEvseOf, IsSiteOf}
 use Rattle.tables.proofs.Options.{known, none_contained, not_both}
-use Rattle.token_desk.specs.Tokens.{token_key}
-use Rattle.stored_rows.specs.Given.{IsNotGiven, IsOwnId}
-use Rattle.stored_rows.specs.Records.{IsRecordId}
-use Rattle.stored_rows.specs.declared.fault.BadReason.{BadReason}
+use Rattle.token_desk.specs.{token_key}
+use Rattle.stored_rows.specs.{BadReason, IsNotGiven, IsOwnId, IsRecordId}
 use Rattle.stored_rows.proofs.RecordNumbers.{bill_made, credit_made, same_bill}
 use Rattle.stored_rows.proofs.Repeated.{none_repeated}
-use Rattle.operator_rows.specs.Rows.{AreRowsOf, HasRow}
-use Rattle.operator_rows.specs.Sound.{HasPlace, IsSound, with_rows}
-use Rattle.operator_rows.specs.State.{HasClaim, IsStart, Rows, State, opening}
-use Rattle.operator_rows.specs.Steps.{restarted}
+use Rattle.operator_rows.specs.{AreRowsOf, HasClaim, HasPlace, HasRow, IsSound, IsStart, opening, restarted, with_rows}
+use Rattle.operator_rows.specs.State.{Rows, State}
 use Rattle.operator_rows.proofs.KeepingTimes.{restarted_consistent}
 use Rattle.operator_stored.specs.Bad.{IsBad, IsForeign, MakesClaim}
 use Rattle.operator_stored.specs.Bad.{Repeated, Foreign, NothingCounted, PushNotGiven, SessionNotGiven, CdrNotGiven, SessionOfOther, CdrOfOther, SessionIdNotOwn, CdrIdNotOwn}

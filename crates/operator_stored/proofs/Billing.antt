@@ -1,6 +1,7 @@
 -- The bills and credits of sessions, gathered row by row.
-use Rattle.std.proofs.Common.{◌≡◌, ◌↔◌, ◌⊎◌, inl, inr, ℕ, ◌+◌, ◌<◌, ◌≤◌, List, length, get_or, Bool, true, false, true≢false, nat_eq, ◌||◌, MatchBool, refl, sym, ap, subst, ◌∙◌, arith}
-use Rattle.std.specs.Prelude.{Some, Contains, IsTrue, is_some, slice_get}
+use Rattle.std.proofs.Common.{◌≡◌, ◌↔◌, ◌⊎◌, inl, inr, ℕ, ◌+◌, ◌<◌, ◌≤◌, List, length, get_or, Bool, true, false}
+use Rattle.std.proofs.Common.{true≢false, nat_eq, ◌||◌, MatchBool, refl, sym, ap, subst, ◌∙◌, arith, Some, Contains}
+use Rattle.std.proofs.Common.{IsTrue, is_some, slice_get}
 use Rattle.std.specs.Cmp.{eq_by_cmp_equiv}
 use Rattle.std.specs.Cmp.Lexicographic.{pointwise}
 use Rattle.std.proofs.lemmas.Slice.Eq.{bytes_eq-Decides}
@@ -11,19 +12,14 @@ use Rattle.std.proofs.lemmas.Bool.{cases_lt}
 use Rattle.std.proofs.lemmas.Option.{slice_get-get_or}
 use Rattle.tables.proofs.Maps.{equal_of_is_eq, get-insert_other, get-insert_same, of_insert}
 use Rattle.tables.proofs.Options.{known, none_some}
-use Rattle.tables.specs.Keys.{text_cmp, text_exact, text_total}
-use Rattle.ocpi_text.specs.Text.{key}
-use Rattle.ocpi_types.specs.Credits.{AreAlike, IsBill, IsCredit, credit_id, is_credit}
-use Rattle.ocpi_types.specs.Rows.{key_of}
-use Rattle.ocpi_types.specs.declared.cdrs.Cdr.{Cdr}
-use Rattle.ocpi_types.specs.declared.rows.Row.{Row}
-use Rattle.ocpi_types.specs.declared.rows.Row.TheVariants as row
-use Rattle.ocpi_types.specs.declared.rows.RowKey.{RowKey}
-use Rattle.ocpi_types.specs.declared.sessions.Session.{Session}
-use Rattle.ocpi_types.specs.declared.words.SessionStatus.TheVariants.{Completed}
+use Rattle.tables.specs.{text_cmp, text_exact, text_total}
+use Rattle.ocpi_text.specs.{key}
+use Rattle.ocpi_types.specs.{AreAlike, Cdr, Completed, IsBill, IsCredit, Row, RowKey, Session, credit_id, is_credit}
+use Rattle.ocpi_types.specs.{key_of}
+use Rattle.ocpi_types.specs.row
 use Rattle.stored_rows.proofs.RecordNumbers.{same_bill}
-use Rattle.stored_rows.specs.declared.fault.BadReason.{BadReason}
-use Rattle.stored_rows.specs.declared.fault.BadReason.TheVariants as reason
+use Rattle.stored_rows.specs.{BadReason}
+use Rattle.stored_rows.specs.reason
 use Rattle.operator_stored.proofs.BadRows.{at_place, bill_or_credit}
 use Rattle.operator_stored.specs.Bills.{Agrees, AreBilledBy, AreBillsOf, AreThose, BillOf, Bills, BillsTwice, CreditOf, Disagrees, EndOf, HasEnded, HasBill, HasId, HasItsBill, HaveAlso, InSet}
 use Rattle.operator_stored.specs.Bills.{IsAgain, IsAgainAs, IsBacked, IsMisbilled, Alone, BilledTwice, CreditedTwice, Early, Never, has_alike}
@@ -60,10 +56,6 @@ one_added old new id P is its sole = λ q. (
   λ y. subst (λ (s : FinSet text_cmp). IsTrue (contains s q)) (sym is) ((inserted_has old id q).1 (elim y [ inl had ↦ inl had | inr p ↦ inr (sole q p) ])),
 )
 
--- none is
-pub none_added : {K : Type 0} (Has P : K → Type 0) → ((q : K) → P q → ⊥) → HaveAlso Has Has P
-none_added Has P none = λ q. (λ h. inl h, λ y. elim y [ inl had ↦ had | inr p ↦ absurd (none q p) ])
-
 same_record : (x y : Cdr) → row.Cdr x ≡ row.Cdr y → x ≡ y
 same_record x y e = cc
 
@@ -91,13 +83,6 @@ credit_added old new x credit added =
     one_added old new (key x.session_id) (CreditOf (row.Cdr x)) added (x, refl, credit, refl)
     (λ q b. ap (λ (y : Cdr). key y.session_id) (same_record x b.0 b.1) ∙ b.3)
 
--- a credit is no bill, and a bill no credit
-pub no_bill_added : (m : Bills) (x : Cdr) → IsCredit x → HaveAlso (HasId m) (HasId m) (BillOf (row.Cdr x))
-no_bill_added m x credit = none_added (HasId m) (BillOf (row.Cdr x)) (λ b h. true≢false (sym credit ∙ ap is_credit (same_record x h.0 h.1) ∙ h.2))
-
-pub no_credit_added : (s : FinSet text_cmp) (x : Cdr) → IsBill x → HaveAlso (InSet s) (InSet s) (CreditOf (row.Cdr x))
-no_credit_added s x bill = none_added (InSet s) (CreditOf (row.Cdr x)) (λ q h. true≢false (sym h.2 ∙ ap is_credit (sym (same_record x h.0 h.1)) ∙ bill))
-
 -- of a bill that is the first none is there
 pub first_bill : (m : Bills) (s : FinSet text_cmp) (x : Cdr) → IsBill x → (IsAgain m s (row.Cdr x) → ⊥) → map.contains_key m (key x.session_id) ≡ false
 first_bill m s x bill first = elim (known (map.get m (key x.session_id))) [
@@ -109,10 +94,6 @@ pub end_added : (old new : FinSet text_cmp) (v : Session) → v.status ≡ Compl
 end_added old new v done added =
     one_added old new (key v.id) (EndOf (row.Session v)) added (v, refl, refl, done)
     (λ q b. let e : row.Session v ≡ row.Session b.0 = b.1 in let one : v ≡ b.0 = cc in ap (λ (y : Session). key y.id) one ∙ b.2)
-
-pub end_not_added : (s : FinSet text_cmp) (v : Session) → (v.status ≡ Completed → ⊥) → HaveAlso (InSet s) (InSet s) (EndOf (row.Session v))
-end_not_added s v open_yet = none_added (InSet s) (EndOf (row.Session v))
-    (λ q b. let e : row.Session v ≡ row.Session b.0 = b.1 in let one : v ≡ b.0 = cc in open_yet (ap (λ (y : Session). y.status) one ∙ b.3))
 
 -- a row of which that holds, among those before a place
 module _ {K : Type 0} where
@@ -254,12 +235,6 @@ ended_by rows n s all ids = λ id. (
 )
 
 -- ---- what rows ask of them
-pub record_agrees : (m : Bills) (ended : FinSet text_cmp) (x : Cdr) → InSet ended (key x.session_id) → (IsCredit x → IsBacked m x) → Agrees m ended (row.Cdr x)
-record_agrees m ended x done backed = record {
-  session = λ v e. absurd (cc);
-  cdr = λ y e. subst (λ (z : Cdr). InSet ended (key z.session_id)) (same_record x y e) done;
-  credit = λ y e. subst (λ (z : Cdr). IsCredit z → IsBacked m z) (same_record x y e) backed;
-}
 
 abbrev pub AgreeBelow : Bills → FinSet text_cmp → List Row → ℕ → Type 0
 AgreeBelow bills ended rows n = (k : ℕ) (r : Row) → k < n → slice_get rows k ≡ Some r → Agrees bills ended r

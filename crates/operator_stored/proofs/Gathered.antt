@@ -1,6 +1,6 @@
 -- Rows of a list, gathered kind by kind: what an operator stores that has just these rows.
-use Rattle.std.proofs.Common.{◌≡◌, ◌≢◌, ◌↔◌, ℕ, zero, suc, List, [], ◌∷◌, get_or, ◌⊎◌, inl, inr, refl, sym, ap, subst, ◌∙◌, arith}
-use Rattle.std.specs.Prelude.{Option, Some, None, Contains}
+use Rattle.std.proofs.Common.{◌≡◌, ◌≢◌, ◌↔◌, ℕ, zero, suc, List, [], ◌∷◌, get_or, ◌⊎◌, inl, inr, refl, sym, ap, subst}
+use Rattle.std.proofs.Common.{◌∙◌, arith, Option, Some, None, Contains}
 use Rattle.std.specs.Cmp.{IsTotalOrder, nat_cmp_total}
 use Rattle.std.specs.List.{AllPairs}
 use Rattle.std.specs.FinMap.{FinMap, IsAntisymmetric, nat_cmp-IsAntisymmetric, get, insert, empty, get-empty}
@@ -8,32 +8,21 @@ use Rattle.std.specs.declared.cmp.Ordering.{Ordering}
 use Rattle.std.proofs.lemmas.Bool.{cases_lt}
 use Rattle.std.proofs.lemmas.List.{get_or_default}
 use Rattle.std.proofs.lemmas.Option.{same_Some}
-use Rattle.ocpi_text.specs.Text.{key}
-use Rattle.tables.specs.Keys.{text_total, text_exact, text_number_total, text_number_exact, text_pair_total, text_pair_exact}
+use Rattle.ocpi_text.specs.{key}
+use Rattle.tables.specs.{text_exact, text_number_exact, text_number_total, text_pair_exact, text_pair_total, text_total}
 use Rattle.tables.proofs.Elements.{in_none, in_front}
 use Rattle.tables.proofs.Maps.{of_insert, get-insert_same, get-insert_other, told}
 use Rattle.tables.proofs.Options.{known, none_some}
-use Rattle.ocpi_types.specs.Rows.{key_of}
-use Rattle.ocpi_types.specs.declared.cdrs.Cdr.{Cdr}
-use Rattle.ocpi_types.specs.declared.sessions.Session.{Session}
-use Rattle.ocpi_types.specs.declared.site.SiteLine.{SiteLine}
-use Rattle.ocpi_types.specs.declared.token.Token.{Token}
-use Rattle.ocpi_types.specs.declared.rows.Counter.{Counter}
-use Rattle.ocpi_types.specs.declared.rows.Counter.TheVariants as counter
-use Rattle.ocpi_types.specs.declared.rows.Row.{Row}
-use Rattle.ocpi_types.specs.declared.rows.Row.TheVariants as row
-use Rattle.ocpi_types.specs.declared.rows.RowKey.{RowKey}
-use Rattle.ocpi_types.specs.declared.rows.RowKey.TheVariants as keys
-use Rattle.ocpi_types.specs.declared.stored.OpenCommand.{OpenCommand}
-use Rattle.ocpi_types.specs.declared.stored.Reply.{Reply}
-use Rattle.ocpi_types.specs.declared.stored.Reservation.{Reservation}
-use Rattle.ocpi_types.specs.declared.words.CommandResultType.{CommandResultType}
-use Rattle.outbox.specs.declared.push_book.Outgoing.{Outgoing}
-use Rattle.token_desk.specs.Tokens.{TokenKey, token_key}
-use Rattle.token_desk.specs.TypeOrder.{tokens_total, tokens_exact}
-use Rattle.stored_rows.specs.declared.fault.BadReason.{BadReason}
+use Rattle.ocpi_types.specs.{Cdr, CommandResultType, Counter, OpenCommand, Reply, Reservation, Row, RowKey, Session}
+use Rattle.ocpi_types.specs.{SiteLine, Token, key_of}
+use Rattle.ocpi_types.specs.counter
+use Rattle.ocpi_types.specs.row
+use Rattle.ocpi_types.specs.keys
+use Rattle.outbox.specs.{Outgoing}
+use Rattle.token_desk.specs.{TokenKey, token_key, tokens_exact, tokens_total}
+use Rattle.stored_rows.specs.{BadReason}
 use Rattle.stored_rows.proofs.Repeated.{all_apart}
-use Rattle.operator_rows.specs.Rows.{AreRowsOf, HasRow}
+use Rattle.operator_rows.specs.{AreRowsOf, HasRow}
 use Rattle.operator_rows.specs.State.{Rows}
 use Rattle.operator_rows.proofs.RowChanges.{of_cons, in_later}
 use Rattle.operator_stored.specs.Bad.{IsBad, CdrOfOther, Foreign, NothingCounted, Repeated, SessionOfOther}

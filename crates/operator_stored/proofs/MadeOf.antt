@@ -1,25 +1,15 @@
 -- The operator that is made of rows, once they are put and their bills are seen to be right.
-use Rattle.std.proofs.Common.{◌≡◌, ℕ, List, refl, sym, ap, subst, ◌∙◌}
-use Rattle.std.specs.Prelude.{Some}
+use Rattle.std.proofs.Common.{◌≡◌, ℕ, List, refl, sym, ap, subst, ◌∙◌, Some}
 use Rattle.std.specs.FinMap.{get}
 use Rattle.std.specs.List.Sorted.{IsPermutation}
 use Rattle.std.proofs.lemmas.List.Sorted.{Contains-permutation, IsPermutation-sym}
-use Rattle.ocpi_text.specs.Text.{key}
-use Rattle.ocpi_types.specs.declared.cdrs.Cdr.{Cdr}
-use Rattle.ocpi_types.specs.declared.sessions.Session.{Session}
-use Rattle.ocpi_types.specs.declared.site.SiteLine.{SiteLine}
-use Rattle.ocpi_types.specs.declared.rows.Row.{Row}
-use Rattle.ocpi_types.specs.declared.rows.Row.TheVariants as row
-use Rattle.ocpi_types.specs.declared.rows.RowKey.{RowKey}
-use Rattle.stored_rows.specs.Faults.{IfBadRows}
-use Rattle.stored_rows.specs.declared.fault.BadReason.{BadReason}
-use Rattle.stored_rows.specs.declared.fault.RowsFault.{RowsFault}
-use Rattle.stored_rows.specs.declared.fault.RowsFault.TheVariants.{BadRows, Memory}
+use Rattle.ocpi_text.specs.{key}
+use Rattle.ocpi_types.specs.{Cdr, Row, RowKey, Session, SiteLine}
+use Rattle.ocpi_types.specs.row
+use Rattle.stored_rows.specs.{BadReason, BadRows, IfBadRows, Memory, RowsFault}
 use Rattle.stored_rows.proofs.Repeated.{apart_permuted}
-use Rattle.operator_rows.specs.Rows.{AreRowsOf}
-use Rattle.operator_rows.specs.Sound.{IsConsistent, IsSound}
+use Rattle.operator_rows.specs.{AreRowsOf, IsConsistent, IsSound, restarted}
 use Rattle.operator_rows.specs.State.{State}
-use Rattle.operator_rows.specs.Steps.{restarted}
 use Rattle.operator_stored.specs.Bad as bad
 use Rattle.operator_stored.specs.Bad.{IsBad, BilledEarly, CreditWithoutBill, Unbilled}
 use Rattle.operator_stored.specs.Bills.{AreBillsOf, IsMisbilled, Alone, BilledTwice, CreditedTwice, Early, Never}

@@ -1,51 +1,33 @@
 -- Rows that are those of no operator of the site are bad: of rows that are not bad one is made.
 use Rattle.std.proofs.Common.{◌≡◌, ◌≢◌, ◌<◌, ◌≤◌, ℕ, List, [], ◌∷◌, ◌⊎◌, inl, inr, refl, sym, ap, subst, ◌∙◌, arith}
-use Rattle.std.specs.Prelude.{Some, Ok, Contains, IsTrue, is_some, slice_get}
+use Rattle.std.proofs.Common.{Some, Ok, Contains, IsTrue, is_some, slice_get}
 use Rattle.std.specs.Cmp.{nat_cmp_total}
 use Rattle.std.specs.Ordering.{nat_cmp}
 use Rattle.std.specs.FinMap.{nat_cmp-IsAntisymmetric, get, contains_key}
 use Rattle.std.proofs.lemmas.Bool.{cases_lt}
 use Rattle.std.proofs.lemmas.Option.{slice_get-get_or}
-use Rattle.ocpi_text.specs.Party.{party_at}
-use Rattle.ocpi_text.specs.Text.{key}
-use Rattle.ocpi_text.specs.Whole.{max_whole}
-use Rattle.ocpi_text.specs.declared.own_ids.OwnIdKind.{OwnIdKind}
-use Rattle.ocpi_text.specs.declared.own_ids.OwnIdKind.TheVariants as own
-use Rattle.tables.specs.Keys.{text_total, text_exact, text_number_total, text_number_exact, text_pair_total, text_pair_exact}
+use Rattle.ocpi_text.specs.{OwnIdKind, key, max_whole, party_at}
+use Rattle.ocpi_text.specs.own
+use Rattle.tables.specs.{text_exact, text_number_exact, text_number_total, text_pair_exact, text_pair_total, text_total}
 use Rattle.tables.proofs.Elements.{in_none, in_front}
 use Rattle.tables.proofs.Maps.{told}
 use Rattle.tables.proofs.Options.{known, none_else}
-use Rattle.ocpi_types.specs.Credits.{AreAlike, IsCredit}
-use Rattle.ocpi_types.specs.declared.cdrs.Cdr.{Cdr}
-use Rattle.ocpi_types.specs.declared.sessions.Session.{Session}
-use Rattle.ocpi_types.specs.declared.site.SiteLine.{SiteLine}
-use Rattle.ocpi_types.specs.declared.token.Token.{Token}
-use Rattle.ocpi_types.specs.declared.rows.Counter.{Counter}
-use Rattle.ocpi_types.specs.declared.rows.Counter.TheVariants as counter
-use Rattle.ocpi_types.specs.declared.rows.Row.{Row}
-use Rattle.ocpi_types.specs.declared.rows.Row.TheVariants as row
-use Rattle.ocpi_types.specs.declared.rows.RowKey.{RowKey}
-use Rattle.ocpi_types.specs.declared.stored.OpenCommand.{OpenCommand}
-use Rattle.ocpi_types.specs.declared.stored.Reply.{Reply}
-use Rattle.ocpi_types.specs.declared.stored.SentCommand.{SentCommand}
-use Rattle.ocpi_types.specs.declared.words.SessionStatus.TheVariants.{Completed}
-use Rattle.site_book.specs.Sites.{IsConnectorOf, IsEvse, IsSiteOf}
-use Rattle.site_book.specs.declared.claim.Claim.{Claim}
-use Rattle.site_book.specs.declared.claim.Claim.TheVariants.{OpenStart, Live, Reserved}
-use Rattle.outbox.specs.Outbox.{AreConsistent}
+use Rattle.ocpi_types.specs.{AreAlike, Cdr, Completed, Counter, IsCredit, OpenCommand, Reply, Row, RowKey, SentCommand}
+use Rattle.ocpi_types.specs.{Session, SiteLine, Token}
+use Rattle.ocpi_types.specs.counter
+use Rattle.ocpi_types.specs.row
+use Rattle.site_book.specs.{Claim, IsConnectorOf, IsEvse, IsSiteOf, Live, OpenStart, Reserved}
+use Rattle.outbox.specs.{AreConsistent}
 use Rattle.outbox.proofs.Timing.{has_none, has_some, has_unit}
-use Rattle.session_state.specs.Versions.{HasCost}
+use Rattle.session_state.specs.{HasCost}
 use Rattle.session_book.specs.Numbers.{id_key}
 use Rattle.session_book.proofs.OwnIds.{ids_differ}
-use Rattle.token_desk.specs.Tokens.{TokenKey, token_key}
-use Rattle.token_desk.specs.TypeOrder.{tokens_total, tokens_exact}
-use Rattle.node_steps.specs.Peers.{HasPeer}
-use Rattle.stored_rows.specs.Given.{IsNotGiven, IsOwnId}
-use Rattle.stored_rows.specs.Records.{IsRecordId}
-use Rattle.stored_rows.specs.declared.fault.BadReason.{BadReason}
-use Rattle.operator_rows.specs.Rows.{HasRow}
-use Rattle.operator_rows.specs.Sound.{HasPlace, IsOwnStart, IsSound, MayBeOpen, MayStand, with_rows}
-use Rattle.operator_rows.specs.State.{HasClaim, IsLive, IsStart, Rows, State, as_outbox, opening}
+use Rattle.token_desk.specs.{TokenKey, token_key, tokens_exact, tokens_total}
+use Rattle.node_steps.specs.{HasPeer}
+use Rattle.stored_rows.specs.{BadReason, IsNotGiven, IsOwnId, IsRecordId}
+use Rattle.operator_rows.specs.{HasClaim, HasPlace, HasRow, IsLive, IsOwnStart, IsSound, IsStart, MayBeOpen, MayStand}
+use Rattle.operator_rows.specs.{as_outbox, opening, with_rows}
+use Rattle.operator_rows.specs.State.{Rows, State}
 use Rattle.operator_rows.proofs.RowChanges.{of_cons, in_later}
 use Rattle.operator_stored.specs.Bad.{IsBad, MakesClaim, PushNotGiven, SessionNotGiven, CdrNotGiven, SessionIdNotOwn, CdrIdNotOwn, PushToStranger, TokenOfStranger}
 use Rattle.operator_stored.specs.Bad.{CommandOfStranger, SessionOfStranger, StartOfOtherToken, ServiceNowhere, ReservationNowhere, StartNowhere, SessionNowhere}

@@ -1,6 +1,6 @@
 -- Rows that are put one after the other, in turn.
-use Rattle.std.proofs.Common.{◌≡◌, ℕ, List, [], ◌∷◌, ◌++◌, inl, inr, refl, sym, ap, subst, ◌∙◌}
-use Rattle.std.specs.Prelude.{Option, Some, None, Contains, Result, IfErr}
+use Rattle.std.proofs.Common.{◌≡◌, ℕ, List, [], ◌∷◌, ◌++◌, inl, inr, refl, sym, ap, subst, ◌∙◌, Option, Some, None}
+use Rattle.std.proofs.Common.{Contains, Result, IfErr}
 use Rattle.std.specs.Result.{IsErrAnd}
 use Rattle.std.proofs.lemmas.Result.{err_from_is_err_and}
 use Rattle.std.specs.Cmp.{nat_cmp_total}
@@ -11,30 +11,19 @@ use Rattle.std.proofs.lemmas.List.Elements.{Contains-append_left, Contains-appen
 use Rattle.tables.proofs.Elements.{in_front, in_single}
 use Rattle.tables.proofs.Maps.{remove_absent}
 use Rattle.tables.proofs.Options.{not_both}
-use Rattle.ocpi_types.specs.Rows.{key_of}
-use Rattle.ocpi_types.specs.declared.rows.Change.{Change}
-use Rattle.ocpi_types.specs.declared.rows.Change.TheVariants.{Put}
-use Rattle.ocpi_types.specs.declared.rows.Counter.TheVariants as counter
-use Rattle.ocpi_types.specs.declared.rows.Row.{Row}
-use Rattle.ocpi_types.specs.declared.rows.Row.TheVariants as row
-use Rattle.ocpi_types.specs.declared.rows.RowKey.{RowKey}
-use Rattle.ocpi_types.specs.declared.site.SiteLine.{SiteLine}
-use Rattle.outbox.specs.Outbox.{request_of, without}
+use Rattle.ocpi_types.specs.{Change, Put, Row, RowKey, SiteLine, key_of}
+use Rattle.ocpi_types.specs.counter
+use Rattle.ocpi_types.specs.row
+use Rattle.outbox.specs.{request_of, without}
 use Rattle.outbox.specs.Resend.{Resend}
-use Rattle.node_steps.specs.Changes.{Each}
-use Rattle.operator_rows.specs.Rows.{HasRow}
-use Rattle.operator_rows.specs.Sound.{IsSound}
-use Rattle.operator_rows.specs.State.{State, no_rows, opening}
-use Rattle.operator_rows.specs.Steps.{after_change}
-use Rattle.operator_rows.specs.Stored.{put_row}
+use Rattle.node_steps.specs.{Each}
+use Rattle.operator_rows.specs.{HasRow, IsSound, after_change, no_rows, opening, put_row}
+use Rattle.operator_rows.specs.State.{State}
 use Rattle.operator_rows.proofs.RowChanges.{row_changes}
 use Rattle.operator_stored.specs.Bad.{IsBad, Repeated}
 use Rattle.operator_stored.specs.Placing.{ArePut, IsFit, IsInTurn, IsNew, IsPlaced, MayAdd, ShowsAs, ShowsBad, Stands}
-use Rattle.stored_rows.specs.Faults.{IfBadRows}
-use Rattle.stored_rows.specs.Turns.{turn_of}
-use Rattle.stored_rows.specs.declared.fault.BadReason.TheVariants as reason
-use Rattle.stored_rows.specs.declared.fault.RowsFault.{RowsFault}
-use Rattle.stored_rows.specs.declared.fault.RowsFault.TheVariants.{BadRows, Memory}
+use Rattle.stored_rows.specs.{BadRows, IfBadRows, Memory, RowsFault, turn_of}
+use Rattle.stored_rows.specs.reason
 use Rattle.stored_rows.proofs.Growing.{is_no_later, none_stand, one_more, stands_before}
 use Rattle.stored_rows.proofs.Repeated.{repeats_this, this_in_other_order}
 

@@ -1,22 +1,18 @@
 -- The rows of an operator tell all that it stores.
-use Rattle.std.proofs.Common.{◌≡◌, ◌≢◌, ◌↔◌, ℕ, zero, suc, List, refl, sym, subst, arith}
-use Rattle.std.specs.Prelude.{Some}
+use Rattle.std.proofs.Common.{◌≡◌, ◌≢◌, ◌↔◌, ℕ, zero, suc, List, refl, sym, subst, arith, Some}
 use Rattle.std.specs.Cmp.{IsTotalOrder, nat_cmp_total}
 use Rattle.std.specs.FinMap.{FinMap, IsAntisymmetric, nat_cmp-IsAntisymmetric, get, same_map}
 use Rattle.std.specs.declared.cmp.Ordering.{Ordering}
-use Rattle.tables.specs.Keys.{text_total, text_exact, text_number_total, text_number_exact, text_pair_total, text_pair_exact}
+use Rattle.tables.specs.{text_exact, text_number_exact, text_number_total, text_pair_exact, text_pair_total, text_total}
 use Rattle.tables.proofs.Options.{same_option}
-use Rattle.ocpi_text.specs.Text.{key}
-use Rattle.ocpi_types.specs.declared.cdrs.Cdr.{Cdr}
-use Rattle.ocpi_types.specs.declared.sessions.Session.{Session}
-use Rattle.ocpi_types.specs.declared.rows.Row.{Row}
-use Rattle.ocpi_types.specs.declared.rows.Row.TheVariants as row
-use Rattle.ocpi_types.specs.declared.rows.Counter.TheVariants as counter
+use Rattle.ocpi_text.specs.{key}
+use Rattle.ocpi_types.specs.{Cdr, Row, Session}
+use Rattle.ocpi_types.specs.row
+use Rattle.ocpi_types.specs.counter
 use Rattle.session_book.specs.Stored as charged
 use Rattle.token_desk.specs.Tokens as desk
-use Rattle.token_desk.specs.Tokens.{token_key}
-use Rattle.token_desk.specs.TypeOrder.{tokens_total, tokens_exact}
-use Rattle.operator_rows.specs.Rows.{AreRowsOf, HasRow}
+use Rattle.token_desk.specs.{token_key, tokens_exact, tokens_total}
+use Rattle.operator_rows.specs.{AreRowsOf, HasRow}
 use Rattle.operator_rows.specs.State.{Rows}
 use Rattle.operator_stored.specs.Making.{RowsTellAll}
 

@@ -1,28 +1,18 @@
 -- Whether a row of a kind and key stands, as it is told by what stands under the key.
-use Rattle.std.proofs.Common.{◌≡◌, ◌≢◌, ℕ, zero, suc, List, nat_eq, Bool, true, false, not, true≢false, MatchBool, ◌⊎◌, inl, inr, refl, sym, ap, subst, ◌∙◌, arith}
-use Rattle.std.specs.Prelude.{Option, Some, None, is_some, option_copied}
+use Rattle.std.proofs.Common.{◌≡◌, ◌≢◌, ℕ, zero, suc, List, nat_eq, Bool, true, false, not, true≢false, MatchBool, ◌⊎◌}
+use Rattle.std.proofs.Common.{inl, inr, refl, sym, ap, subst, ◌∙◌, arith, Option, Some, None, is_some, option_copied}
 use Rattle.std.specs.FinMap.{get}
 use denote.Ref.{Bor}
-use Rattle.ocpi_text.specs.Text.{key}
-use Rattle.ocpi_types.specs.Rows.{key_of}
-use Rattle.ocpi_types.specs.declared.cdrs.Cdr.{Cdr}
-use Rattle.ocpi_types.specs.declared.sessions.Session.{Session}
-use Rattle.ocpi_types.specs.declared.token.Token.{Token}
-use Rattle.ocpi_types.specs.declared.stored.OpenCommand.{OpenCommand}
-use Rattle.ocpi_types.specs.declared.stored.Reply.{Reply}
-use Rattle.ocpi_types.specs.declared.stored.Reservation.{Reservation}
-use Rattle.ocpi_types.specs.declared.words.CommandResultType.{CommandResultType}
-use Rattle.ocpi_types.specs.declared.rows.Counter.{Counter}
-use Rattle.ocpi_types.specs.declared.rows.Row.{Row}
-use Rattle.ocpi_types.specs.declared.rows.Row.TheVariants as row
-use Rattle.ocpi_types.specs.declared.rows.RowKey.{RowKey}
-use Rattle.ocpi_types.specs.declared.rows.RowKey.TheVariants as keys
-use Rattle.site_book.specs.Sites.{OutOfService, works}
-use Rattle.outbox.specs.declared.push_book.Outgoing.{Outgoing}
-use Rattle.token_desk.specs.Tokens.{token_key}
+use Rattle.ocpi_text.specs.{key}
+use Rattle.ocpi_types.specs.{Cdr, CommandResultType, Counter, OpenCommand, Reply, Reservation, Row, RowKey, Session}
+use Rattle.ocpi_types.specs.{Token, key_of}
+use Rattle.ocpi_types.specs.row
+use Rattle.ocpi_types.specs.keys
+use Rattle.site_book.specs.{OutOfService, works}
+use Rattle.outbox.specs.{Outgoing}
+use Rattle.token_desk.specs.{token_key}
 use Rattle.std.proofs.lemmas.Bool.Decides.{nat_tests}
-use Rattle.operator_rows.specs.Rows.{HasCount, HasRow}
-use Rattle.operator_rows.specs.Sound.{IsSound}
+use Rattle.operator_rows.specs.{HasCount, HasRow, IsSound}
 use Rattle.operator_rows.specs.State.{State, Rows}
 use Rattle.operator_stored.specs.Placing.{IsNew, Stands}
 

@@ -1,37 +1,24 @@
 -- What tells that a row may be put, and what that the rows are bad.
-use Rattle.std.proofs.Common.{◌≡◌, ◌≢◌, ℕ, ◌≤◌, ◌<◌, List, Bool, true, false, not, true≢false, is_gt, MatchBool, inl, inr, refl, sym, ap, subst, ◌∙◌, arith}
-use Rattle.std.specs.Prelude.{Option, Some, None, Result, IsTrue, is_some, Contains}
+use Rattle.std.proofs.Common.{◌≡◌, ◌≢◌, ℕ, ◌≤◌, ◌<◌, List, Bool, true, false, not, true≢false, is_gt, MatchBool, inl}
+use Rattle.std.proofs.Common.{inr, refl, sym, ap, subst, ◌∙◌, arith, Option, Some, None, Result, IsTrue, is_some}
+use Rattle.std.proofs.Common.{Contains}
 use Rattle.std.specs.FinMap.{get, contains_key, get-empty}
 use Rattle.std.specs.Ordering.{nat_cmp}
-use Rattle.ocpi_text.specs.Text.{key}
-use Rattle.ocpi_types.specs.declared.token.Token.{Token}
-use Rattle.ocpi_types.specs.declared.stored.Push.{Push}
-use Rattle.ocpi_types.specs.declared.stored.Reservation.{Reservation}
-use Rattle.ocpi_types.specs.declared.stored.SentCommand.{SentCommand}
-use Rattle.ocpi_types.specs.declared.rows.Counter.{Counter}
-use Rattle.ocpi_types.specs.declared.rows.Counter.TheVariants as counter
-use Rattle.ocpi_types.specs.declared.rows.Row.{Row}
-use Rattle.ocpi_types.specs.declared.rows.Row.TheVariants as row
-use Rattle.ocpi_types.specs.declared.rows.RowKey.TheVariants as keys
-use Rattle.ocpi_types.specs.declared.site.Site.{Site}
-use Rattle.ocpi_types.specs.declared.site.SiteLine.{SiteLine}
+use Rattle.ocpi_text.specs.{key}
+use Rattle.ocpi_types.specs.{Counter, Push, Reservation, Row, SentCommand, Site, SiteLine, Token}
+use Rattle.ocpi_types.specs.counter
+use Rattle.ocpi_types.specs.row
+use Rattle.ocpi_types.specs.keys
 use Rattle.std.proofs.lemmas.Bool.Decides.{nat_tests}
-use Rattle.outbox.specs.Outbox.{OutboxRows}
+use Rattle.outbox.specs.{IsAbout, IsReplaced, OutboxRows, Subject, subject}
 use Rattle.outbox.proofs.Timing.{has_none}
-use Rattle.outbox.specs.Pushes.{IsAbout, IsReplaced, subject}
-use Rattle.outbox.specs.declared.push_book.Subject.{Subject}
-use Rattle.node_steps.specs.Peers.{HasPeer}
-use Rattle.site_book.specs.Sites.{Claims, IsConnectorOf, IsEvse, IsSiteOf}
-use Rattle.site_book.specs.declared.claim.Claim.{Claim}
-use Rattle.site_book.specs.declared.claim.Claim.TheVariants.{OpenStart, Live, Reserved}
-use Rattle.stored_rows.specs.Turns.{turn_of}
-use Rattle.stored_rows.specs.declared.fault.BadReason.{BadReason}
-use Rattle.stored_rows.specs.declared.fault.BadReason.TheVariants as reason
+use Rattle.node_steps.specs.{HasPeer}
+use Rattle.site_book.specs.{Claim, Claims, IsConnectorOf, IsEvse, IsSiteOf, Live, OpenStart, Reserved}
+use Rattle.stored_rows.specs.{BadReason, turn_of}
+use Rattle.stored_rows.specs.reason
 use Rattle.tables.proofs.Options.{none_some, known}
-use Rattle.operator_rows.specs.Rows.{HasCount, HasRow}
-use Rattle.operator_rows.specs.Sound.{IsSound, MayClaim}
-use Rattle.operator_rows.specs.State.{HasClaim, IsFree, State, Rows, as_outbox}
-use Rattle.operator_rows.specs.Claimed.{IsIndexed}
+use Rattle.operator_rows.specs.{HasClaim, HasCount, HasRow, IsFree, IsIndexed, IsSound, MayClaim, as_outbox}
+use Rattle.operator_rows.specs.State.{State, Rows}
 use Rattle.operator_stored.proofs.StandingRows.{some_of, zero_or_not}
 use Rattle.operator_stored.specs.Bad.{MakesClaim}
 use Rattle.operator_stored.specs.Bad.{Foreign, NothingCounted, PushNotGiven, PushToStranger, TokenOfStranger, ServiceNowhere, ClaimedTwice, PushedTwice}

@@ -1,26 +1,20 @@
 -- What tells that a command may be open or have a result, and what that the rows are bad.
-use Rattle.std.proofs.Common.{◌≡◌, ℕ, List, Bool, true, false, not, refl, sym, ap, subst, ◌∙◌, arith}
-use Rattle.std.specs.Prelude.{Option, Some, None, Contains, Result, Ok, Err, IfErr, is_some, option_copied}
+use Rattle.std.proofs.Common.{◌≡◌, ℕ, List, Bool, true, false, not, refl, sym, ap, subst, ◌∙◌, arith, Option, Some}
+use Rattle.std.proofs.Common.{None, Contains, Result, Ok, Err, IfErr, is_some, option_copied}
 use Rattle.std.specs.FinMap.{get}
 use denote.Ref.{Bor}
-use Rattle.ocpi_text.specs.Text.{key}
-use Rattle.ocpi_types.specs.declared.rows.Row.{Row}
-use Rattle.ocpi_types.specs.declared.rows.Row.TheVariants as row
-use Rattle.ocpi_types.specs.declared.rows.RowKey.TheVariants as keys
-use Rattle.ocpi_types.specs.declared.site.Location.{Location}
-use Rattle.ocpi_types.specs.declared.site.Site.{Site}
-use Rattle.ocpi_types.specs.declared.site.SiteLine.{SiteLine}
-use Rattle.ocpi_types.specs.declared.stored.OpenCommand.{OpenCommand}
-use Rattle.ocpi_types.specs.declared.words.CommandResultType.{CommandResultType}
+use Rattle.ocpi_text.specs.{key}
+use Rattle.ocpi_types.specs.{CommandResultType, Location, OpenCommand, Row, Site, SiteLine}
+use Rattle.ocpi_types.specs.row
+use Rattle.ocpi_types.specs.keys
 use Rattle.command_book.specs.Stored as commands
-use Rattle.node_steps.specs.Peers.{HasPeer}
-use Rattle.site_book.specs.declared.claim.Claim.{Claim}
-use Rattle.site_book.specs.declared.claim.Claim.TheVariants.{OpenStart}
-use Rattle.stored_rows.specs.declared.fault.BadReason.{BadReason}
-use Rattle.stored_rows.specs.declared.fault.BadReason.TheVariants as reason
+use Rattle.node_steps.specs.{HasPeer}
+use Rattle.site_book.specs.{Claim, OpenStart}
+use Rattle.stored_rows.specs.{BadReason}
+use Rattle.stored_rows.specs.reason
 use Rattle.tables.proofs.Options.{not_both}
-use Rattle.operator_rows.specs.Sound.{HasPlace, IsOwnStart}
-use Rattle.operator_rows.specs.State.{HasClaim, IsFree, IsStart, State, Takes}
+use Rattle.operator_rows.specs.{HasClaim, HasPlace, IsFree, IsOwnStart, IsStart, Takes}
+use Rattle.operator_rows.specs.State.{State}
 use Rattle.operator_stored.proofs.StandingRows.{is_some_copied, some_of}
 use Rattle.operator_stored.proofs.Telling.{claimed_twice, free_may, is_none_told, is_some_told, none_of, site_of, stranger}
 use Rattle.operator_stored.specs.Bad.{IsBad, CommandOfStranger, OpenUnanswered, OpenWithResult, ResultOfOpen, ResultUnanswered, StartOfOtherToken}

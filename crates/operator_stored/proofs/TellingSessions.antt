@@ -1,37 +1,24 @@
 -- What tells that a session or a charge detail record may stand, and what that the rows are bad.
-use Rattle.std.proofs.Common.{◌≡◌, ◌≢◌, ℤ, ℕ, ◌≤◌, ◌<◌, List, Bool, true, false, not, true≢false, ◌⊎◌, inl, inr, refl, sym, ap, subst, ◌∙◌, arith}
-use Rattle.std.specs.Prelude.{Option, Some, None, Contains, IfSome, Ok}
+use Rattle.std.proofs.Common.{◌≡◌, ◌≢◌, ℤ, ℕ, ◌≤◌, ◌<◌, List, Bool, true, false, not, true≢false, ◌⊎◌, inl, inr, refl}
+use Rattle.std.proofs.Common.{sym, ap, subst, ◌∙◌, arith, Option, Some, None, Contains, IfSome, Ok}
 use Rattle.std.specs.FinMap.{get}
 use Rattle.std.proofs.lemmas.Bool.{cases_lt}
-use Rattle.ocpi_text.specs.OwnIds.{own_id_text}
-use Rattle.ocpi_text.specs.Party.{party_at}
-use Rattle.ocpi_text.specs.Text.{key}
-use Rattle.ocpi_text.specs.Whole.{max_whole}
-use Rattle.ocpi_text.specs.declared.own_ids.OwnIdKind.{OwnIdKind}
-use Rattle.ocpi_text.specs.declared.own_ids.OwnIdKind.TheVariants as own
-use Rattle.ocpi_types.specs.Rows.{key_of}
-use Rattle.ocpi_types.specs.declared.cdrs.Cdr.{Cdr}
-use Rattle.ocpi_types.specs.declared.rows.Counter.TheVariants as counter
-use Rattle.ocpi_types.specs.declared.rows.Row.{Row}
-use Rattle.ocpi_types.specs.declared.rows.Row.TheVariants as row
-use Rattle.ocpi_types.specs.declared.rows.RowKey.TheVariants as keys
-use Rattle.ocpi_types.specs.declared.sessions.Session.{Session}
-use Rattle.ocpi_types.specs.declared.site.Site.{Site}
-use Rattle.ocpi_types.specs.declared.site.SiteLine.{SiteLine}
+use Rattle.ocpi_text.specs.{OwnIdKind, key, max_whole, own_id_text, party_at}
+use Rattle.ocpi_text.specs.own
+use Rattle.ocpi_types.specs.{Cdr, Row, Session, Site, SiteLine, key_of}
+use Rattle.ocpi_types.specs.counter
+use Rattle.ocpi_types.specs.row
+use Rattle.ocpi_types.specs.keys
 use Rattle.ocpi_types.specs.declared.words.SessionStatus.TheVariants.{Reservation}
-use Rattle.node_steps.specs.Peers.{HasPeer}
+use Rattle.node_steps.specs.{HasPeer}
 use Rattle.session_book.proofs.OwnIds.{ids_differ}
-use Rattle.session_state.specs.Resuming.{CannotResume}
-use Rattle.session_state.specs.Versions.{HasCost}
-use Rattle.site_book.specs.Sites.{IsConnectorOf}
-use Rattle.site_book.specs.declared.claim.Claim.{Claim}
-use Rattle.site_book.specs.declared.claim.Claim.TheVariants.{Live}
-use Rattle.stored_rows.specs.Given.{IsOwnId}
-use Rattle.stored_rows.specs.Records.{IsRecordId}
+use Rattle.session_state.specs.{CannotResume, HasCost}
+use Rattle.site_book.specs.{Claim, IsConnectorOf, Live}
+use Rattle.stored_rows.specs.{BadReason, IsOwnId, IsRecordId}
 use Rattle.stored_rows.proofs.RecordNumbers.{bill_made, credit_made, no_credit}
-use Rattle.stored_rows.specs.declared.fault.BadReason.{BadReason}
-use Rattle.stored_rows.specs.declared.fault.BadReason.TheVariants as reason
-use Rattle.operator_rows.specs.State.{HasClaim, IsFree, IsLive, State}
+use Rattle.stored_rows.specs.reason
+use Rattle.operator_rows.specs.{HasClaim, IsFree, IsLive}
+use Rattle.operator_rows.specs.State.{State}
 use Rattle.operator_stored.proofs.BadRows.{bill_or_credit}
 use Rattle.operator_stored.proofs.Telling.{claimed_twice, count_of, free_may, party_of, site_of, stranger}
 use Rattle.operator_stored.specs.Bad as bad

@@ -1,39 +1,20 @@
 -- Why rows are those of no operator of a site: which row of the list shows it, wherever it stands, and for what reason.
 use Rattle.std.specs.Prelude.{◌≡◌, ◌≢◌, ℕ, List, None, Some, Contains, ⊤}
-use Rattle.ocpi_text.specs.Text.{key}
-use Rattle.ocpi_text.specs.declared.own_ids.OwnIdKind.TheVariants as own
-use Rattle.ocpi_types.specs.Credits.{IsBill, IsCredit}
-use Rattle.ocpi_types.specs.Rows.{key_of}
-use Rattle.ocpi_types.specs.declared.cdrs.Cdr.{Cdr}
-use Rattle.ocpi_types.specs.declared.rows.Counter.{Counter}
-use Rattle.ocpi_types.specs.declared.rows.Counter.TheVariants as counter
-use Rattle.ocpi_types.specs.declared.rows.Row.{Row}
-use Rattle.ocpi_types.specs.declared.rows.Row.TheVariants as row
-use Rattle.ocpi_types.specs.declared.rows.RowKey.{RowKey}
-use Rattle.ocpi_types.specs.declared.rows.RowKey.TheVariants as keys
-use Rattle.ocpi_types.specs.declared.sessions.Price.{Price}
-use Rattle.ocpi_types.specs.declared.sessions.Session.{Session}
-use Rattle.ocpi_types.specs.declared.site.SiteLine.{SiteLine}
-use Rattle.ocpi_types.specs.declared.stored.OpenCommand.{OpenCommand}
-use Rattle.ocpi_types.specs.declared.stored.Push.{Push}
-use Rattle.ocpi_types.specs.declared.stored.Reply.{Reply}
-use Rattle.ocpi_types.specs.declared.stored.Reservation.{Reservation}
-use Rattle.ocpi_types.specs.declared.token.Token.{Token}
-use Rattle.ocpi_types.specs.declared.words.CommandResultType.{CommandResultType}
-use Rattle.ocpi_types.specs.declared.words.SessionStatus.TheVariants as status
-use Rattle.site_book.specs.Sites.{IsConnectorOf, IsEvse, IsSiteOf}
-use Rattle.site_book.specs.declared.claim.Claim.{Claim}
-use Rattle.site_book.specs.declared.claim.Claim.TheVariants.{OpenStart, Live, Reserved}
-use Rattle.outbox.specs.Pushes.{subject}
-use Rattle.outbox.specs.declared.push_book.Subject.{Subject}
-use Rattle.session_state.specs.Versions.{HasCost}
-use Rattle.node_steps.specs.Peers.{HasPeer}
-use Rattle.operator_rows.specs.Sound.{IsOwnStart}
-use Rattle.operator_rows.specs.State.{IsLive, IsStart, Occupies, Takes}
-use Rattle.stored_rows.specs.Given.{IsNotGiven, IsOwnId, RepeatsKey}
-use Rattle.stored_rows.specs.Records.{IsRecordId}
-use Rattle.stored_rows.specs.declared.fault.BadReason.{BadReason}
-use Rattle.stored_rows.specs.declared.fault.BadReason.TheVariants as reason
+use Rattle.ocpi_text.specs.{key}
+use Rattle.ocpi_text.specs.own
+use Rattle.ocpi_types.specs.{Cdr, CommandResultType, Counter, IsBill, IsCredit, OpenCommand, Price, Push, Reply}
+use Rattle.ocpi_types.specs.{Reservation, Row, RowKey, Session, SiteLine, Token, key_of}
+use Rattle.ocpi_types.specs.counter
+use Rattle.ocpi_types.specs.row
+use Rattle.ocpi_types.specs.keys
+use Rattle.ocpi_types.specs.status
+use Rattle.site_book.specs.{Claim, IsConnectorOf, IsEvse, IsSiteOf, Live, OpenStart, Reserved}
+use Rattle.outbox.specs.{Subject, subject}
+use Rattle.session_state.specs.{HasCost}
+use Rattle.node_steps.specs.{HasPeer}
+use Rattle.operator_rows.specs.{IsLive, IsOwnStart, IsStart, Occupies, Takes}
+use Rattle.stored_rows.specs.{BadReason, IsNotGiven, IsOwnId, IsRecordId, RepeatsKey}
+use Rattle.stored_rows.specs.reason
 use Rattle.operator_stored.specs.Bills.{BillsTwice, HasBill, HasEnded, HasItsBill}
 
 -- an operator stores no such row: it gives no authorization references to orders of its own, and sends no commands

@@ -3,19 +3,13 @@
 use Rattle.std.specs.Prelude.{◌≡◌, ◌≢◌, ◌↔◌, ◌⊎◌, ℕ, Bool, List, Some, Contains, IsTrue, true, false, slice_get}
 use Rattle.std.specs.FinMap.{FinMap, contains_key, get}
 use Rattle.std.specs.FinSet.{FinSet, contains}
-use Rattle.tables.specs.Keys.{text_cmp}
-use Rattle.ocpi_text.specs.Text.{key}
-use Rattle.ocpi_types.specs.Credits.{AreAlike, IsBill, IsCredit, credit_id, is_credit}
-use Rattle.ocpi_types.specs.Rows.{key_of}
-use Rattle.ocpi_types.specs.declared.cdrs.Cdr.{Cdr}
-use Rattle.ocpi_types.specs.declared.rows.Row.{Row}
-use Rattle.ocpi_types.specs.declared.rows.Row.TheVariants as row
-use Rattle.ocpi_types.specs.declared.rows.RowKey.{RowKey}
-use Rattle.ocpi_types.specs.declared.sessions.Session.{Session}
-use Rattle.ocpi_types.specs.declared.words.SessionStatus.TheVariants.{Completed}
-use Rattle.stored_rows.specs.Records.{IsCreditOfBill}
-use Rattle.stored_rows.specs.declared.fault.BadReason.{BadReason}
-use Rattle.stored_rows.specs.declared.fault.BadReason.TheVariants as reason
+use Rattle.tables.specs.{text_cmp}
+use Rattle.ocpi_text.specs.{key}
+use Rattle.ocpi_types.specs.{AreAlike, Cdr, Completed, IsBill, IsCredit, Row, RowKey, Session, credit_id, is_credit}
+use Rattle.ocpi_types.specs.{key_of}
+use Rattle.ocpi_types.specs.row
+use Rattle.stored_rows.specs.{BadReason, IsCreditOfBill}
+use Rattle.stored_rows.specs.reason
 
 -- a bill of the session of that key is among the rows
 abbrev pub HasBill : List Row → List ℕ → Type 0

@@ -1,15 +1,12 @@
 -- Of several causes for which one thing is refused, which one it is.
 use Rattle.std.specs.Prelude.{◌≡◌, ℤ, ℕ, List, Some, None}
-use Rattle.ocpi_text.specs.Text.{key}
-use Rattle.ocpi_types.specs.declared.sessions.Price.{Price}
-use Rattle.ocpi_types.specs.declared.sessions.Session.{Session}
-use Rattle.ocpi_types.specs.declared.site.Location.{Location}
-use Rattle.ocpi_types.specs.declared.stored.OpenCommand.{OpenCommand}
+use Rattle.ocpi_text.specs.{key}
+use Rattle.ocpi_types.specs.{Location, OpenCommand, Price, Session}
 use Rattle.ocpi_types.specs.declared.words.SessionStatus.TheVariants.{Reservation}
-use Rattle.site_book.specs.Sites.{IsConnectorOf, IsEvse, IsSiteOf}
-use Rattle.session_state.specs.Versions.{HasCost}
-use Rattle.stored_rows.specs.declared.fault.BadReason.{BadReason}
-use Rattle.stored_rows.specs.declared.fault.BadReason.TheVariants as reason
+use Rattle.site_book.specs.{IsConnectorOf, IsEvse, IsSiteOf}
+use Rattle.session_state.specs.{HasCost}
+use Rattle.stored_rows.specs.{BadReason}
+use Rattle.stored_rows.specs.reason
 
 -- the site has no EVSE of that uid, or it has, which has no connector of that id
 pub data IsNoConnector (locations : List Location) (evse connector : List ℕ) : BadReason → Type 0 where

@@ -1,14 +1,10 @@
 -- The operator that is made of rows, and the laws of it.
 use Rattle.std.specs.Prelude.{◌≡◌, List, Ok}
-use Rattle.ocpi_text.specs.Party.{party_at}
-use Rattle.ocpi_types.specs.declared.rows.Row.{Row}
-use Rattle.ocpi_types.specs.declared.rows.RowKey.{RowKey}
-use Rattle.ocpi_types.specs.declared.site.SiteLine.{SiteLine}
-use Rattle.stored_rows.specs.declared.fault.BadReason.{BadReason}
-use Rattle.operator_rows.specs.Rows.{AreRowsOf}
-use Rattle.operator_rows.specs.Sound.{IsConsistent, IsSound, with_rows}
-use Rattle.operator_rows.specs.State.{State, opening}
-use Rattle.operator_rows.specs.Steps.{restarted}
+use Rattle.ocpi_text.specs.{party_at}
+use Rattle.ocpi_types.specs.{Row, RowKey, SiteLine}
+use Rattle.stored_rows.specs.{BadReason}
+use Rattle.operator_rows.specs.{AreRowsOf, IsConsistent, IsSound, opening, restarted, with_rows}
+use Rattle.operator_rows.specs.State.{State}
 use Rattle.operator_stored.specs.Bad.{IsBad}
 use Rattle.operator_stored.specs.Whole.{IsWhole}
 

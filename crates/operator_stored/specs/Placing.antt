@@ -1,28 +1,16 @@
 -- A row that is put beside those that stand, none of which is of a later turn.
 use Rattle.std.specs.Prelude.{◌≡◌, ◌≢◌, ◌≤◌, ◌<◌, ℕ, List, Contains, Result, Ok, Err, ⊤}
-use Rattle.ocpi_text.specs.OwnIds.{own_id_text}
-use Rattle.ocpi_text.specs.Text.{key}
-use Rattle.ocpi_text.specs.Whole.{max_whole}
-use Rattle.ocpi_text.specs.declared.own_ids.OwnIdKind.{OwnIdKind}
-use Rattle.ocpi_text.specs.declared.own_ids.OwnIdKind.TheVariants as own
-use Rattle.ocpi_types.specs.Rows.{key_of}
-use Rattle.ocpi_types.specs.declared.rows.Row.{Row}
-use Rattle.ocpi_types.specs.declared.rows.Row.TheVariants as row
-use Rattle.ocpi_types.specs.declared.rows.RowKey.{RowKey}
-use Rattle.ocpi_types.specs.declared.site.SiteLine.{SiteLine}
-use Rattle.ocpi_types.specs.declared.sessions.Session.{Session}
-use Rattle.ocpi_types.specs.declared.stored.OpenCommand.{OpenCommand}
-use Rattle.node_steps.specs.Peers.{HasPeer}
-use Rattle.site_book.specs.Sites.{IsConnectorOf}
-use Rattle.site_book.specs.declared.claim.Claim.TheVariants.{Live, OpenStart}
-use Rattle.session_state.specs.Resuming.{CannotResume}
-use Rattle.stored_rows.specs.Given.{IsOwnId, RepeatsKey}
-use Rattle.stored_rows.specs.Records.{IsRecordId}
-use Rattle.stored_rows.specs.Turns.{turn_of}
-use Rattle.stored_rows.specs.declared.fault.BadReason.{BadReason}
-use Rattle.operator_rows.specs.Rows.{AreRowsOf, HasRow}
-use Rattle.operator_rows.specs.Sound.{HasPlace, IsSound, MayClaim, MayPut, with_rows}
-use Rattle.operator_rows.specs.State.{IsStart, State, Takes, opening}
+use Rattle.ocpi_text.specs.{OwnIdKind, key, max_whole, own_id_text}
+use Rattle.ocpi_text.specs.own
+use Rattle.ocpi_types.specs.{OpenCommand, Row, RowKey, Session, SiteLine, key_of}
+use Rattle.ocpi_types.specs.row
+use Rattle.node_steps.specs.{HasPeer}
+use Rattle.site_book.specs.{IsConnectorOf, Live, OpenStart}
+use Rattle.session_state.specs.{CannotResume}
+use Rattle.stored_rows.specs.{BadReason, IsOwnId, IsRecordId, RepeatsKey, turn_of}
+use Rattle.operator_rows.specs.{AreRowsOf, HasPlace, HasRow, IsSound, IsStart, MayClaim, MayPut, Takes, opening}
+use Rattle.operator_rows.specs.{with_rows}
+use Rattle.operator_rows.specs.State.{State}
 use Rattle.operator_stored.specs.Bad.{IsBad}
 
 -- no row of a later turn stands

@@ -2,15 +2,11 @@
 -- its opening.
 use Rattle.std.specs.Prelude.{◌≡◌, ℕ, List, Some}
 use Rattle.std.specs.FinMap.{get}
-use Rattle.ocpi_text.specs.Text.{key}
-use Rattle.ocpi_text.specs.declared.own_ids.OwnIdKind.TheVariants as own
-use Rattle.ocpi_types.specs.Credits.{AreAlike, IsBill, IsCredit}
-use Rattle.ocpi_types.specs.declared.cdrs.Cdr.{Cdr}
-use Rattle.ocpi_types.specs.declared.sessions.Session.{Session}
-use Rattle.ocpi_types.specs.declared.words.SessionStatus.TheVariants.{Completed}
-use Rattle.session_state.specs.Resuming.{CannotResume}
-use Rattle.stored_rows.specs.Given.{IsOwnId}
-use Rattle.stored_rows.specs.Records.{IsCreditOfBill, IsRecordId}
+use Rattle.ocpi_text.specs.{key}
+use Rattle.ocpi_text.specs.own
+use Rattle.ocpi_types.specs.{AreAlike, Cdr, Completed, IsBill, IsCredit, Session}
+use Rattle.session_state.specs.{CannotResume}
+use Rattle.stored_rows.specs.{IsCreditOfBill, IsOwnId, IsRecordId}
 use Rattle.operator_rows.specs.State.{State, Rows}
 
 -- each COMPLETED session has a bill, no session has two bills, nor two credits, and no other session has a charge detail

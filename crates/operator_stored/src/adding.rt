@@ -1,12 +1,11 @@
 //! Rows that are put back one by one, each once it is seen that it may stand.
 
 ghost use Rattle.std.specs.Prelude.{◌≡◌, IfErr, List, OnOk};
-ghost use Rattle.ocpi_types.specs.Rows.{key_of};
-ghost use Rattle.ocpi_types.specs.declared.rows.Change.TheVariants as change;
-ghost use Rattle.ocpi_types.specs.declared.site.SiteLine.{SiteLine};
-ghost use Rattle.stored_rows.specs.Faults.{IfBadRows};
-ghost use Rattle.stored_rows.specs.declared.fault.BadReason.TheVariants as reason;
-ghost use Rattle.operator_rows.specs.Steps.{after_change};
+ghost use Rattle.ocpi_types.specs.{SiteLine, key_of};
+ghost use Rattle.ocpi_types.specs.change;
+ghost use Rattle.stored_rows.specs.{IfBadRows};
+ghost use Rattle.stored_rows.specs.reason;
+ghost use Rattle.operator_rows.specs.{after_change};
 ghost use Rattle.operator_stored.specs.Placing.{ComesNext, IsInTurn, IsNew, MayAdd, ShowsAs, Tells};
 
 use crate::commands::{may_open, may_settle};

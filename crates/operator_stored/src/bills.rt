@@ -3,13 +3,11 @@
 ghost use Rattle.std.specs.Prelude.{◌≡◌, IfErr, IsTrue, List, MatchBool, OnOk};
 ghost use Rattle.std.specs.FinMap as map;
 ghost use Rattle.std.specs.FinSet as set;
-ghost use Rattle.ocpi_text.specs.Text.{key};
-ghost use Rattle.ocpi_types.specs.Credits.{IsCredit, is_credit};
-ghost use Rattle.ocpi_types.specs.declared.words.SessionStatus.TheVariants.{Completed};
-ghost use Rattle.ocpi_types.specs.declared.rows.Row.TheVariants as row;
-ghost use Rattle.stored_rows.specs.Faults.{IfBadRows};
-ghost use Rattle.tables.specs.Keys.{text_cmp};
-ghost use Rattle.tables.specs.Tables.{shown_of};
+ghost use Rattle.ocpi_text.specs.{key};
+ghost use Rattle.ocpi_types.specs.{Completed, IsCredit, is_credit};
+ghost use Rattle.ocpi_types.specs.row;
+ghost use Rattle.stored_rows.specs.{IfBadRows};
+ghost use Rattle.tables.specs.{shown_of, text_cmp};
 ghost use Rattle.operator_stored.specs.Bills.{
   Agrees,
   AreBilledBy,

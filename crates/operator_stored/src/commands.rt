@@ -1,9 +1,8 @@
 //! Rows of open commands and of results.
 
 ghost use Rattle.std.specs.Prelude.{◌≡◌, MatchBool};
-ghost use Rattle.ocpi_types.specs.declared.rows.Row.TheVariants as row;
-ghost use Rattle.operator_rows.specs.Sound.{IsOwnStart};
-ghost use Rattle.operator_rows.specs.State.{IsStart};
+ghost use Rattle.ocpi_types.specs.row;
+ghost use Rattle.operator_rows.specs.{IsOwnStart, IsStart};
 ghost use Rattle.operator_stored.specs.Placing.{Answers, ComesNext, MayTake, Tells};
 
 use crate::places::{check_place, is_unclaimed};

@@ -2,16 +2,13 @@
 
 ghost use Rattle.std.specs.Prelude.{◌≡◌, IfErr, IfOk, OnOk, List, ℕ, Contains};
 ghost use Rattle.std.specs.List.Sorted.{IsNonDecreasingBy, IsPermutation};
-ghost use Rattle.ocpi_types.specs.declared.rows.Row.{Row};
-ghost use Rattle.ocpi_types.specs.declared.site.SiteLine.{SiteLine};
-ghost use Rattle.stored_rows.specs.Faults.{IfBadRows};
-ghost use Rattle.operator_rows.specs.Sound.{IsConsistent};
-ghost use Rattle.operator_rows.specs.State.{State, opening};
-ghost use Rattle.operator_rows.specs.Steps.{restarted};
+ghost use Rattle.ocpi_types.specs.{Row, SiteLine};
+ghost use Rattle.stored_rows.specs.{IfBadRows, turn_of};
+ghost use Rattle.operator_rows.specs.{IsConsistent, opening, restarted};
+ghost use Rattle.operator_rows.specs.State.{State};
 ghost use Rattle.operator_stored.specs.Bad.{IsBad};
 ghost use Rattle.operator_stored.specs.Making.{IsMadeOf, StartsAgain};
 ghost use Rattle.operator_stored.specs.Placing.{ArePut};
-ghost use Rattle.stored_rows.specs.Turns.{turn_of};
 
 use crate::adding::add_row;
 use crate::bills::check_bills;

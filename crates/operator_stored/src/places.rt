@@ -1,12 +1,10 @@
 //! Rows that take a place of the site: reservations, open starts, and what is out of service.
 
 ghost use Rattle.std.specs.Prelude.{◌≡◌, IfErr, MatchBool, OnOk};
-ghost use Rattle.ocpi_text.specs.Text.{key};
-ghost use Rattle.ocpi_types.specs.declared.rows.Row.TheVariants as row;
-ghost use Rattle.site_book.specs.Sites.{IsConnectorOf, IsSiteOf};
-ghost use Rattle.site_book.specs.declared.claim.Claim.{Claim};
-ghost use Rattle.operator_rows.specs.Sound.{HasPlace};
-ghost use Rattle.operator_rows.specs.State.{HasClaim, IsFree};
+ghost use Rattle.ocpi_text.specs.{key};
+ghost use Rattle.ocpi_types.specs.row;
+ghost use Rattle.site_book.specs.{Claim, IsConnectorOf, IsSiteOf};
+ghost use Rattle.operator_rows.specs.{HasClaim, HasPlace, IsFree};
 ghost use Rattle.operator_stored.specs.Causes.{IsMisplaced, IsNoConnector, IsNotAt};
 ghost use Rattle.operator_stored.specs.Placing.{ComesNext, Tells};
 

@@ -1,8 +1,8 @@
 //! Rows of counters, of tokens and of pushes.
 
 ghost use Rattle.std.specs.Prelude.{◌≡◌, MatchBool};
-ghost use Rattle.ocpi_types.specs.declared.rows.Row.TheVariants as row;
-ghost use Rattle.node_steps.specs.Peers.{HasPeer};
+ghost use Rattle.ocpi_types.specs.row;
+ghost use Rattle.node_steps.specs.{HasPeer};
 ghost use Rattle.operator_stored.specs.Placing.{ComesNext, Tells};
 
 use node_steps::peer_of;

@@ -1,17 +1,13 @@
 //! Rows of sessions and of charge detail records.
 
 ghost use Rattle.std.specs.Prelude.{◌≡◌, ◌≤◌, ℕ, IfErr, IfNone, IfSome, MatchBool, OnOk};
-ghost use Rattle.ocpi_text.specs.OwnIds.{own_id_text};
-ghost use Rattle.ocpi_text.specs.Text.{key};
-ghost use Rattle.ocpi_text.specs.Whole.{max_whole};
-ghost use Rattle.ocpi_text.specs.declared.own_ids.OwnIdKind.TheVariants as own;
-ghost use Rattle.ocpi_types.specs.declared.rows.Row.TheVariants as row;
+ghost use Rattle.ocpi_text.specs.{key, max_whole, own_id_text};
+ghost use Rattle.ocpi_text.specs.own;
+ghost use Rattle.ocpi_types.specs.row;
 ghost use Rattle.ocpi_types.specs.declared.words.SessionStatus.TheVariants.{Reservation};
-ghost use Rattle.operator_rows.specs.State.{IsLive};
-ghost use Rattle.session_state.specs.Resuming.{CannotResume};
-ghost use Rattle.session_state.specs.Versions.{HasCost};
-ghost use Rattle.stored_rows.specs.Given.{IsOwnId};
-ghost use Rattle.stored_rows.specs.Records.{IsRecordId};
+ghost use Rattle.operator_rows.specs.{IsLive};
+ghost use Rattle.session_state.specs.{CannotResume, HasCost};
+ghost use Rattle.stored_rows.specs.{IsOwnId, IsRecordId};
 ghost use Rattle.operator_stored.specs.Causes.{IsStuck};
 ghost use Rattle.operator_stored.specs.Placing.{Answers, ComesNext, IsOwn, MayCharge, Tells};
 

@@ -1,8 +1,8 @@
 //! Whether a row of the kind and key of another stands.
 
 ghost use Rattle.std.specs.Prelude.{◌≡◌, MatchBool};
-ghost use Rattle.ocpi_types.specs.declared.rows.Row.TheVariants as row;
-ghost use Rattle.operator_rows.specs.Sound.{IsSound};
+ghost use Rattle.ocpi_types.specs.row;
+ghost use Rattle.operator_rows.specs.{IsSound};
 ghost use Rattle.operator_stored.specs.Placing.{IsNew, Stands};
 
 use ocpi_text::Whole;

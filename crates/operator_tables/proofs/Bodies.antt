@@ -1,7 +1,7 @@
 -- What command a body carries.
 use Rattle.std.proofs.Common.{◌≡◌}
-use Rattle.ocpi_types.specs.declared.packet.Body.TheVariants as body
-use Rattle.ocpi_types.specs.declared.commands.Command.{Command}
+use Rattle.ocpi_types.specs.body
+use Rattle.ocpi_types.specs.{Command}
 
 -- a body carries one command at most
 pub same_command : (c d : Command) → body.Command c ≡ body.Command d → c ≡ d

@@ -1,18 +1,13 @@
 -- What the tables ask of claims and of reservations for a token.
-use Rattle.std.proofs.Common.{◌≡◌, ℕ, Bool, true, false, List, refl, sym, ap, subst, ◌∙◌}
-use Rattle.std.specs.Prelude.{Option, Some, None, IsTrue, is_some, not, ◌&&◌}
+use Rattle.std.proofs.Common.{◌≡◌, ℕ, Bool, true, false, List, refl, sym, ap, subst, ◌∙◌, Option, Some, None, IsTrue}
+use Rattle.std.proofs.Common.{is_some, not, ◌&&◌}
 use Rattle.std.specs.FinMap.{get, contains_key}
-use Rattle.ocpi_text.specs.Text.{key}
-use Rattle.ocpi_types.specs.declared.site.Location.{Location}
-use Rattle.ocpi_types.specs.declared.site.Evse.{Evse}
-use Rattle.ocpi_types.specs.declared.site.Connector.{Connector}
-use Rattle.ocpi_types.specs.declared.commands.StartSession.{StartSession}
-use Rattle.reservation_book.specs.declared.standing.Standing.{Standing}
-use Rattle.reservation_book.specs.Tokens.{IsFor}
-use Rattle.site_book.specs.declared.claim.Claim.{Claim}
-use Rattle.site_book.specs.Sites.{Claims, OutOfService, is_free, works}
-use Rattle.operator_rows.specs.State.{Rows, HasClaim, IsFree}
-use Rattle.operator_rows.specs.Claimed.{IsIndexed}
+use Rattle.ocpi_text.specs.{key}
+use Rattle.ocpi_types.specs.{Connector, Evse, Location, StartSession}
+use Rattle.reservation_book.specs.{IsFor, Standing}
+use Rattle.site_book.specs.{Claim, Claims, OutOfService, is_free, works}
+use Rattle.operator_rows.specs.{HasClaim, IsFree, IsIndexed}
+use Rattle.operator_rows.specs.State.{Rows}
 use Rattle.operator_tables.specs.Places.{IsHeldFor, token_at}
 use Rattle.operator_tables.specs.Start.{NoneHeld}
 use Rattle.operator_tables.specs.Held.{token_of, IsHeldBy, HasNoHeld}

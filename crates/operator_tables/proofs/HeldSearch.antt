@@ -1,6 +1,6 @@
 -- The search for a place that a reservation holds for a start.
-use Rattle.std.proofs.Common.{◌≡◌, ℕ, ◌<◌, ◌≤◌, suc, Bool, true, false, cond, List, [], ◌∷◌, ◌⊎◌, inl, inr, refl, sym, ap, subst, ◌∙◌, arith, length}
-use Rattle.std.specs.Prelude.{Option, Some, None, IfSome, IfNone, Contains, not}
+use Rattle.std.proofs.Common.{◌≡◌, ℕ, ◌<◌, ◌≤◌, suc, Bool, true, false, cond, List, [], ◌∷◌, ◌⊎◌, inl, inr, refl, sym}
+use Rattle.std.proofs.Common.{ap, subst, ◌∙◌, arith, length, Option, Some, None, IfSome, IfNone, Contains, not}
 use Rattle.std.specs.declared.cmp.Ordering.{Ordering}
 use Rattle.std.specs.declared.cmp.Ordering.TheVariants.{Less, Equal, Greater}
 use Rattle.std.specs.Ordering.{is_gt, ordering_reverse}
@@ -9,21 +9,13 @@ use Rattle.std.specs.FinMap.{entries}
 use Rattle.std.specs.BTreeMap.Range.{IsLeBy, IsLtBy}
 use Rattle.std.proofs.lemmas.Cmp.{tied_itself}
 use Rattle.std.proofs.lemmas.List.Elements.{Contains-append_cases}
-use Rattle.ocpi_text.specs.Text.{key}
-use Rattle.ocpi_types.specs.declared.site.Location.{Location}
-use Rattle.ocpi_types.specs.declared.site.Evse.{Evse}
-use Rattle.ocpi_types.specs.declared.site.Connector.{Connector}
-use Rattle.ocpi_types.specs.declared.stored.Reservation.{Reservation}
-use Rattle.ocpi_types.specs.declared.commands.StartSession.{StartSession}
-use Rattle.tables.specs.Keys.{text_pair_cmp, text_pair_total, text_pair_exact}
-use Rattle.reservation_book.specs.declared.standing.Standing.{Standing}
-use Rattle.reservation_book.specs.declared.standing.TokenAt.{TokenAt}
-use Rattle.reservation_book.specs.Places.{Key}
-use Rattle.reservation_book.specs.Rows.{Reservations}
-use Rattle.reservation_book.specs.Tokens.{Stands, IsFor, IsOn, spot, IsFirstFor, IsNextFor}
+use Rattle.ocpi_text.specs.{key}
+use Rattle.ocpi_types.specs.{Connector, Evse, Location, Reservation, StartSession}
+use Rattle.tables.specs.{text_pair_cmp, text_pair_exact, text_pair_total}
+use Rattle.reservation_book.specs.{IsFirstFor, IsFor, IsNextFor, IsOn, Key, Reservations, Standing, Stands, TokenAt}
+use Rattle.reservation_book.specs.{spot}
 use Rattle.tables.proofs.Elements.{in_none, in_single}
 use Rattle.tables.proofs.Entries.{listed}
-use Rattle.site_book.specs.Sites.{IsNamed}
 use Rattle.operator_rows.specs.State.{Rows}
 use Rattle.operator_tables.specs.Held.{IsPlaceOn, IsHeldBy}
 
@@ -165,26 +157,10 @@ module _ (m : Reservations) (t : TokenAt) (P : Standing → Type 0) where
 abbrev pub HoldsPlace : Rows → Location → TokenAt → StartSession → Standing → Type 0
 HoldsPlace s l t c x = (e : Evse) × (k : Connector) × IsHeldBy s t c l x e k
 
-as_named : (name : Option (List ℕ)) (a b : List ℕ) → key a ≡ key b → IsNamed name b → IsNamed name a
-as_named None a b same h = tt
-as_named (Some n) a b same h = same ∙ h
-
 module _ (s : Rows) (t : TokenAt) (c : StartSession) (l : Location) (x : Standing) (e : Evse) (k : Connector) where
-  -- the place on the EVSE of a reservation is one that it holds
-  pub is_held : IsFor s.booked.reservations t x → IsNamed c.evse_uid x.reservation.evse_uid → IsPlaceOn s c l x e k → IsHeldBy s t c l x e k
-  is_held f named u = record {
-    place = record { listed = u.place.listed; named = as_named c.evse_uid e.uid x.reservation.evse_uid u.place.named named; chosen = u.place.chosen };
-    works = u.works;
-    is_for = f;
-    here = sym u.place.named;
-  }
-
   -- and a place that it holds is on its EVSE, and on that of any other reservation of that EVSE
   pub is_place_of : (y : Standing) → key x.reservation.evse_uid ≡ key y.reservation.evse_uid → IsHeldBy s t c l x e k → IsPlaceOn s c l y e k
   is_place_of y same h = record {
     place = record { listed = h.place.listed; named = sym h.here ∙ same; chosen = h.place.chosen };
     works = h.works;
   }
-
-  pub on_named : (uid : List ℕ) → c.evse_uid ≡ Some uid → IsHeldBy s t c l x e k → key x.reservation.evse_uid ≡ key uid
-  on_named uid e_is h = h.here ∙ subst (λ o. IsNamed o e.uid) e_is h.place.named

@@ -1,23 +1,15 @@
 -- What each line of a table tells, whatever line it is.
-use Rattle.std.proofs.Common.{◌≡◌, ◌<◌, ◌≤◌, inl, inr, ℕ, Bool, true, false, List, refl, sym, subst, ◌∙◌, arith}
-use Rattle.std.specs.Prelude.{◌≢◌, Contains, Option, Some, None}
+use Rattle.std.proofs.Common.{◌≡◌, ◌<◌, ◌≤◌, inl, inr, ℕ, Bool, true, false, List, refl, sym, subst, ◌∙◌, arith, ◌≢◌}
+use Rattle.std.proofs.Common.{Contains, Option, Some, None}
 use Rattle.std.specs.FinMap.{get}
 use Rattle.std.specs.Str.{bytes_eq}
 use Rattle.std.proofs.lemmas.Slice.Eq.{bytes_eq-Decides}
-use Rattle.ocpi_text.specs.Text.{key}
-use Rattle.ocpi_types.specs.declared.site.Location.{Location}
-use Rattle.ocpi_types.specs.declared.site.Evse.{Evse}
-use Rattle.ocpi_types.specs.declared.site.Connector.{Connector}
-use Rattle.ocpi_types.specs.declared.commands.StartSession.{StartSession}
-use Rattle.ocpi_types.specs.declared.commands.StopSession.{StopSession}
-use Rattle.ocpi_types.specs.declared.commands.ReserveNow.{ReserveNow}
-use Rattle.ocpi_types.specs.declared.commands.CancelReservation.{CancelReservation}
-use Rattle.ocpi_types.specs.declared.commands.UnlockConnector.{UnlockConnector}
-use Rattle.ocpi_types.specs.declared.commands.Command.{Command}
-use Rattle.ocpi_types.specs.declared.commands.Command.TheVariants as command
-use Rattle.reservation_book.specs.Refusals.{IsInTime}
-use Rattle.reservation_book.specs.declared.standing.Standing.{Standing}
-use Rattle.site_book.specs.Sites.{IsChosen, IsEvseOf}
+use Rattle.ocpi_text.specs.{key}
+use Rattle.ocpi_types.specs.{CancelReservation, Command, Connector, Evse, Location, ReserveNow, StartSession}
+use Rattle.ocpi_types.specs.{StopSession, UnlockConnector}
+use Rattle.ocpi_types.specs.command
+use Rattle.reservation_book.specs.{IsInTime, Standing}
+use Rattle.site_book.specs.{IsChosen, IsEvseOf}
 use Rattle.site_book.proofs.Apart.{contained}
 use Rattle.operator_rows.specs.State.{State}
 use Rattle.operator_tables.specs.declared.decision.Decision.{Decision}

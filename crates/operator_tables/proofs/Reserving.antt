@@ -1,30 +1,19 @@
 -- What a command may reserve.
-use Rattle.std.proofs.Common.{◌≡◌, ℕ, ◌≤◌, List, refl, sym, ap, subst, ◌∙◌, arith}
-use Rattle.std.specs.Prelude.{Option, Some, IsTrue}
+use Rattle.std.proofs.Common.{◌≡◌, ℕ, ◌≤◌, List, refl, sym, ap, subst, ◌∙◌, arith, IsTrue}
 use Rattle.std.specs.FinMap.{get}
-use Rattle.ocpi_text.specs.Text.{key}
-use Rattle.ocpi_types.specs.declared.site.Site.{Site}
-use Rattle.ocpi_types.specs.declared.site.Location.{Location}
-use Rattle.ocpi_types.specs.declared.site.Evse.{Evse}
-use Rattle.ocpi_types.specs.declared.stored.Reservation.{Reservation}
-use Rattle.ocpi_types.specs.declared.commands.ReserveNow.{ReserveNow}
-use Rattle.ocpi_types.specs.declared.words.CommandResponseType.TheVariants as response
-use Rattle.reservation_book.specs.declared.fault.ReservationFault.{ReservationFault}
-use Rattle.reservation_book.specs.declared.fault.ReservationFault.TheVariants.{Stale, OtherLocation, Memory}
-use Rattle.reservation_book.specs.Refusals.{IsInTime, IsHere, RefusesReservation}
+use Rattle.ocpi_text.specs.{key}
+use Rattle.ocpi_types.specs.{Evse, Location, ReserveNow, Site}
+use Rattle.ocpi_types.specs.response
+use Rattle.reservation_book.specs.{IsHere, IsInTime, Memory, OtherLocation, RefusesReservation, ReservationFault, Stale}
 use Rattle.reservation_book.specs.Rows.{Rows as BookRows}
-use Rattle.site_book.specs.declared.claim.Claim.TheVariants.{Reserved}
-use Rattle.site_book.specs.Sites.{Claims, IsEvseFor, OutOfService, is_free, works}
-use Rattle.operator_rows.specs.State.{Rows, HasClaim}
-use Rattle.operator_rows.specs.Claimed.{IsIndexed}
+use Rattle.site_book.specs.{Claims, IsEvseFor, OutOfService, Reserved, is_free, works}
+use Rattle.operator_rows.specs.{HasClaim, IsIndexed}
+use Rattle.operator_rows.specs.State.{Rows}
 use Rattle.operator_tables.specs.declared.decision.Decision.TheVariants as decision
 use Rattle.operator_tables.specs.Reserve as lines
-use Rattle.operator_tables.specs.Reserve.{IsOwnEvse, IsReservable, IsSound, IsVoid, MayHold, ReserveLine, reservation_at, reservation_key}
+use Rattle.operator_tables.specs.Reserve.{IsOwnEvse, IsReservable, IsSound, MayHold, ReserveLine, reservation_at}
+use Rattle.operator_tables.specs.Reserve.{reservation_key}
 use Rattle.operator_tables.proofs.FreePlaces.{only_claim, in_service, unclaimed, works_free}
-
--- the EVSE that a reservation claims is the one of its uid
-pub stands_at : (s : Rows) (p id evse : List ℕ) (r : Reservation) → get s.booked.reservations (p, id) ≡ Some r → HasClaim s evse (Reserved p id) → key r.evse_uid ≡ evse
-stands_at s p id evse r is (x, has, at) = let same : x ≡ r = cc in ap (λ (y : Reservation). key y.evse_uid) (sym same) ∙ at
 
 module _ (claims : Claims) (out : OutOfService) (s : Rows) (h : IsIndexed claims s) (service : out ≡ s.out_of_service) (p : List ℕ) (c : ReserveNow) (l : Location) (e : Evse) where
   -- the EVSE that the reservation is on may be reserved
@@ -45,11 +34,6 @@ module _ (claims : Claims) (out : OutOfService) (s : Rows) (h : IsIndexed claims
       let work = subst (λ (z : OutOfService). IsTrue (works z (key e.uid))) (sym service) may.works in
       let has = works_free claims out s h (key e.uid) work not_free in
       not_own (record { place = may.place; works = may.works; own = subst (HasClaim s (key e.uid)) (may.may has.0 has.1) has.1 })
-
--- the reservation claims the EVSE that it is on
-pub is_own : (s : Rows) (p : List ℕ) (c : ReserveNow) (l : Location) (e : Evse) (r : Reservation) → get s.booked.reservations (p, key c.reservation_id) ≡ Some r → IsEvseFor l c.evse_uid e →
-    key r.evse_uid ≡ key e.uid → IsTrue (works s.out_of_service (key e.uid)) → IsOwnEvse s p c l e
-is_own s p c l e r stands place same work = record { place = place; works = work; own = (r, stands, same) }
 
 -- an EVSE that may be reserved under a provider's key may be so under an equal one
 pub reservable_as : (s : Rows) (p q : List ℕ) (c : ReserveNow) (l : Location) (e : Evse) → p ≡ q → IsReservable s p c l e → IsReservable s q c l e
@@ -75,9 +59,6 @@ module _ (site : Site) (s : Rows) (at : ℕ) (sender : List ℕ) (n : ℕ) (c : 
 module _ (x y : BookRows) (same : x ≡ y) (p q id reservation : List ℕ) (own : p ≡ q) (same_id : id ≡ reservation) where
   pub in_time_of : (n : ℕ) → IsInTime x.marks (p, id) n → IsInTime y.marks (q, reservation) n
   in_time_of n h = subst (λ (z : BookRows). IsInTime z.marks (q, reservation) n) same (subst (λ k. IsInTime x.marks (k, reservation) n) own (subst (λ k. IsInTime x.marks (p, k) n) same_id h))
-
-  pub stands_of : (o : Option Reservation) → get x.reservations (p, id) ≡ o → get y.reservations (q, reservation) ≡ o
-  stands_of o h = sym (ap (λ (z : BookRows). get z.reservations (p, id)) same ∙ ap (λ k. get y.reservations (k, id)) own ∙ ap (λ k. get y.reservations (q, k)) same_id) ∙ h
 
   pub here_of : (a b : List ℕ) → a ≡ b → IsHere x.reservations (p, id) a → IsHere y.reservations (q, reservation) b
   here_of a b there h = λ r is. h r (ap (λ (z : BookRows). get z.reservations (p, id)) same ∙ ap (λ k. get y.reservations (k, id)) own ∙ ap (λ k. get y.reservations (q, k)) same_id ∙ is) ∙ there

@@ -1,9 +1,8 @@
 -- What a RESERVE_NOW asks for (OCPI 2.2.1, Commands: ReserveNow). It names no table.
 use Rattle.std.specs.Prelude.{◌≡◌}
-use Rattle.ocpi_text.specs.Text.{key}
-use Rattle.ocpi_types.specs.declared.commands.ReserveNow.{ReserveNow}
-use Rattle.ocpi_types.specs.declared.stored.Reservation.{Reservation}
-use Rattle.site_book.specs.Sites.{IsNamed}
+use Rattle.ocpi_text.specs.{key}
+use Rattle.ocpi_types.specs.{Reservation, ReserveNow}
+use Rattle.site_book.specs.{IsNamed}
 
 -- the reservation is the one that the command asks for: on the EVSE that it names, if it names one
 pub record IsAsked (c : ReserveNow) (r : Reservation) : Type 0 where

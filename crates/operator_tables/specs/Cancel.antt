@@ -1,13 +1,11 @@
 -- How a CANCEL_RESERVATION is decided (OCPI 2.2.1, Commands: CancelReservation).
 use Rattle.std.specs.Prelude.{◌≡◌, ℕ, List, Some, None}
 use Rattle.std.specs.FinMap.{get}
-use Rattle.ocpi_text.specs.Text.{key}
-use Rattle.ocpi_types.specs.declared.commands.CancelReservation.{CancelReservation}
-use Rattle.ocpi_types.specs.declared.stored.Reservation.{Reservation}
-use Rattle.ocpi_types.specs.declared.words.CommandResponseType.TheVariants as response
-use Rattle.ocpi_types.specs.declared.words.CommandResultType.TheVariants as result
-use Rattle.reservation_book.specs.Places.{Key}
-use Rattle.reservation_book.specs.Refusals.{IsInTime}
+use Rattle.ocpi_text.specs.{key}
+use Rattle.ocpi_types.specs.{CancelReservation, Reservation}
+use Rattle.ocpi_types.specs.response
+use Rattle.ocpi_types.specs.result
+use Rattle.reservation_book.specs.{IsInTime, Key}
 use Rattle.operator_rows.specs.State.{Rows}
 use Rattle.operator_tables.specs.declared.decision.Decision.{Decision}
 use Rattle.operator_tables.specs.declared.decision.Decision.TheVariants.{Answered, Noted, Cancelled}

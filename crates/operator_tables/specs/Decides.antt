@@ -1,9 +1,7 @@
 -- What a command is decided to be.
 use Rattle.std.specs.Prelude.{ℕ, List, Option, Some, None}
-use Rattle.ocpi_types.specs.declared.site.Site.{Site}
-use Rattle.ocpi_types.specs.declared.commands.Command.{Command}
-use Rattle.ocpi_types.specs.declared.commands.Command.TheVariants as command
-use Rattle.ocpi_types.specs.declared.words.CommandResultType.{CommandResultType}
+use Rattle.ocpi_types.specs.{Command, CommandResultType, Site}
+use Rattle.ocpi_types.specs.command
 use Rattle.ocpi_types.specs.declared.words.CommandResultType.TheVariants.{Accepted}
 use Rattle.operator_rows.specs.State.{Rows}
 use Rattle.operator_tables.specs.declared.decision.Decision.{Decision}

@@ -1,15 +1,9 @@
 -- The places that reservations hold for a start (OCPI 2.2.1, Commands: StartSession).
 use Rattle.std.specs.Prelude.{◌≡◌, ℕ, List, Some}
-use Rattle.ocpi_text.specs.Text.{key}
-use Rattle.ocpi_types.specs.declared.site.Location.{Location}
-use Rattle.ocpi_types.specs.declared.site.Evse.{Evse}
-use Rattle.ocpi_types.specs.declared.site.Connector.{Connector}
-use Rattle.ocpi_types.specs.declared.rows.Place.{Place}
-use Rattle.ocpi_types.specs.declared.commands.StartSession.{StartSession}
-use Rattle.reservation_book.specs.declared.standing.Standing.{Standing}
-use Rattle.reservation_book.specs.declared.standing.TokenAt.{TokenAt}
-use Rattle.reservation_book.specs.Tokens.{IsFor}
-use Rattle.site_book.specs.Sites.{Fits}
+use Rattle.ocpi_text.specs.{key}
+use Rattle.ocpi_types.specs.{Connector, Evse, Location, Place, StartSession}
+use Rattle.reservation_book.specs.{IsFor, Standing, TokenAt}
+use Rattle.site_book.specs.{Fits}
 use Rattle.operator_rows.specs.State.{Rows}
 use Rattle.operator_tables.specs.Places.{Works, place_of}
 use Rattle.operator_tables.specs.Start.{IsPlace}

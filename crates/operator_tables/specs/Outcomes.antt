@@ -2,26 +2,17 @@
 -- uses a decision needs no table.
 use Rattle.std.specs.Prelude.{◌≡◌, ◌≢◌, ◌<◌, ◌⊎◌, ℕ, true, List, Option, Some, None, IsTrue}
 use Rattle.std.specs.FinMap.{get}
-use Rattle.ocpi_text.specs.Text.{key}
-use Rattle.ocpi_types.specs.declared.commands.StartSession.{StartSession}
-use Rattle.ocpi_types.specs.declared.commands.StopSession.{StopSession}
-use Rattle.ocpi_types.specs.declared.commands.ReserveNow.{ReserveNow}
-use Rattle.ocpi_types.specs.declared.commands.CancelReservation.{CancelReservation}
-use Rattle.ocpi_types.specs.declared.commands.UnlockConnector.{UnlockConnector}
-use Rattle.ocpi_types.specs.declared.rows.Place.{Place}
-use Rattle.ocpi_types.specs.declared.sessions.Session.{Session}
-use Rattle.ocpi_types.specs.declared.commands.Command.{Command}
-use Rattle.ocpi_types.specs.declared.commands.Command.TheVariants as command
-use Rattle.ocpi_types.specs.declared.stored.Reservation.{Reservation}
-use Rattle.ocpi_types.specs.declared.words.CommandResponseType.{CommandResponseType}
-use Rattle.ocpi_types.specs.declared.words.CommandResponseType.TheVariants as response
-use Rattle.ocpi_types.specs.declared.words.CommandResultType.{CommandResultType}
-use Rattle.ocpi_types.specs.declared.words.CommandResultType.TheVariants as result
-use Rattle.reservation_book.specs.Refusals.{IsHere, IsInTime}
-use Rattle.reservation_book.specs.Tokens.{IsToken}
-use Rattle.session_state.specs.Pasts.{IsFinal}
-use Rattle.site_book.specs.Sites.{IsConnectorOf, IsNamed, IsSiteOf, works}
-use Rattle.operator_rows.specs.State.{State, Rows, IsFree, IsSpent, IsStart}
+use Rattle.ocpi_text.specs.{key}
+use Rattle.ocpi_types.specs.{CancelReservation, Command, CommandResponseType, CommandResultType, Place, Reservation}
+use Rattle.ocpi_types.specs.{ReserveNow, Session, StartSession, StopSession, UnlockConnector}
+use Rattle.ocpi_types.specs.command
+use Rattle.ocpi_types.specs.response
+use Rattle.ocpi_types.specs.result
+use Rattle.reservation_book.specs.{IsHere, IsInTime, IsToken}
+use Rattle.session_state.specs.{IsFinal}
+use Rattle.site_book.specs.{IsConnectorOf, IsNamed, IsSiteOf, works}
+use Rattle.operator_rows.specs.{IsFree, IsSpent, IsStart}
+use Rattle.operator_rows.specs.State.{State, Rows}
 use Rattle.operator_tables.specs.Asked.{IsAsked}
 use Rattle.operator_tables.specs.declared.decision.Decision.{Decision}
 use Rattle.operator_tables.specs.declared.decision.Decision.TheVariants as decision

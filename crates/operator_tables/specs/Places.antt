@@ -1,19 +1,11 @@
 -- What commands ask of places (OCPI 2.2.1, Commands).
 use Rattle.std.specs.Prelude.{◌≡◌, ◌≢◌, ℕ, List, Option, IsTrue}
-use Rattle.ocpi_text.specs.Text.{key}
-use Rattle.ocpi_types.specs.declared.site.Site.{Site}
-use Rattle.ocpi_types.specs.declared.site.Location.{Location}
-use Rattle.ocpi_types.specs.declared.site.Evse.{Evse}
-use Rattle.ocpi_types.specs.declared.site.Connector.{Connector}
-use Rattle.ocpi_types.specs.declared.rows.Place.{Place}
-use Rattle.ocpi_types.specs.declared.token.Token.{Token}
-use Rattle.reservation_book.specs.declared.standing.Standing.{Standing}
-use Rattle.reservation_book.specs.declared.standing.TokenAt.{TokenAt}
-use Rattle.reservation_book.specs.Tokens.{IsFor}
-use Rattle.site_book.specs.Sites.{IsEvseFor, IsLocation, works}
-use Rattle.site_book.specs.declared.claim.Claim.{Claim}
-use Rattle.site_book.specs.declared.claim.Claim.TheVariants.{OpenStart, Live, Reserved}
-use Rattle.operator_rows.specs.State.{Rows, HasClaim}
+use Rattle.ocpi_text.specs.{key}
+use Rattle.ocpi_types.specs.{Connector, Evse, Location, Place, Site, Token}
+use Rattle.reservation_book.specs.{IsFor, Standing, TokenAt}
+use Rattle.site_book.specs.{Claim, IsEvseFor, IsLocation, Live, OpenStart, Reserved, works}
+use Rattle.operator_rows.specs.{HasClaim}
+use Rattle.operator_rows.specs.State.{Rows}
 
 -- the site has no location of that id
 abbrev pub HasNoLocation : Site → List ℕ → Type 0

@@ -1,18 +1,14 @@
 -- How a RESERVE_NOW is decided (OCPI 2.2.1, Commands: ReserveNow; Status codes: 2001 and 2003).
 use Rattle.std.specs.Prelude.{◌≡◌, ◌≢◌, ◌≤◌, ℕ, false, List, ◌⊎◌}
-use Rattle.ocpi_text.specs.Text.{key}
-use Rattle.ocpi_types.specs.declared.site.Site.{Site}
-use Rattle.ocpi_types.specs.declared.site.Location.{Location}
-use Rattle.ocpi_types.specs.declared.site.Evse.{Evse}
-use Rattle.ocpi_types.specs.declared.commands.ReserveNow.{ReserveNow}
-use Rattle.ocpi_types.specs.declared.stored.Reservation.{Reservation}
-use Rattle.ocpi_types.specs.declared.words.CommandResponseType.TheVariants as response
-use Rattle.ocpi_types.specs.declared.words.CommandResultType.TheVariants as result
-use Rattle.reservation_book.specs.Places.{Key}
-use Rattle.reservation_book.specs.Refusals.{IsInTime, IsHere}
-use Rattle.site_book.specs.Sites.{IsEvseFor, IsLocation}
-use Rattle.site_book.specs.declared.claim.Claim.TheVariants as claim
-use Rattle.operator_rows.specs.State.{Rows, HasClaim}
+use Rattle.ocpi_text.specs.{key}
+use Rattle.ocpi_types.specs.{Evse, Location, Reservation, ReserveNow, Site}
+use Rattle.ocpi_types.specs.response
+use Rattle.ocpi_types.specs.result
+use Rattle.reservation_book.specs.{IsHere, IsInTime, Key}
+use Rattle.site_book.specs.{IsEvseFor, IsLocation}
+use Rattle.site_book.specs.claim
+use Rattle.operator_rows.specs.{HasClaim}
+use Rattle.operator_rows.specs.State.{Rows}
 use Rattle.operator_tables.specs.declared.decision.Decision.{Decision}
 use Rattle.operator_tables.specs.declared.decision.Decision.TheVariants.{Refused, Answered, Noted, Reserved}
 use Rattle.operator_tables.specs.Places.{HasNoEvse, HasNoLocation, HasService, MayReserve, Works}

@@ -1,16 +1,13 @@
 -- How a START_SESSION is decided (OCPI 2.2.1, Commands: StartSession; Status codes: 2001 and 2003).
 use Rattle.std.specs.Prelude.{◌≡◌, ◌≢◌, ℕ, false, List, Some, None, IsSome, IsNone, ◌⊎◌}
-use Rattle.ocpi_text.specs.Text.{key}
-use Rattle.ocpi_types.specs.declared.site.Site.{Site}
-use Rattle.ocpi_types.specs.declared.site.Location.{Location}
-use Rattle.ocpi_types.specs.declared.site.Evse.{Evse}
-use Rattle.ocpi_types.specs.declared.site.Connector.{Connector}
-use Rattle.ocpi_types.specs.declared.commands.StartSession.{StartSession}
-use Rattle.ocpi_types.specs.declared.words.CommandResponseType.TheVariants as response
-use Rattle.ocpi_types.specs.declared.words.CommandResultType.TheVariants as result
-use Rattle.reservation_book.specs.declared.standing.Standing.{Standing}
-use Rattle.site_book.specs.Sites.{IsLocation, Fits}
-use Rattle.operator_rows.specs.State.{Rows, Spent, IsFree, IsSpent}
+use Rattle.ocpi_text.specs.{key}
+use Rattle.ocpi_types.specs.{Connector, Evse, Location, Site, StartSession}
+use Rattle.ocpi_types.specs.response
+use Rattle.ocpi_types.specs.result
+use Rattle.reservation_book.specs.{Standing}
+use Rattle.site_book.specs.{Fits, IsLocation}
+use Rattle.operator_rows.specs.{IsFree, IsSpent, Spent}
+use Rattle.operator_rows.specs.State.{Rows}
 use Rattle.operator_tables.specs.declared.decision.Decision.{Decision}
 use Rattle.operator_tables.specs.declared.decision.Decision.TheVariants.{Refused, Answered, Resulted, Started}
 use Rattle.operator_tables.specs.Places.{HasNoLocation, HasService, IsHeldFor, Works, place_of}

@@ -1,11 +1,10 @@
 -- How a STOP_SESSION is decided (OCPI 2.2.1, Commands: StopSession; Sessions: SessionStatus).
 use Rattle.std.specs.Prelude.{◌≡◌, ℕ, List, Some}
 use Rattle.std.specs.FinMap.{get}
-use Rattle.ocpi_text.specs.Text.{key}
-use Rattle.ocpi_types.specs.declared.commands.StopSession.{StopSession}
-use Rattle.ocpi_types.specs.declared.sessions.Session.{Session}
-use Rattle.ocpi_types.specs.declared.words.CommandResponseType.TheVariants as response
-use Rattle.session_state.specs.Pasts.{IsFinal}
+use Rattle.ocpi_text.specs.{key}
+use Rattle.ocpi_types.specs.{Session, StopSession}
+use Rattle.ocpi_types.specs.response
+use Rattle.session_state.specs.{IsFinal}
 use Rattle.operator_rows.specs.State.{Rows}
 use Rattle.operator_tables.specs.declared.decision.Decision.{Decision}
 use Rattle.operator_tables.specs.declared.decision.Decision.TheVariants.{Answered, Opened}

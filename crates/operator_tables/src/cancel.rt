@@ -1,7 +1,7 @@
 //! How a CANCEL_RESERVATION is decided (OCPI 2.2.1, Commands: CancelReservation).
 
 ghost use Rattle.std.specs.Prelude.{◌≡◌};
-ghost use Rattle.ocpi_text.specs.Text.{key};
+ghost use Rattle.ocpi_text.specs.{key};
 ghost use Rattle.operator_tables.specs.Cancel.{CancelLine};
 
 use crate::decision::Decision;

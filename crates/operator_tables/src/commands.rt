@@ -1,7 +1,7 @@
 //! How each command is decided.
 
 ghost use Rattle.std.specs.Prelude.{◌≡◌};
-ghost use Rattle.ocpi_text.specs.Text.{key};
+ghost use Rattle.ocpi_text.specs.{key};
 ghost use Rattle.operator_tables.specs.Decides.{Decides};
 
 use crate::cancel::decide_cancel;

@@ -2,8 +2,8 @@
 //! key alone.
 
 ghost use Rattle.std.specs.Prelude.{◌≡◌, ◌↔◌, IsTrue, IfSome, IfNone};
-ghost use Rattle.ocpi_types.specs.declared.site.Evse.{Evse};
-ghost use Rattle.site_book.specs.Sites.{IsEvseFor, IsFoundIn, IsFreeEvse, IsWorkingEvse, location_of};
+ghost use Rattle.ocpi_types.specs.{Evse};
+ghost use Rattle.site_book.specs.{IsEvseFor, IsFoundIn, IsFreeEvse, IsWorkingEvse, location_of};
 
 use ocpi_text::CiText;
 use site_book::{FoundLocation, SiteBook};

@@ -1,9 +1,9 @@
 //! How a RESERVE_NOW is decided (OCPI 2.2.1, Commands: ReserveNow).
 
 ghost use Rattle.std.specs.Prelude.{◌≡◌, ◌↔◌, IsTrue, false, IfSome, IfNone};
-ghost use Rattle.ocpi_text.specs.Text.{key};
-ghost use Rattle.ocpi_types.specs.declared.site.Evse.{Evse as EvseOf};
-ghost use Rattle.site_book.specs.Sites.{IsEvseFor, IsFoundIn, IsNamed, location_of};
+ghost use Rattle.ocpi_text.specs.{key};
+ghost use Rattle.ocpi_types.specs.{Evse as EvseOf};
+ghost use Rattle.site_book.specs.{IsEvseFor, IsFoundIn, IsNamed, location_of};
 ghost use Rattle.operator_tables.specs.Places.{HasService};
 ghost use Rattle.operator_tables.specs.Reserve.{DecidesThere, IsOwnEvse, IsReservable, IsVoid, ReserveLine};
 

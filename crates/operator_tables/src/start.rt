@@ -1,10 +1,9 @@
 //! How a START_SESSION is decided (OCPI 2.2.1, Commands: StartSession).
 
 ghost use Rattle.std.specs.Prelude.{◌≡◌, IsTrue, IsSome, IsNone, IfSome, IfNone, false, Some, None};
-ghost use Rattle.ocpi_text.specs.Text.{key};
-ghost use Rattle.ocpi_types.specs.declared.site.Evse.{Evse};
-ghost use Rattle.ocpi_types.specs.declared.site.Connector.{Connector};
-ghost use Rattle.site_book.specs.Sites.{IsEvseFor, IsFoundIn, IsFreeEvse, IsPlaceOf, IsWorkingEvse, location_of};
+ghost use Rattle.ocpi_text.specs.{key};
+ghost use Rattle.ocpi_types.specs.{Connector, Evse};
+ghost use Rattle.site_book.specs.{IsEvseFor, IsFoundIn, IsFreeEvse, IsPlaceOf, IsWorkingEvse, location_of};
 ghost use Rattle.operator_tables.specs.Start.{IsBarred, IsMismatched, IsPlace, StartLine};
 ghost use Rattle.operator_tables.specs.Held.{HasNoHeld, IsHeld, IsPlaceOn, token_of};
 

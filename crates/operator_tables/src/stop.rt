@@ -1,8 +1,8 @@
 //! How a STOP_SESSION is decided (OCPI 2.2.1, Commands: StopSession).
 
 ghost use Rattle.std.specs.Prelude.{◌≡◌, ◌↔◌, IsTrue, IfSome, IfNone};
-ghost use Rattle.ocpi_text.specs.Text.{key};
-ghost use Rattle.session_state.specs.Pasts.{IsFinal};
+ghost use Rattle.ocpi_text.specs.{key};
+ghost use Rattle.session_state.specs.{IsFinal};
 ghost use Rattle.operator_tables.specs.Stop.{HasNoSession, IsOwnSession, StopLine};
 
 use crate::decision::Decision;

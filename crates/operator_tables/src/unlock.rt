@@ -1,7 +1,7 @@
 //! How an UNLOCK_CONNECTOR is decided (OCPI 2.2.1, Commands: UnlockConnector).
 
 ghost use Rattle.std.specs.Prelude.{◌≡◌, ◌↔◌, IsTrue};
-ghost use Rattle.ocpi_text.specs.Text.{key};
+ghost use Rattle.ocpi_text.specs.{key};
 ghost use Rattle.operator_tables.specs.Places.{IsForeign, holder};
 ghost use Rattle.operator_tables.specs.Unlock.{UnlockLine};
 

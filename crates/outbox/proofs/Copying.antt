@@ -2,12 +2,9 @@
 use Rattle.std.proofs.Common.{◌≡◌, List, [], ◌∷◌, ℕ, sym, ap, ◌∙◌}
 use Rattle.std.specs.Ordering.{nat_cmp}
 use Rattle.std.specs.Cmp.{nat_cmp_total}
-use Rattle.std.specs.FinMap.{FinMap, nat_cmp-IsAntisymmetric, empty, entries, insert}
+use Rattle.std.specs.FinMap.{FinMap, nat_cmp-IsAntisymmetric, empty, entries}
 use Rattle.tables.proofs.Entries.{insert_all, all_entries}
 
 module _ {X : Type 0} (all : FinMap nat_cmp X) where
   pub copied : (now : FinMap nat_cmp X) (rest first : List (ℕ × X)) → rest ≡ [] → insert_all rest now ≡ insert_all first empty → first ≡ entries all → now ≡ all
   copied now rest first none same is = ap (λ l. insert_all l now) (sym none) ∙ same ∙ ap (λ l. insert_all l empty) is ∙ all_entries nat_cmp_total nat_cmp-IsAntisymmetric all
-
-pub one_copied : {X : Type 0} (now after : FinMap nat_cmp X) (e : ℕ × X) (rest later : List (ℕ × X)) (total : FinMap nat_cmp X) → rest ≡ e ∷ later → after ≡ insert now e.0 e.1 → insert_all rest now ≡ total → insert_all later after ≡ total
-one_copied now after e rest later total is put same = ap (insert_all later) put ∙ ap (λ l. insert_all l now) (sym is) ∙ same

@@ -1,6 +1,7 @@
 -- The numbers of requests that are due, and their order.
-use Rattle.std.proofs.Common.{◌≡◌, ◌≢◌, ◌⊎◌, ◌<◌, ◌≤◌, ℕ, List, [], ◌∷◌, ◌++◌, map, inl, inr, true, false, cond, T, refl, sym, ap, subst, ◌∙◌, arith, get_or}
-use Rattle.std.specs.Prelude.{Option, Some, IsTrue, is_some, Contains, nat_le, take_while, not, Bool}
+use Rattle.std.proofs.Common.{◌≡◌, ◌≢◌, ◌⊎◌, ◌<◌, ◌≤◌, ℕ, List, [], ◌∷◌, ◌++◌, map, inl, inr, true, false, cond, T}
+use Rattle.std.proofs.Common.{refl, sym, ap, subst, ◌∙◌, arith, get_or, Option, Some, IsTrue, is_some, Contains, nat_le}
+use Rattle.std.proofs.Common.{take_while, not, Bool}
 use Rattle.std.specs.Ordering.{is_le}
 use Rattle.std.specs.List.{AllPairs, filter}
 use Rattle.std.specs.List.Sorted.{IsSorted, IsPermutation}
@@ -308,9 +309,6 @@ front_first now later x is = subst (λ l. Contains l x) (sym is) (in_front x lat
 -- a next entry is passed over, or taken
 pub untimed_takes : {X : Type 0} (resend : Resend) (e : ℕ × X) (es : List (ℕ × X)) → contains_key resend e.0 ≡ false → untimed resend (e ∷ es) ≡ e.0 ∷ untimed resend es
 untimed_takes resend e es free = untimed_step 0 resend e es ∙ ap (λ b. cond (not b) (e.0 ∷ untimed resend es) (untimed resend es)) free
-
-pub untimed_passes : {X : Type 0} (resend : Resend) (e : ℕ × X) (es : List (ℕ × X)) → contains_key resend e.0 ≡ true → untimed resend (e ∷ es) ≡ untimed resend es
-untimed_passes resend e es timed = untimed_step 0 resend e es ∙ ap (λ b. cond (not b) (e.0 ∷ untimed resend es) (untimed resend es)) timed
 
 -- a number of which no resend time was found has none
 pub no_time : (resend : Resend) (n : ℕ) (found : Option ℕ) {b : Bool} → found ≡ get resend n → is_some found ≡ not b → b ≡ true → contains_key resend n ≡ false

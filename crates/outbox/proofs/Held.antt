@@ -1,10 +1,10 @@
 -- What always holds of an outbox is kept by each change.
-use Rattle.std.proofs.Common.{◌≡◌, ◌≢◌, ◌⊎◌, ◌≤◌, ◌<◌, inl, inr, ℕ, refl, sym, ap, subst, ◌∙◌, arith}
-use Rattle.std.specs.Prelude.{Option, Some, None, IsTrue, is_some}
+use Rattle.std.proofs.Common.{◌≡◌, ◌≢◌, ◌⊎◌, ◌≤◌, inl, inr, ℕ, refl, sym, ap, subst, ◌∙◌, arith, Option, Some, None}
+use Rattle.std.proofs.Common.{IsTrue, is_some}
 use Rattle.std.specs.Ordering.{nat_cmp}
 use Rattle.std.specs.Cmp.{nat_cmp_total}
 use Rattle.std.specs.FinMap.{FinMap, nat_cmp-IsAntisymmetric, empty, get, insert, remove, contains_key, get-empty}
-use Rattle.ocpi_types.specs.declared.stored.SentCommand.{SentCommand}
+use Rattle.ocpi_types.specs.{SentCommand}
 use Rattle.tables.proofs.Maps.{get-insert_same, get-insert_other, get-remove_same, get-remove_other, told}
 use Rattle.tables.proofs.Options.{not_both, none_contained}
 use Rattle.std.proofs.lemmas.Option.{same_Some}
@@ -73,33 +73,8 @@ module _ (last : ℕ) (pushes : Pushes) (commands : Commands) where
     pub waits_counted : (n : ℕ) → Waits rows n → n ≤ last
     waits_counted n waits = elim waits [ inl push ↦ h.consistent.pushes_counted n push | inr o ↦ h.consistent.commands_counted n (ap is_some o.1) ]
 
-    pub are_up_to : AreUpTo rows last
-    are_up_to = record { pushes = h.consistent.pushes_counted; commands = h.consistent.commands_counted }
-
     pub are_below : (next : ℕ) → last ≤ next → AreUpTo rows next
     are_below next more = record { pushes = λ n has. (let most = h.consistent.pushes_counted n has in omega arith); commands = λ n has. (let most = h.consistent.commands_counted n has in omega arith) }
-
-    -- no request has the next number
-    pub next_push_free : (n : ℕ) → last < n → get pushes n ≡ None
-    next_push_free n above = unless (get pushes n) (λ has. let most = h.consistent.pushes_counted n has in omega arith)
-      where
-        unless : (o : Option Outgoing) → (IsTrue (is_some o) → ⊥) → o ≡ None
-        unless None f = refl
-        unless (Some x) f = absurd (f refl)
-
-    pub next_command_free : (n : ℕ) → last < n → get commands n ≡ None
-    next_command_free n above = unless (get commands n) (λ has. let most = h.consistent.commands_counted n has in omega arith)
-      where
-        unless : (o : Option SentCommand) → (IsTrue (is_some o) → ⊥) → o ≡ None
-        unless None f = refl
-        unless (Some x) f = absurd (f refl)
-
-    pub next_unsent : (n : ℕ) → last < n → get resend n ≡ None
-    next_unsent n above = unless (get resend n) (λ has. let most = waits_counted n (h.resent n has) in omega arith)
-      where
-        unless : (o : Option ℕ) → (IsTrue (is_some o) → ⊥) → o ≡ None
-        unless None f = refl
-        unless (Some x) f = absurd (f refl)
 
     pub count_held : (next lower : ℕ) → AreUpTo rows next → ((n : ℕ) → first ≤ n → n ≤ last → lower ≤ n) → AreHeld (record { last = next; pushes = pushes; commands = commands }) resend lower
     count_held next lower most least = record {

@@ -1,12 +1,10 @@
 -- The index of pushes by what they are about is kept by each change of them.
-use Rattle.std.proofs.Common.{◌≡◌, ◌≢◌, ◌↔◌, inl, inr, ℕ, refl, sym, ap, subst, ◌∙◌}
-use Rattle.std.specs.Prelude.{Some, None}
+use Rattle.std.proofs.Common.{◌≡◌, ◌≢◌, ◌↔◌, inl, inr, ℕ, refl, sym, ap, subst, ◌∙◌, Some, None}
 use Rattle.std.specs.Ordering.{nat_cmp}
 use Rattle.std.specs.Cmp.{IsTotalOrder, nat_cmp_total}
 use Rattle.std.proofs.lemmas.Cmp.{on_total, then_total}
-use Rattle.tables.specs.Tables.{IsLeast, HasNone}
+use Rattle.tables.specs.{HasNone, IsLeast, pair_exact}
 use Rattle.std.specs.FinMap.{FinMap, IsAntisymmetric, nat_cmp-IsAntisymmetric, get, insert, remove, empty, get-empty}
-use Rattle.tables.specs.Keys.{pair_exact}
 use Rattle.tables.proofs.Maps.{get-insert_same, get-insert_other, get-remove_same, get-remove_other, told, remove_absent}
 use Rattle.outbox.specs.declared.push_book.Outgoing.{Outgoing}
 use Rattle.outbox.specs.declared.push_book.Subject.{Subject}

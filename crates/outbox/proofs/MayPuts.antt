@@ -1,6 +1,5 @@
 -- Whether a push may be put, by the one about the same.
-use Rattle.std.proofs.Common.{Bool, true, arith, nat_eq, ◌≡◌, ◌≤◌, ℕ, refl, sym, subst, ◌∙◌}
-use Rattle.std.specs.Prelude.{Option, Some, None, IsTrue}
+use Rattle.std.proofs.Common.{Bool, true, arith, nat_eq, ◌≡◌, ◌≤◌, ℕ, refl, sym, subst, ◌∙◌, Option, Some, None, IsTrue}
 use Rattle.std.proofs.lemmas.Bool.Decides.{nat_tests}
 use Rattle.std.specs.FinMap.{get}
 use Rattle.tables.proofs.Options.{none_some}

@@ -1,13 +1,12 @@
 -- A request that is made under the next number.
-use Rattle.std.proofs.Common.{◌≡◌, ◌≤◌, ◌<◌, ◌+◌, inl, inr, ℕ, List, refl, sym, ap, subst, ◌∙◌, arith}
-use Rattle.std.specs.Prelude.{Option, Some, None, IsTrue, is_some}
+use Rattle.std.proofs.Common.{◌≡◌, ◌≤◌, ◌<◌, ◌+◌, inl, inr, ℕ, List, refl, sym, ap, subst, ◌∙◌, arith, Option, Some}
+use Rattle.std.proofs.Common.{None, IsTrue, is_some}
 use Rattle.std.specs.Ordering.{nat_cmp}
 use Rattle.std.specs.Cmp.{nat_cmp_total}
 use Rattle.std.specs.FinMap.{FinMap, nat_cmp-IsAntisymmetric, get, insert, remove, contains_key}
-use Rattle.ocpi_types.specs.declared.stored.Push.{Push}
-use Rattle.ocpi_types.specs.declared.stored.SentCommand.{SentCommand}
-use Rattle.ocpi_types.specs.declared.rows.Row.TheVariants as row
-use Rattle.ocpi_types.specs.declared.rows.RowKey.TheVariants as keys
+use Rattle.ocpi_types.specs.{Push, SentCommand}
+use Rattle.ocpi_types.specs.row
+use Rattle.ocpi_types.specs.keys
 use Rattle.std.proofs.lemmas.Option.{same_Some}
 use Rattle.tables.proofs.Maps.{get-remove_same, get-remove_other, told, remove_absent}
 use Rattle.tables.proofs.Options.{none_of, none_some, not_both}
@@ -167,11 +166,4 @@ changed s a t n command a_rows a_resend a_sending a_keeps t_rows t_resend t_send
   resend = t_resend ∙ ap (λ (m : Resend). remove m n) a_resend;
   sending = t_sending ∙ (λ i. released (get (a_resend i) n) n (a_sending i));
   keeps = λ r apart had. t_keeps r apart (a_keeps r had);
-}
-
--- a command that stands may be put again
-pub may_change : (r : OutboxRows) → AreConsistent r → (n : ℕ) (command : SentCommand) → get r.commands n ≡ Some command → MayPutCommand r n
-may_change r consistent n command has = record {
-  counted = consistent.commands_counted n (ap is_some has);
-  apart = none_of (get r.pushes n) (λ push. consistent.apart n push (ap is_some has));
 }

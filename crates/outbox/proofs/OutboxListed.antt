@@ -1,18 +1,15 @@
 -- The rows of an outbox as a list, and the outbox of a list.
-use Rattle.std.proofs.Common.{◌≡◌, ◌≢◌, ℕ, List, [], ◌∷◌, ◌++◌, map, inl, inr, true, false, cond, refl, sym, subst, ◌∙◌, arith, nat_eq}
-use Rattle.std.specs.Prelude.{Contains}
+use Rattle.std.proofs.Common.{◌≡◌, ◌≢◌, ℕ, List, [], ◌∷◌, ◌++◌, map, inl, inr, true, false, cond, refl, sym, subst, ◌∙◌}
+use Rattle.std.proofs.Common.{arith, nat_eq, Contains}
 use Rattle.std.specs.List.{AllPairs}
 use Rattle.std.specs.Cmp.{nat_cmp_total}
 use Rattle.std.specs.FinMap.{nat_cmp-IsAntisymmetric, entries}
 use Rattle.std.proofs.lemmas.Bool.Decides.{nat_tests}
 use Rattle.std.proofs.lemmas.List.Elements.{Contains-append_left, Contains-append_right, Contains-append_cases}
 use Rattle.std.proofs.lemmas.List.Kept.{AllPairs-cons}
-use Rattle.ocpi_types.specs.Rows.{key_of}
-use Rattle.ocpi_types.specs.declared.stored.Push.{Push}
-use Rattle.ocpi_types.specs.declared.stored.SentCommand.{SentCommand}
-use Rattle.ocpi_types.specs.declared.rows.Row.{Row}
-use Rattle.ocpi_types.specs.declared.rows.Row.TheVariants as row
-use Rattle.ocpi_types.specs.declared.rows.Counter.TheVariants as counter
+use Rattle.ocpi_types.specs.{Push, Row, SentCommand, key_of}
+use Rattle.ocpi_types.specs.row
+use Rattle.ocpi_types.specs.counter
 use Rattle.outbox.specs.Outbox.{OutboxRows, HasRow}
 use Rattle.outbox.specs.OutboxListing.{AreRowsOf, push_row, command_row, count_rows, rows_of}
 use Rattle.tables.proofs.Elements.{in_none, in_single, in_front, in_map, of_map, no_pairs, all_of, joined}

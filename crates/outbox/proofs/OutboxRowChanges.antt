@@ -1,44 +1,20 @@
 -- What stands after a row of an outbox is put or dropped.
 use Rattle.std.proofs.Common.{◌≡◌, ◌≢◌, ◌↔◌, ◌⊎◌, inl, inr, ℕ, refl, sym, ap, subst, ◌∙◌}
-use Rattle.std.specs.Ordering.{nat_cmp}
 use Rattle.std.specs.Cmp.{nat_cmp_total}
-use Rattle.std.specs.FinMap.{nat_cmp-IsAntisymmetric, get, insert, remove, same_map, get-empty}
+use Rattle.std.specs.FinMap.{nat_cmp-IsAntisymmetric, get, insert, remove, same_map}
 use Rattle.tables.proofs.Maps.{get-insert_same, get-insert_other, get-remove_same, get-remove_other, told}
-use Rattle.ocpi_types.specs.Rows.{key_of}
-use Rattle.ocpi_types.specs.declared.rows.Row.{Row}
-use Rattle.ocpi_types.specs.declared.rows.Row.TheVariants as row
-use Rattle.ocpi_types.specs.declared.rows.RowKey.{RowKey}
-use Rattle.ocpi_types.specs.declared.rows.RowKey.TheVariants as keys
-use Rattle.ocpi_types.specs.declared.rows.Counter.{Counter}
-use Rattle.ocpi_types.specs.declared.rows.Counter.TheVariants as counter
+use Rattle.ocpi_types.specs.{Counter, Row, RowKey, key_of}
+use Rattle.ocpi_types.specs.row
+use Rattle.ocpi_types.specs.keys
+use Rattle.ocpi_types.specs.counter
 use Rattle.outbox.specs.declared.push_book.Outgoing.{Outgoing}
-use Rattle.outbox.specs.Outbox.{OutboxRows, HasRow, no_rows, put_row}
+use Rattle.outbox.specs.Outbox.{OutboxRows, HasRow, put_row}
 use Rattle.outbox.specs.OutboxListing.{IsKept, PutsStand, DropsEnd, RowsAreAll}
 use Rattle.tables.proofs.Options.{none_some, same_option}
 use Rattle.std.proofs.lemmas.Option.{same_Some}
 
 same_number : (q k : ℕ) → (q ≡ k) ⊎ (q ≢ k)
 same_number q k = told nat_cmp_total nat_cmp-IsAntisymmetric q k
-
-pub is_kept : (s : OutboxRows) (r : Row) → HasRow s r → IsKept r
-is_kept s (row.Count counter.Request n) h = h.1
-is_kept s (row.Count counter.Serial n) h = h
-is_kept s (row.Count counter.Session n) h = h
-is_kept s (row.Count counter.Cdr n) h = h
-is_kept s (row.Count counter.Reference n) h = h
-is_kept s (row.Push n to push) h = tt
-is_kept s (row.Command n command) h = tt
-is_kept s other h = h
-
-pub no_row : (r : Row) → HasRow no_rows r → ⊥
-no_row (row.Count counter.Request n) h = h.1 (sym h.0)
-no_row (row.Count counter.Serial n) h = h
-no_row (row.Count counter.Session n) h = h
-no_row (row.Count counter.Cdr n) h = h
-no_row (row.Count counter.Reference n) h = h
-no_row (row.Push n to push) h = none_some (record { to = to; push = push }) (sym (get-empty nat_cmp n) ∙ h)
-no_row (row.Command n command) h = none_some command (sym (get-empty nat_cmp n) ∙ h)
-no_row other h = h
 
 -- all that is stored are rows
 pub same_rows : RowsAreAll

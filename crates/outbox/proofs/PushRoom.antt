@@ -1,6 +1,5 @@
 -- The room of pushes.
-use Rattle.std.proofs.Common.{◌≡◌, ◌≢◌, ◌∙◌, ℕ, true, false, ap, sym, subst}
-use Rattle.std.specs.Prelude.{Option, Some, None, IsTrue}
+use Rattle.std.proofs.Common.{◌≡◌, ◌≢◌, ◌∙◌, ℕ, true, false, ap, sym, subst, Option, Some, None, IsTrue}
 use Rattle.std.specs.Ordering.{nat_cmp}
 use Rattle.std.specs.Cmp.{nat_cmp_total}
 use Rattle.std.specs.FinMap.{FinMap, nat_cmp-IsAntisymmetric, remove, contains_key}
@@ -32,10 +31,6 @@ lost_with_subject s pushes subjects number v is of n u apart h = record { of_pus
 pub subject_room : (rooms : FinMap subject_number_cmp (Unit {0})) (o : Option Subject) (u : Subject) (n : ℕ) → o ≡ Some u → HasSubjectRoom rooms o n → IsTrue (contains_key rooms (u, n))
 subject_room rooms None u n e h = let bad : None ≡ Some u = e in absurd (cc)
 subject_room rooms (Some v) u n e h = let same : v ≡ u = cc in subst (λ z. IsTrue (contains_key rooms (z, n))) same h
-
-pub no_subject_room : (rooms : FinMap subject_number_cmp (Unit {0})) (o : Option Subject) (n : ℕ) → o ≡ None → HasSubjectRoom rooms o n
-no_subject_room rooms None n e = tt
-no_subject_room rooms (Some v) n e = let bad : Some v ≡ None = e in absurd (cc)
 
 -- the room of the push itself is gone
 pub no_push_room : (before : FinMap nat_cmp (Unit {0})) (t : PushRooms) (number : ℕ) → t.pushes ≡ remove before number → (u : Option Subject) → HasRoomOfPush t number u → ⊥

@@ -1,9 +1,8 @@
 -- The room of rows, by that of pushes and commands.
-use Rattle.std.proofs.Common.{◌≡◌, ◌≢◌, ℕ, ap, subst}
-use Rattle.std.specs.Prelude.{Option}
-use Rattle.ocpi_types.specs.declared.rows.Row.TheVariants as row
-use Rattle.ocpi_types.specs.declared.rows.RowKey.TheVariants as keys
-use Rattle.ocpi_types.specs.declared.stored.SentCommand.{SentCommand}
+use Rattle.std.proofs.Common.{◌≡◌, ◌≢◌, ℕ, ap, subst, Option}
+use Rattle.ocpi_types.specs.row
+use Rattle.ocpi_types.specs.keys
+use Rattle.ocpi_types.specs.{SentCommand}
 use Rattle.outbox.specs.declared.push_book.Subject.{Subject}
 use Rattle.outbox.specs.Commands.{HasRoomOfCommand}
 use Rattle.outbox.specs.Pushes.{HasRoomOfPush, KeepsPushRoom, subject}

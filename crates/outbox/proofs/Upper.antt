@@ -1,17 +1,13 @@
 -- Whether a map has a key above a number.
-use Rattle.std.proofs.Common.{◌≡◌, ◌≤◌, ◌<◌, ℕ, refl, ap, arith, true, false}
-use Rattle.std.specs.Prelude.{IsTrue, is_some}
+use Rattle.std.proofs.Common.{◌≡◌, ◌≤◌, ◌<◌, ℕ, refl, ap, arith, true, false, IsTrue, is_some}
 use Rattle.std.specs.Ordering.{nat_cmp, is_lt}
 use Rattle.std.specs.declared.cmp.Ordering.{Ordering}
 use Rattle.std.specs.declared.cmp.Ordering.TheVariants.{Less, Equal, Greater}
 use Rattle.std.specs.BTreeMap.Range.{IsLtBy}
 use Rattle.std.specs.FinMap.{FinMap, get, contains_key}
 use Rattle.std.proofs.lemmas.Bool.Decides.{nat_tests}
-use Rattle.tables.specs.Tables.{IsLeast, HasNone}
+use Rattle.tables.specs.{HasNone, IsLeast}
 use Rattle.tables.proofs.Options.{none_contained}
-
-below : (a b : ℕ) → a < b → is_lt (nat_cmp a b) ≡ true
-below a b h = grind (arith, nat_tests)
 
 is_below : (a b : ℕ) → is_lt (nat_cmp a b) ≡ true → a < b
 is_below a b h = grind (arith, nat_tests)

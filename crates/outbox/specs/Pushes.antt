@@ -7,12 +7,11 @@ use Rattle.std.proofs.lemmas.Cmp.{on_total, then_total}
 use Rattle.std.specs.declared.cmp.Ordering.TheVariants.{Less, Equal, Greater}
 use Rattle.std.specs.declared.cmp.Ordering.{Ordering}
 use Rattle.std.specs.FinMap.{FinMap, IsAntisymmetric, nat_cmp-IsAntisymmetric, get, contains_key}
-use Rattle.ocpi_text.specs.Text.{key}
-use Rattle.tables.specs.Keys.{pair_cmp, text_cmp, text_total, text_exact}
-use Rattle.ocpi_types.specs.declared.stored.Push.{Push}
-use Rattle.ocpi_types.specs.declared.stored.Push.TheVariants as push
-use Rattle.ocpi_types.specs.declared.words.TokenType.{TokenType}
-use Rattle.ocpi_types.specs.declared.words.TokenType.TheVariants as type
+use Rattle.ocpi_text.specs.{key}
+use Rattle.tables.specs.{pair_cmp, text_cmp, text_exact, text_total}
+use Rattle.ocpi_types.specs.{Push, TokenType}
+use Rattle.ocpi_types.specs.push
+use Rattle.ocpi_types.specs.type
 use Rattle.outbox.specs.declared.push_book.Outgoing.{Outgoing}
 use Rattle.outbox.specs.declared.push_book.Subject.{Subject}
 

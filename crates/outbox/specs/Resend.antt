@@ -3,8 +3,8 @@ use Rattle.std.specs.Prelude.{◌+◌, ℕ, min, Option, Some, None, IsTrue}
 use Rattle.std.specs.declared.cmp.Ordering.{Ordering}
 use Rattle.std.specs.Ordering.{nat_cmp}
 use Rattle.std.specs.FinMap.{FinMap, insert, remove, contains_key}
-use Rattle.ocpi_text.specs.Moment.{last_moment}
-use Rattle.tables.specs.Keys.{pair_cmp}
+use Rattle.ocpi_text.specs.{last_moment}
+use Rattle.tables.specs.{pair_cmp}
 use Rattle.tables.specs.Indexes.{Indexes}
 use Rattle.outbox.specs.Commands.{Numbers}
 

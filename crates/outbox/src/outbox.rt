@@ -2,8 +2,8 @@
 
 ghost use Rattle.std.specs.Prelude.{◌≡◌, ◌↔◌, ◌+◌, ◌≤◌, ℕ, None, IfOk, IfErr, IsTrue, option_copied};
 ghost use Rattle.std.specs.FinMap as map;
-ghost use Rattle.ocpi_text.specs.Whole.{max_whole};
-ghost use Rattle.ocpi_types.specs.declared.rows.RowKey.TheVariants as keys;
+ghost use Rattle.ocpi_text.specs.{max_whole};
+ghost use Rattle.ocpi_types.specs.keys;
 ghost use Rattle.outbox.specs.Outbox.{
   AreConsistent,
   AreResent,

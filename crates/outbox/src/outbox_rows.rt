@@ -2,8 +2,8 @@
 
 ghost use Rattle.std.specs.Prelude.{◌≡◌, ◌↔◌, ◌++◌, IfOk, IsOk, IsTrue, OnErr, OnOk, map as map_list};
 ghost use Rattle.std.specs.FinMap as map;
-ghost use Rattle.ocpi_types.specs.Rows.{key_of};
-ghost use Rattle.ocpi_types.specs.declared.rows.RowKey.TheVariants as keys;
+ghost use Rattle.ocpi_types.specs.{key_of};
+ghost use Rattle.ocpi_types.specs.keys;
 ghost use Rattle.outbox.specs.Commands.{HasRoomOfCommand};
 ghost use Rattle.outbox.specs.Outbox.{
   AreUpTo,

@@ -73,7 +73,7 @@ impl Model for PushBook {
     ghost use Rattle.std.specs.FinMap as map;
     ghost use Rattle.std.specs.Coded.{codes};
     ghost use Rattle.std.specs.Ordering.{nat_cmp};
-    ghost use Rattle.tables.specs.Tables.{shown_of, rooms_of};
+    ghost use Rattle.tables.specs.{rooms_of, shown_of};
     ghost use Rattle.outbox.specs.Pushes.{HeldPushes, AreIndexed, subject_number_cmp};
 
     ghost Value = { HeldPushes };

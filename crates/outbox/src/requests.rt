@@ -2,7 +2,7 @@
 
 ghost use Rattle.std.specs.Prelude.{◌≡◌, ◌+◌, ℕ, None, Some, IfOk, IfErr, IfSome, IfNone, IsOk, OnErr, OnOk};
 ghost use Rattle.std.specs.FinMap as map;
-ghost use Rattle.ocpi_types.specs.declared.stored.SentCommand.{SentCommand};
+ghost use Rattle.ocpi_types.specs.{SentCommand};
 ghost use Rattle.outbox.specs.Commands.{HasRoomOfCommand};
 ghost use Rattle.outbox.specs.Outbox.{
   Changes,

@@ -19,7 +19,7 @@ ghost use Rattle.std.specs.Prelude.{
   Contains,
 };
 ghost use Rattle.std.specs.FinMap as map;
-ghost use Rattle.tables.specs.Tables.{shown_of, rooms_of};
+ghost use Rattle.tables.specs.{rooms_of, shown_of};
 ghost use Rattle.outbox.specs.Due.{due_front, untimed};
 ghost use Rattle.outbox.specs.Resend.{
   HasRoomUntil,
@@ -49,7 +49,7 @@ impl Model for SendTimes {
     ghost use Rattle.std.specs.FinMap as map;
     ghost use Rattle.std.specs.Coded.{codes};
     ghost use Rattle.std.specs.Ordering.{nat_cmp};
-    ghost use Rattle.tables.specs.Tables.{shown_of, rooms_of};
+    ghost use Rattle.tables.specs.{rooms_of, shown_of};
     ghost use Rattle.outbox.specs.Resend.{HeldTimes, IsQueue, moment_number_cmp};
 
     ghost Value = { HeldTimes };

@@ -4,7 +4,7 @@ ghost use Rattle.std.specs.Prelude.{◌≡◌, ◌≢◌, ◌↔◌, ◌≤◌, 
 ghost use Rattle.std.specs.BTreeMap.Range.{entries_from};
 ghost use Rattle.std.specs.FinMap as map;
 ghost use Rattle.std.specs.Ordering.{nat_cmp};
-ghost use Rattle.ocpi_types.specs.declared.stored.SentCommand.{SentCommand};
+ghost use Rattle.ocpi_types.specs.{SentCommand};
 ghost use Rattle.outbox.specs.Commands.{AreWaiting, HasRoomOfCommand, IsOpen, IsUnanswered};
 
 use ocpi_text::Whole;
@@ -25,7 +25,7 @@ impl Model for SentCommands {
     ghost use Rattle.std.specs.FinMap as map;
     ghost use Rattle.std.specs.Coded.{codes};
     ghost use Rattle.std.specs.Ordering.{nat_cmp};
-    ghost use Rattle.tables.specs.Tables.{shown_of, rooms_of};
+    ghost use Rattle.tables.specs.{rooms_of, shown_of};
     ghost use Rattle.outbox.specs.Commands.{AreWaiting, HeldCommands};
 
     ghost Value = { HeldCommands };

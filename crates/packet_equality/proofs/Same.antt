@@ -1,6 +1,7 @@
 -- Tests that tell whether two values are equal: of numbers and texts, of lists and options, and of what has parts.
-use Rattle.std.proofs.Common.{◌≡◌, ◌⊎◌, ℕ, Bool, true, false, List, Some, None, Option, refl, sym, ap, inl, inr}
-use Rattle.std.specs.Prelude.{◌&&◌, nat_eq, is_some, unwrap_or}
+use Rattle.std.proofs.Common.{◌≡◌, ◌⊎◌, ℕ, Bool, true, false, List, Some, None, Option, refl, sym, ap, inl, inr, ◌&&◌}
+use Rattle.std.proofs.Common.{nat_eq, is_some}
+use Rattle.std.specs.Prelude.{unwrap_or}
 use Rattle.std.specs.Bool.{Decides, beq}
 use Rattle.std.specs.Ordering.{int_eq}
 use Rattle.std.specs.Option.{option_eq}

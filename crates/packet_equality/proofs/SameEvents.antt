@@ -1,11 +1,10 @@
 -- Events of a node are equal just where `==` says so: in every field, as spelled.
 use Rattle.std.proofs.Common.{◌≡◌}
 use Rattle.std.specs.Bool.{Decides}
-use Rattle.ocpi_types.specs.declared.node_events.NodeEventKind.{NodeEventKind}
+use Rattle.ocpi_types.specs.{NodeEvent, NodeEventKind}
 use Rattle.packet_equality.proofs.Same.{Same, and_then, at_last, booleans, by_parts, by_variants, no_part, no_variant, numbers, options, or_else, signed_numbers, texts}
 use Rattle.packet_equality.proofs.SameValues.{token_types, tokens}
 use Rattle.packet_equality.proofs.SamePackets.{packets}
-use Rattle.ocpi_types.specs.declared.node_events.NodeEvent.{NodeEvent}
 use Rattle.ocpi_types.specs.contracts.events.ChargerEventPartialEq.TheImpl as charger_event_eq
 use Rattle.ocpi_types.specs.contracts.events.ChargerEvent as charger_event_declared
 use Rattle.ocpi_types.specs.contracts.events.OrderPartialEq.TheImpl as order_eq

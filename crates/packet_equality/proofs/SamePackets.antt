@@ -3,11 +3,10 @@ use Rattle.std.proofs.Common.{◌≡◌, List}
 use Rattle.std.specs.Bool.{Decides}
 use Rattle.std.specs.Cmp.Lexicographic.{pointwise}
 use Rattle.handover.proofs.Equal.{same_cdrs}
-use Rattle.ocpi_types.specs.declared.packet.Body.{Body}
+use Rattle.ocpi_types.specs.{Body, Packet}
 use Rattle.packet_equality.proofs.Same.{Same, lists, and_then, at_last, by_parts, by_variants, no_variant, numbers, or_else, texts}
 use Rattle.packet_equality.proofs.SameValues.{tokens}
 use Rattle.packet_equality.proofs.SameRecords.{commands, command_responses, command_results, acks, authorizes, authorizations, sessions}
-use Rattle.ocpi_types.specs.declared.packet.Packet.{Packet}
 use Rattle.ocpi_types.specs.contracts.cdrs.CdrPartialEq.TheImpl as cdr_eq
 use Rattle.ocpi_types.specs.contracts.packet.BodyPartialEq.TheImpl as body_eq
 use Rattle.ocpi_types.specs.contracts.packet.Body as body_declared

@@ -1,18 +1,8 @@
 -- What packets carry is equal just where `==` says so.
 use Rattle.packet_equality.proofs.Same.{Same, and_then, at_last, by_parts, by_variants, lists, no_variant, numbers, options, or_else, signed_numbers, texts}
 use Rattle.packet_equality.proofs.SameValues.{token_types, command_response_types, command_result_types, allowed_types, session_statuses, auth_methods, prices, cdr_tokens, tokens}
-use Rattle.ocpi_types.specs.declared.commands.StartSession.{StartSession}
-use Rattle.ocpi_types.specs.declared.commands.StopSession.{StopSession}
-use Rattle.ocpi_types.specs.declared.commands.ReserveNow.{ReserveNow}
-use Rattle.ocpi_types.specs.declared.commands.CancelReservation.{CancelReservation}
-use Rattle.ocpi_types.specs.declared.commands.UnlockConnector.{UnlockConnector}
-use Rattle.ocpi_types.specs.declared.replies.ResponseData.{ResponseData}
-use Rattle.ocpi_types.specs.declared.replies.CommandResult.{CommandResult}
-use Rattle.ocpi_types.specs.declared.replies.Ack.{Ack}
-use Rattle.ocpi_types.specs.declared.authorizations.LocationReferences.{LocationReferences}
-use Rattle.ocpi_types.specs.declared.authorizations.Authorize.{Authorize}
-use Rattle.ocpi_types.specs.declared.authorizations.AuthorizationInfo.{AuthorizationInfo}
-use Rattle.ocpi_types.specs.declared.sessions.Session.{Session}
+use Rattle.ocpi_types.specs.{Ack, AuthorizationInfo, Authorize, CancelReservation, CommandResult, LocationReferences}
+use Rattle.ocpi_types.specs.{ReserveNow, ResponseData, Session, StartSession, StopSession, UnlockConnector}
 use Rattle.ocpi_types.specs.contracts.commands.StartSessionPartialEq.TheImpl as start_session_eq
 use Rattle.ocpi_types.specs.contracts.commands.StopSessionPartialEq.TheImpl as stop_session_eq
 use Rattle.ocpi_types.specs.contracts.commands.ReserveNowPartialEq.TheImpl as reserve_now_eq

@@ -1,8 +1,6 @@
 -- Words, prices and tokens are equal just where `==` says so.
 use Rattle.packet_equality.proofs.Same.{Same, and_then, booleans, by_parts, by_tag, numbers, signed_numbers, texts}
-use Rattle.ocpi_types.specs.declared.sessions.Price.{Price}
-use Rattle.ocpi_types.specs.declared.token.CdrToken.{CdrToken}
-use Rattle.ocpi_types.specs.declared.token.Token.{Token}
+use Rattle.ocpi_types.specs.{CdrToken, Price, Token}
 use Rattle.ocpi_types.specs.contracts.words.TokenTypePartialEq.TheImpl as token_type_eq
 use Rattle.ocpi_types.specs.contracts.words.TokenType as token_type_declared
 use Rattle.ocpi_types.specs.contracts.words.WhitelistTypePartialEq.TheImpl as whitelist_type_eq

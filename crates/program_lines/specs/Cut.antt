@@ -3,10 +3,7 @@ use Rattle.std.specs.Prelude.{◌≡◌, ℕ, ◌<◌, ◌≤◌, ◌⊎◌, con
 use Rattle.std.proofs.Common.{inl, inr, sym, ap, ◌∙◌, arith, lt-ltb, take_all}
 use Rattle.std.proofs.lemmas.Bool.{cases_lt}
 use Rattle.std.proofs.lemmas.List.{length-take}
-use Rattle.json_text.specs.declared.fault.JsonFault.TheVariants.{Syntax}
-use Rattle.json_text.specs.Fault.{◌>>=◌}
-use Rattle.json_text.specs.Line.{max_line, text_of, tree_of, tree_at}
-use Rattle.json_text.specs.Quote.{quote}
+use Rattle.json_text.specs.{Syntax, max_line, quote, text_of, tree_at, tree_of, ◌>>=◌}
 use Rattle.std.specs.Str.{is_utf8}
 use Rattle.line_runs.specs.declared.lines.TheConstants.{KEPT_BYTES}
 

@@ -1,7 +1,7 @@
 -- What the programs write: a line for each packet, and the line of a refusal.
 use Rattle.std.specs.Prelude.{ℕ, List, [], ◌∷◌, ◌++◌, codes, flat_map}
-use Rattle.ocpi_types.specs.declared.packet.Packet.{Packet}
-use Rattle.ocpi_json.specs.Packets.{packet_text}
+use Rattle.ocpi_types.specs.{Packet}
+use Rattle.ocpi_json.specs.{packet_text}
 
 -- the line of a refusal: its number and its name
 abbrev pub refusal_line : List ℕ → List ℕ

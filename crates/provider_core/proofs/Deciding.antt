@@ -1,27 +1,16 @@
 -- How each request is answered, case by case.
-use Rattle.std.proofs.Common.{◌≡◌, ℕ, List, [], ◌∷◌, refl, ap}
-use Rattle.std.specs.Prelude.{Option, Some, None, true, false}
+use Rattle.std.proofs.Common.{◌≡◌, ℕ, List, [], ◌∷◌, refl, ap, Option, Some, None, true, false}
 use Rattle.std.specs.FinMap.{get}
-use Rattle.ocpi_text.specs.Text.{key}
-use Rattle.ocpi_types.specs.declared.authorizations.Authorize.{Authorize}
-use Rattle.ocpi_types.specs.declared.cdrs.Cdr.{Cdr}
-use Rattle.ocpi_types.specs.declared.packet.Packet.{Packet}
-use Rattle.ocpi_types.specs.declared.packet.Body.TheVariants as body
-use Rattle.ocpi_types.specs.declared.replies.CommandResult.{CommandResult}
-use Rattle.ocpi_types.specs.declared.sessions.Session.{Session}
-use Rattle.ocpi_types.specs.declared.stored.SentCommand.{SentCommand}
-use Rattle.ocpi_types.specs.declared.token.Token.{Token}
-use Rattle.ocpi_types.specs.declared.words.CommandResultType.{CommandResultType}
-use Rattle.handover.specs.Cdrs.{cdr_key}
-use Rattle.handover.specs.Inbox.{IsInConflict, IsNews, session_key}
-use Rattle.token_desk.specs.Authorizing.{IsHeld, asked_type}
-use Rattle.token_desk.specs.References.{reference_of}
-use Rattle.token_desk.specs.declared.answers.Reference.{Reference}
+use Rattle.ocpi_text.specs.{key}
+use Rattle.ocpi_types.specs.{Authorize, Cdr, CommandResult, CommandResultType, Packet, SentCommand, Session, Token}
+use Rattle.ocpi_types.specs.body
+use Rattle.handover.specs.{IsInConflict, IsNews, cdr_key, session_key}
+use Rattle.token_desk.specs.{IsHeld, Reference, asked_type, reference_of}
 use Rattle.provider_rows.specs.State.{State}
-use Rattle.provider_rows.specs.Urls.{Fits}
-use Rattle.provider_steps.specs.Acts.{allowed_reply, referenced}
-use Rattle.provider_steps.specs.Orders.{next_reference}
-use Rattle.provider_steps.specs.Packets.{IsRight, ResultTaken, ResultKnown, ResultOfNone, SessionRefused, SessionTaken, SessionKept, CdrRefused, CdrInConflict, CdrKept, CdrTaken}
+use Rattle.provider_rows.specs.{Fits}
+use Rattle.provider_steps.specs.{CdrInConflict, CdrKept, CdrRefused, CdrTaken, IsRight, ResultKnown, ResultOfNone}
+use Rattle.provider_steps.specs.{ResultTaken, SessionKept, SessionRefused, SessionTaken, allowed_reply, next_reference}
+use Rattle.provider_steps.specs.{referenced}
 use Rattle.provider_steps.specs.Packets as lines
 use Rattle.provider_core.specs.declared.packets.answer_kinds.Answer.TheVariants.{Refused, Kept, Taken, Resulted, Unknown, Blocked, Allowed}
 use Rattle.provider_core.specs.Answering.{Decides, result_acts, taken_acts}

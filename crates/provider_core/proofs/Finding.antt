@@ -1,6 +1,6 @@
 -- Whether a push about a subject stands, and so that each version of a token can be pushed.
-use Rattle.std.proofs.Common.{◌≡◌, ◌⊎◌, ℕ, List, [], ◌∷◌, map, inl, inr, true, false, refl, sym, ap, subst, ◌∙◌}
-use Rattle.std.specs.Prelude.{Option, Some, None, Contains}
+use Rattle.std.proofs.Common.{◌≡◌, ◌⊎◌, ℕ, List, [], ◌∷◌, map, inl, inr, true, false, refl, sym, ap, subst, ◌∙◌, Option}
+use Rattle.std.proofs.Common.{Some, None, Contains}
 use Rattle.std.specs.Ordering.{eq_by_cmp, is_eq, nat_cmp}
 use Rattle.std.specs.Cmp.{nat_cmp_total, eq_by_cmp_equiv}
 use Rattle.std.specs.FinMap.{entries, get, nat_cmp-IsAntisymmetric}
@@ -9,14 +9,13 @@ use Rattle.tables.proofs.Elements.{in_front, in_none, in_single}
 use Rattle.tables.proofs.Entries.{listed, listed_only}
 use Rattle.tables.proofs.Maps.{equal_of_is_eq}
 use Rattle.tables.proofs.Options.{none_some}
-use Rattle.ocpi_types.specs.declared.stored.Push.TheVariants as push
-use Rattle.ocpi_types.specs.declared.token.Token.{Token}
-use Rattle.outbox.specs.Pushes.{IsAbout, IsReplaced, Pushes, subject, subject_cmp, subject_exact, subject_of, subject_total}
-use Rattle.outbox.specs.declared.push_book.Outgoing.{Outgoing}
-use Rattle.outbox.specs.declared.push_book.Subject.{Subject}
+use Rattle.ocpi_types.specs.push
+use Rattle.ocpi_types.specs.{Token}
+use Rattle.outbox.specs.{IsAbout, IsReplaced, Outgoing, Subject, subject, subject_cmp, subject_exact, subject_of}
+use Rattle.outbox.specs.{subject_total}
+use Rattle.outbox.specs.Pushes.{Pushes}
 use Rattle.provider_rows.specs.State.{State}
-use Rattle.provider_steps.specs.declared.pushing.Pushing.{Pushing}
-use Rattle.provider_steps.specs.Tokens.{AreTokenPushes}
+use Rattle.provider_steps.specs.{AreTokenPushes, Pushing}
 use Rattle.provider_core.specs.Versions.{pushing}
 
 some_is : {X : Type 0} (x y : X) → Some x ≡ Some y → x ≡ y

@@ -1,30 +1,18 @@
 -- What becomes of a packet of an operator: which line it comes to, and how many numbers an answer takes.
-use Rattle.std.proofs.Common.{◌≡◌, ◌≤◌, ◌+◌, ℕ, List, [], ◌∷◌, length, refl, ap, subst, ◌∙◌, sym, arith}
-use Rattle.std.specs.Prelude.{Option, Some, None, Contains, slice_get}
+use Rattle.std.proofs.Common.{◌≡◌, ◌≤◌, ◌+◌, ℕ, List, [], ◌∷◌, length, refl, ap, subst, ◌∙◌, sym, arith, Option, Some}
+use Rattle.std.proofs.Common.{None, Contains, slice_get}
 use Rattle.std.specs.FinMap.{get}
-use Rattle.ocpi_text.specs.Text.{key}
-use Rattle.ocpi_text.specs.Whole.{max_whole}
-use Rattle.ocpi_types.specs.declared.packet.Packet.{Packet}
-use Rattle.ocpi_types.specs.declared.packet.Body.{Body}
-use Rattle.ocpi_types.specs.declared.packet.Body.TheVariants as body
-use Rattle.ocpi_types.specs.declared.rows.Change.TheVariants.{Put}
-use Rattle.ocpi_types.specs.declared.rows.Counter.TheVariants.{Reference}
-use Rattle.ocpi_types.specs.declared.rows.Row.TheVariants as row
-use Rattle.ocpi_types.specs.declared.stored.Reply.{Reply}
-use Rattle.ocpi_types.specs.declared.stored.SentCommand.{SentCommand}
-use Rattle.ocpi_types.specs.declared.words.CommandResultType.{CommandResultType}
+use Rattle.ocpi_text.specs.{key, max_whole}
+use Rattle.ocpi_types.specs.{Body, CommandResultType, Packet, Put, Reference, Reply, SentCommand}
+use Rattle.ocpi_types.specs.body
+use Rattle.ocpi_types.specs.row
 use Rattle.outbox.specs.Commands.{Commands}
-use Rattle.token_desk.specs.References.{reference_of}
-use Rattle.node_steps.specs.Acts.{Act, all_messages, all_requests, repeated}
-use Rattle.node_steps.specs.Peers.{IsPeer}
-use Rattle.node_steps.specs.declared.fault.NodeFault.{NodeFault}
-use Rattle.node_steps.specs.declared.fault.NodeFault.TheVariants.{NotForMe, UnknownOperator, UnknownToken, StampEnd, NumbersUsedUp, Memory}
+use Rattle.token_desk.specs.{reference_of}
+use Rattle.node_steps.specs.{Act, IsPeer, Memory, NodeFault, NotForMe, NumbersUsedUp, StampEnd, UnknownOperator}
+use Rattle.node_steps.specs.{UnknownToken, all_messages, all_requests, repeated}
 use Rattle.provider_rows.specs.State.{State}
-use Rattle.provider_steps.specs.Acts.{referenced}
-use Rattle.provider_steps.specs.Faults.{IsPacketFault, PassesLast}
-use Rattle.provider_steps.specs.Moves.{AreInRange}
-use Rattle.provider_steps.specs.Orders.{next_reference}
-use Rattle.provider_steps.specs.Packets.{Again, Answered, Comes, IsRequest, PacketLine}
+use Rattle.provider_steps.specs.{Again, Answered, AreInRange, Comes, IsPacketFault, IsRequest, PacketLine, PassesLast}
+use Rattle.provider_steps.specs.{next_reference, referenced}
 use Rattle.provider_core.specs.declared.packets.answer_kinds.Answer.{Answer}
 use Rattle.provider_core.specs.declared.packets.answer_kinds.Answer.TheVariants.{Refused, Kept, Taken, Resulted, Unknown, Blocked, Allowed}
 use Rattle.provider_core.specs.Answering.{Decides, HasNumber, LacksNumber, answer_acts, own_acts, reply_of, result_acts, taken_acts}

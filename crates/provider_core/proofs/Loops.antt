@@ -2,8 +2,7 @@
 use Rattle.std.proofs.Common.{◌≡◌, ◌≤◌, ◌++◌, ℕ, ◌+◌, List, [], ◌∷◌, length, drop, refl, sym, ap, ◌∙◌}
 use Rattle.std.specs.List.{flat_map}
 use Rattle.std.proofs.lemmas.List.{drop_all}
-use Rattle.node_steps.specs.Acts.{Act, all_requests, in_turn}
-use Rattle.node_steps.specs.Drafts.{Gathered, with_acts}
+use Rattle.node_steps.specs.{Act, Gathered, all_requests, in_turn, with_acts}
 use Rattle.node_steps.proofs.Gathering.{all_turns, no_turns}
 
 pub flat_in_turn : {X : Type 0} → (f : X → List Act) (last : ℕ) (xs : List X) → in_turn (λ n x. f x) last xs ≡ flat_map f xs

@@ -1,24 +1,13 @@
 -- What a prepared order does, and how many numbers it takes.
-use Rattle.std.proofs.Common.{◌≡◌, ◌≤◌, ◌+◌, ◌++◌, ℕ, List, [], ◌∷◌, length, refl, ap, sym, subst, ◌∙◌, arith}
-use Rattle.std.specs.Prelude.{Option}
-use Rattle.ocpi_text.specs.Whole.{max_whole}
-use Rattle.ocpi_types.specs.declared.events.Order.{Order}
-use Rattle.ocpi_types.specs.declared.events.Order.TheVariants as order
-use Rattle.ocpi_types.specs.declared.commands.Command.{Command}
-use Rattle.ocpi_types.specs.declared.token.Token.{Token}
-use Rattle.ocpi_types.specs.declared.words.TokenType.{TokenType}
-use Rattle.token_desk.specs.References.{reference_of}
-use Rattle.token_desk.specs.declared.answers.Reference.{Reference}
-use Rattle.node_steps.specs.Acts.{Act, all_messages, all_requests, commanded}
-use Rattle.node_steps.specs.Drafts.{Gathered, with_acts}
-use Rattle.node_steps.proofs.Gathering.{both}
-use Rattle.node_steps.specs.Peers.{IsPeer}
-use Rattle.node_steps.specs.declared.fault.NodeFault.{NodeFault}
-use Rattle.node_steps.specs.declared.fault.NodeFault.TheVariants.{NotForMe, UnknownOperator, UnknownToken, StampEnd, NumbersUsedUp, Memory}
+use Rattle.std.proofs.Common.{◌≡◌, ◌≤◌, ◌+◌, ℕ, List, [], ◌∷◌, length, refl, sym, subst, arith, Option}
+use Rattle.ocpi_text.specs.{max_whole}
+use Rattle.ocpi_types.specs.{Order, Token, TokenType}
+use Rattle.ocpi_types.specs.order
+use Rattle.token_desk.specs.{Reference, reference_of}
+use Rattle.node_steps.specs.{Act, IsPeer, Memory, NodeFault, NotForMe, NumbersUsedUp, StampEnd, UnknownOperator}
+use Rattle.node_steps.specs.{UnknownToken, all_messages, all_requests, commanded}
 use Rattle.provider_rows.specs.State.{State}
-use Rattle.provider_steps.specs.Acts.{own_url, referenced}
-use Rattle.provider_steps.specs.Faults.{IsOrderFault}
-use Rattle.provider_steps.specs.Orders.{IsOwnToken, OrderLine, next_reference, next_request}
+use Rattle.provider_steps.specs.{IsOrderFault, IsOwnToken, OrderLine, next_reference, next_request, own_url, referenced}
 use Rattle.provider_steps.specs.Orders as makes
 use Rattle.provider_core.specs.declared.orders.prepared_orders.Prepared.{Prepared}
 use Rattle.provider_core.specs.declared.orders.prepared_orders.PreparedStart.{PreparedStart}
@@ -27,20 +16,6 @@ use Rattle.provider_core.specs.Making.{LacksReference, IsPrepared, IsUnprepared,
 use Rattle.provider_core.specs.Planned.{IsLineFault, ReferWithin}
 use Rattle.provider_core.proofs.Within.{refer_append}
 use Rattle.provider_core.proofs.Plans.{past}
-
-pub before_silent : (p : Prepared) → all_messages (before_of p) ≡ []
-before_silent (Start x) = refl
-before_silent (Reserve x) = refl
-before_silent (Stop id) = refl
-before_silent (Cancel id) = refl
-before_silent (Unlock location evse connector) = refl
-
-pub before_asks : (p : Prepared) → all_requests (before_of p) ≡ 0
-before_asks (Start x) = refl
-before_asks (Reserve x) = refl
-before_asks (Stop id) = refl
-before_asks (Cancel id) = refl
-before_asks (Unlock location evse connector) = refl
 
 module _ (party : List ℕ) (at : ℕ) (to : List ℕ) where
   pub order_sends : (p : Prepared) (last : ℕ) → 1 ≡ length (all_messages (order_acts party at to p last))
@@ -59,18 +34,6 @@ module _ (party : List ℕ) (at : ℕ) (to : List ℕ) where
 
   pub order_within : (p : Prepared) (last : ℕ) → ReferWithin (before_of p) → ReferWithin (order_acts party at to p last)
   order_within p last h = refer_append (before_of p) (commanded at (last + 1) to (command_of (own_url party (last + 1)) p) ∷ []) h (tt, tt)
-
-  -- what is done before, and then the command
-  pub ordered : (p : Prepared) (c : Command) (d e f : Gathered) → e ≡ with_acts (before_of p) d → c ≡ command_of (own_url party (d.counters.request + 1)) p →
-      f ≡ with_acts (commanded at (e.counters.request + 1) to c ∷ []) e → f ≡ with_acts (order_acts party at to p d.counters.request) d
-  ordered p c d e f one is two =
-      let asked : e.counters.request ≡ d.counters.request + all_requests (before_of p) = ap (λ (g : Gathered). g.counters.request) one in
-      let none = before_asks p in
-      let number : e.counters.request + 1 ≡ d.counters.request + 1 = omega (arith, asked, none) in
-      two ∙ ap (λ (n : ℕ). with_acts (commanded at n to c ∷ []) e) number
-      ∙ ap (λ (x : Command). with_acts (commanded at (d.counters.request + 1) to x ∷ []) e) is
-      ∙ ap (λ (g : Gathered). with_acts (commanded at (d.counters.request + 1) to (command_of (own_url party (d.counters.request + 1)) p) ∷ []) g) one
-      ∙ both (before_of p) (commanded at (d.counters.request + 1) to (command_of (own_url party (d.counters.request + 1)) p) ∷ []) d
 
 module _ (s : State) (at : ℕ) (operator to : List ℕ) (order : Order) (peer : IsPeer s.operators operator to) where
   pub order_line : (p : Prepared) → IsPrepared s order p → OrderLine s at operator order (order_acts s.party at to p s.rows.outbox.last)

@@ -1,6 +1,6 @@
 -- That a provider's own urls are urls of OCPI: short, and of characters that may be printed.
-use Rattle.std.proofs.Common.{◌≡◌, ◌≤◌, ◌<◌, ◌^◌, ◌++◌, ℕ, List, ◌∷◌, [], length, true, decimal, refl, sym, ap, ◌∙◌, Ok, arith, length-append}
-use Rattle.std.specs.Prelude.{codes}
+use Rattle.std.proofs.Common.{◌≡◌, ◌≤◌, ◌<◌, ◌^◌, ◌++◌, ℕ, List, ◌∷◌, [], length, true, decimal, refl, sym, ap, ◌∙◌, Ok}
+use Rattle.std.proofs.Common.{arith, length-append, codes}
 use Rattle.std.specs.Char.{is_ascii_digit}
 use Rattle.std.specs.List.{list_all}
 use Rattle.std.proofs.lemmas.Bool.{and_from}
@@ -9,13 +9,11 @@ use Rattle.std.proofs.lemmas.List.Elements.{All-weaker}
 use Rattle.std.proofs.lemmas.List.Folds.{list_all-append}
 use Rattle.std.proofs.lemmas.List.Sums.{AllPass-from_list_all, list_all-from_AllPass}
 use Rattle.std.proofs.lemmas.Fmt.{digits_decimal, length-decimal-le}
-use Rattle.ocpi_text.specs.Party.{party_at}
-use Rattle.ocpi_text.specs.Text.{free_text, is_ascii_text, is_free_text, is_printable}
-use Rattle.ocpi_text.specs.Whole.{max_whole}
+use Rattle.ocpi_text.specs.{free_text, is_ascii_text, is_free_text, is_printable, max_whole, party_at}
 use Rattle.ocpi_text.proofs.Digits.{own, digits_same}
 use Rattle.ocpi_text.proofs.Parties.{party_parts}
 use Rattle.ocpi_text.proofs.Text.{free_again, printable_is_free, printable_length}
-use Rattle.provider_steps.specs.Acts.{own_url}
+use Rattle.provider_steps.specs.{own_url}
 
 digit_printable : (x : ℕ) → is_ascii_digit x ≡ true → is_printable x ≡ true
 digit_printable x h = grind (arith, nat_tests)

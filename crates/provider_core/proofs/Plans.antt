@@ -1,20 +1,16 @@
 -- From what is planned to what a line asks for, and to its refusals.
-use Rattle.std.proofs.Common.{◌≡◌, ◌≤◌, ◌+◌, List, [], ◌∷◌, ℕ, length, sym, ap, subst, ◌∙◌, arith}
-use Rattle.std.specs.Prelude.{Option, Some, None, Result, Ok, Err, IfOk, IfErr, IfSome, OnOk}
+use Rattle.std.proofs.Common.{◌≡◌, ◌≤◌, ◌+◌, List, [], ◌∷◌, ℕ, sym, subst, ◌∙◌, arith, Option, Some, None, Result, Ok}
+use Rattle.std.proofs.Common.{Err, IfOk, IfErr, IfSome, OnOk}
 use Rattle.std.specs.Result.{IsErrAnd}
 use Rattle.std.proofs.lemmas.Result.{err_from_is_err_and}
-use Rattle.ocpi_text.specs.Whole.{max_whole}
-use Rattle.ocpi_types.specs.declared.rows.Change.{Change}
-use Rattle.node_steps.specs.Acts.{Act, all_messages, all_requests, changed}
-use Rattle.node_steps.specs.Drafts.{Counters, Gathered, HasNumbers, IsInRange, Step, StopsBy, counted, opened, with_acts}
-use Rattle.node_steps.specs.declared.fault.NodeFault.{NodeFault}
-use Rattle.node_steps.specs.declared.fault.NodeFault.TheVariants.{NotForMe, UnknownOperator, UnknownToken, StampEnd, NumbersUsedUp, Memory}
+use Rattle.ocpi_text.specs.{max_whole}
+use Rattle.ocpi_types.specs.{Change}
+use Rattle.node_steps.specs.{Act, Counters, Gathered, HasNumbers, IsInRange, Memory, NodeFault, NotForMe, NumbersUsedUp}
+use Rattle.node_steps.specs.{StampEnd, Step, StopsBy, UnknownOperator, UnknownToken, changed, counted, opened}
 use Rattle.node_steps.proofs.Gathering.{step_of_none, step_of_change}
 use Rattle.provider_rows.specs.State.{State}
-use Rattle.provider_rows.specs.Steps.{MayFollow}
-use Rattle.provider_steps.specs.Acts.{referenced}
-use Rattle.provider_steps.specs.Faults.{MayStep, PassesLast}
-use Rattle.provider_steps.specs.Moves.{AreInRange, PlannedBy, counters_of, step_of_acts}
+use Rattle.provider_rows.specs.{MayFollow}
+use Rattle.provider_steps.specs.{AreInRange, MayStep, PassesLast, PlannedBy, counters_of, referenced, step_of_acts}
 use Rattle.provider_core.specs.Planned.{IsLineFault, IsWithin, ReferWithin}
 use Rattle.provider_core.proofs.Within.{in_range, past_last}
 
@@ -104,23 +100,9 @@ pub some_any : {T P : Type 0} → (o : Option T) → P → IfSome o (λ x. P)
 some_any None h = tt
 some_any (Some x) h = h
 
-pub ok_any : {T E P : Type 0} → (r : Result T E) → P → IfOk r (λ x. P)
-ok_any (Ok x) h = h
-ok_any (Err e) h = tt
-
 pub on_more : {T E P Q : Type 0} → (r : Result T E) → (P → Q) → OnOk r P → OnOk r Q
 on_more (Ok x) f h = f h
 on_more (Err e) f h = tt
-
--- acts that send nothing and make no request leave the numbers that were counted
-pub silent_has : (acts : List Act) (packets requests : ℕ) (d e : Gathered) → all_messages acts ≡ [] → all_requests acts ≡ 0 → e ≡ with_acts acts d → HasNumbers packets requests d → HasNumbers packets requests e
-silent_has acts packets requests d e silent asks is h =
-    let none = ap length silent in
-    let serial : e.counters.serial ≡ d.counters.serial + length (all_messages acts) = ap (λ (g : Gathered). g.counters.serial) is in
-    let request : e.counters.request ≡ d.counters.request + all_requests acts = ap (λ (g : Gathered). g.counters.request) is in
-    let most_serial : e.most.serial ≡ d.most.serial = ap (λ (g : Gathered). g.most.serial) is in
-    let most_request : e.most.request ≡ d.most.request = ap (λ (g : Gathered). g.most.request) is in
-    record { serials = omega (arith, h.serials, none, serial, most_serial); requests = omega (arith, h.requests, asks, request, most_request) }
 
 -- what a `?` returns of a refusal
 pub returned : {T E : Type 0} {P Q : E → Type 0} → ((e : E) → P e → Q e) → (r : Result T E) (f : E) → IsErrAnd r (λ e. e ≡ f) → P f → IfErr r Q

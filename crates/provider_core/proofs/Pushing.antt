@@ -1,24 +1,18 @@
 -- How the pushes of a version of a token are gathered, and how many numbers they take.
-use Rattle.std.proofs.Common.{◌≡◌, ◌<◌, ◌≤◌, ◌+◌, ◌*◌, ◌++◌, ℕ, List, [], ◌∷◌, length, map, take, get_or, inl, inr, refl, sym, ap, subst, ◌∙◌, arith}
-use Rattle.std.specs.Prelude.{Option, Some, None, Contains}
+use Rattle.std.proofs.Common.{◌≡◌, ◌<◌, ◌≤◌, ◌+◌, ◌++◌, ℕ, List, [], ◌∷◌, length, map, take, get_or, inl, inr, refl}
+use Rattle.std.proofs.Common.{sym, ap, subst, ◌∙◌, arith, Option, Some, None, Contains}
 use Rattle.std.proofs.lemmas.List.{length-map, length-take, take_more, take_all}
 use Rattle.std.proofs.lemmas.List.Elements.{Contains-append_cases}
-use Rattle.tables.proofs.Elements.{in_none, in_single}
-use Rattle.ocpi_types.specs.declared.rows.Change.TheVariants.{Put}
-use Rattle.ocpi_types.specs.declared.stored.Push.{Push}
-use Rattle.ocpi_types.specs.declared.stored.Push.TheVariants as push
-use Rattle.ocpi_types.specs.declared.token.Token.{Token}
-use Rattle.outbox.specs.Pushes.{IsReplaced, Pushes, subject}
-use Rattle.node_steps.specs.Acts.{Act, all_messages, all_requests, in_turn, pushed}
-use Rattle.node_steps.specs.Drafts.{Counters, Gathered, HasNumbers, IsInRange, Step, StopsBy, counted, later, opened, with_acts}
-use Rattle.node_steps.proofs.Gathering.{all_turns, both, in_turn_more, no_turns, step_is, turns_ask_same, turns_send_same}
-use Rattle.node_steps.specs.declared.fault.NodeFault.{NodeFault}
-use Rattle.node_steps.specs.declared.fault.NodeFault.TheVariants.{NotForMe, UnknownOperator, UnknownToken, StampEnd, NumbersUsedUp, Memory}
+use Rattle.tables.proofs.Elements.{in_single}
+use Rattle.ocpi_types.specs.{Push, Token}
+use Rattle.ocpi_types.specs.push
+use Rattle.outbox.specs.{IsReplaced, subject}
+use Rattle.outbox.specs.Pushes.{Pushes}
+use Rattle.node_steps.specs.{Counters, Gathered, HasNumbers, Step, all_messages, all_requests, counted, in_turn, later}
+use Rattle.node_steps.specs.{opened, pushed, with_acts}
+use Rattle.node_steps.proofs.Gathering.{all_turns, both, in_turn_more, step_is, turns_ask_same, turns_send_same}
 use Rattle.provider_rows.specs.State.{State}
-use Rattle.provider_steps.specs.declared.pushing.Pushing.{Pushing}
-use Rattle.provider_steps.specs.Acts.{replaced, stored, token_acts}
-use Rattle.provider_steps.specs.Moves.{counters_of}
-use Rattle.provider_steps.specs.Tokens.{AreTokenPushes}
+use Rattle.provider_steps.specs.{AreTokenPushes, Pushing, counters_of, replaced, token_acts}
 use Rattle.provider_core.specs.Planned.{ReferWithin}
 use Rattle.provider_core.specs.Versions.{ArePushed, IsGathered, IsPushed, IsVersioned, pushing, version_acts}
 use Rattle.provider_core.proofs.Within.{refer_in_turn}
@@ -36,10 +30,6 @@ module _ (at : ℕ) (t : Token) (last : ℕ) (to : List ℕ) where
   one_within : (older : Option ℕ) → ReferWithin (token_acts at t last (pushing to older))
   one_within None = (tt, tt)
   one_within (Some n) = (tt, (tt, tt))
-
-pub older_silent : (older : Option ℕ) → all_messages (replaced older) ≡ []
-older_silent None = refl
-older_silent (Some n) = refl
 
 pub older_asks : (older : Option ℕ) → all_requests (replaced older) ≡ 0
 older_asks None = refl
@@ -64,9 +54,6 @@ module _ (m : Pushes) (at : ℕ) (t : Token) where
     pub to_all : map (λ (p : Pushing). p.to) pushes ≡ operators
     pub replaced : (p : Pushing) → Contains pushes p → IsReplaced m (subject p.to (push.PutToken t)) p.replaced
     pub all : e ≡ all_turns (token_acts at t) pushes d
-
-  pub none_pushed : (d : Gathered) → ArePushedTo [] d d
-  none_pushed d = record { pushes = []; to_all = refl; replaced = λ p i. absurd (in_none p i); all = sym (no_turns (token_acts at t) d) }
 
   map_push : (ps : List Pushing) (p : Pushing) → map (λ (p : Pushing). p.to) (ps ++ p ∷ []) ≡ map (λ (p : Pushing). p.to) ps ++ p.to ∷ []
   map_push [] p = refl
@@ -119,18 +106,6 @@ all_pushed s at t all i d e is past h = record {
   are_pushes = record { to_all = h.to_all ∙ take_all i all past ∙ is; replaced = h.replaced };
   all = h.all;
 }
-
--- it is stored first
-pub stored_first : (s : State) (at : ℕ) (t : Token) (d e f : Gathered) → e ≡ with_acts (stored t ∷ []) d → ArePushed s at t e f → IsGathered s at t d f
-stored_first s at t d e f one h =
-    let number : e.counters.request ≡ d.counters.request = ap (λ (g : Gathered). g.counters.request) one ∙ omega arith in
-    record {
-      pushes = h.pushes;
-      are_pushes = h.are_pushes;
-      all = h.all ∙ ap (λ (n : ℕ). with_acts (in_turn (token_acts at t) n h.pushes) e) number
-          ∙ ap (λ (g : Gathered). with_acts (in_turn (token_acts at t) d.counters.request h.pushes) g) one
-          ∙ both (stored t ∷ []) (in_turn (token_acts at t) d.counters.request h.pushes) d;
-    }
 
 module _ (s : State) (at : ℕ) (t : Token) (ps : List Pushing) (are : AreTokenPushes s t ps) (last : ℕ) where
   count : length ps ≡ length s.operators

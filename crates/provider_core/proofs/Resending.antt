@@ -1,18 +1,16 @@
 -- Requests that are sent again: how many packets that takes.
-use Rattle.std.proofs.Common.{◌≡◌, ◌⊎◌, ◌++◌, ℕ, suc, List, [], ◌∷◌, length, inl, inr, true, false, refl, ap, sym, subst, ◌∙◌, arith}
-use Rattle.std.specs.Prelude.{Option, Some, None, Contains, IsTrue, is_some}
+use Rattle.std.proofs.Common.{◌≡◌, ◌⊎◌, ◌++◌, ℕ, suc, List, [], ◌∷◌, length, inl, inr, true, false, refl, ap, sym}
+use Rattle.std.proofs.Common.{subst, ◌∙◌, arith, Option, Some, None, Contains, IsTrue, is_some}
 use Rattle.std.specs.FinMap.{contains_key, get}
 use Rattle.std.proofs.lemmas.List.Elements.{Contains-append_right}
 use Rattle.tables.proofs.Elements.{in_front}
 use Rattle.tables.proofs.Options.{none_some}
-use Rattle.ocpi_types.specs.declared.stored.SentCommand.{SentCommand}
-use Rattle.outbox.specs.Due.{AreExactly, IsDue}
-use Rattle.outbox.specs.Outbox.{OutboxRows, Waits}
-use Rattle.outbox.specs.declared.push_book.Outgoing.{Outgoing}
-use Rattle.node_steps.specs.Acts.{Act, all_messages, all_requests}
+use Rattle.ocpi_types.specs.{SentCommand}
+use Rattle.outbox.specs.{AreExactly, IsDue, OutboxRows, Outgoing, Waits}
+use Rattle.node_steps.specs.{Act, all_messages, all_requests}
 use Rattle.node_steps.proofs.Gathering.{requests_append}
 use Rattle.provider_rows.specs.State.{State}
-use Rattle.provider_steps.specs.Tick.{TickLine, all_resent, resent_acts}
+use Rattle.provider_steps.specs.{TickLine, all_resent, resent_acts}
 use Rattle.provider_core.specs.Planned.{ReferWithin}
 use Rattle.provider_core.proofs.Within.{refer_each}
 

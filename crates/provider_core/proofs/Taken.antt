@@ -1,14 +1,8 @@
 -- Which bodies a provider takes.
 use Rattle.std.proofs.Common.{◌≡◌, ◌⊎◌, inl, inr}
-use Rattle.ocpi_types.specs.declared.authorizations.Authorize.{Authorize}
-use Rattle.ocpi_types.specs.declared.cdrs.Cdr.{Cdr}
-use Rattle.ocpi_types.specs.declared.packet.Body.{Body}
-use Rattle.ocpi_types.specs.declared.packet.Body.TheVariants as body
-use Rattle.ocpi_types.specs.declared.replies.Ack.{Ack}
-use Rattle.ocpi_types.specs.declared.replies.CommandResponse.{CommandResponse}
-use Rattle.ocpi_types.specs.declared.replies.CommandResult.{CommandResult}
-use Rattle.ocpi_types.specs.declared.sessions.Session.{Session}
-use Rattle.provider_steps.specs.Packets.{IsRequest, IsTaken, OfAuthorize, OfCdr, OfResult, OfSession}
+use Rattle.ocpi_types.specs.{Ack, Authorize, Body, Cdr, CommandResponse, CommandResult, Session}
+use Rattle.ocpi_types.specs.body
+use Rattle.provider_steps.specs.{IsRequest, IsTaken, OfAuthorize, OfCdr, OfResult, OfSession}
 
 -- what is taken and is neither a response nor an acknowledgement is a request
 pub request : (b : Body) → IsTaken b → ((r : CommandResponse) → b ≡ body.CommandResponse r → ⊥) → ((a : Ack) → b ≡ body.Ack a → ⊥) → IsRequest b

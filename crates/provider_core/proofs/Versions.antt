@@ -1,18 +1,12 @@
 -- From the version of a token that is gathered to what a token comes to.
-use Rattle.std.proofs.Common.{◌≡◌, ℕ, List, ◌∷◌, length, refl, sym, subst}
-use Rattle.std.specs.Prelude.{Result, Ok, Err, IfOk, IfErr, OnOk}
-use Rattle.ocpi_text.specs.Text.{key}
-use Rattle.ocpi_types.specs.declared.token.Token.{Token}
-use Rattle.token_desk.specs.Putting.{HasNext, next_version}
-use Rattle.node_steps.specs.Acts.{Act}
-use Rattle.node_steps.specs.Drafts.{Counters, IsInRange, Step, StopsBy, counted, later}
-use Rattle.node_steps.specs.declared.fault.NodeFault.{NodeFault}
-use Rattle.node_steps.specs.declared.fault.NodeFault.TheVariants.{NotForMe, UnknownOperator, UnknownToken, StampEnd, NumbersUsedUp, Memory}
+use Rattle.std.proofs.Common.{◌≡◌, ℕ, List, ◌∷◌, length, refl, sym, subst, Result, Ok, Err, IfOk, IfErr, OnOk}
+use Rattle.ocpi_text.specs.{key}
+use Rattle.ocpi_types.specs.{Token}
+use Rattle.token_desk.specs.{HasNext, next_version}
+use Rattle.node_steps.specs.{Act, Counters, IsInRange, Memory, NodeFault, NotForMe, NumbersUsedUp, StampEnd, Step}
+use Rattle.node_steps.specs.{StopsBy, UnknownOperator, UnknownToken, counted, later}
 use Rattle.provider_rows.specs.State.{State}
-use Rattle.provider_steps.specs.declared.pushing.Pushing.{Pushing}
-use Rattle.provider_steps.specs.Faults.{IsTokenFault}
-use Rattle.provider_steps.specs.Moves.{PlannedBy, counters_of}
-use Rattle.provider_steps.specs.Tokens.{AreTokenPushes, TokenLine}
+use Rattle.provider_steps.specs.{AreTokenPushes, IsTokenFault, PlannedBy, Pushing, TokenLine, counters_of}
 use Rattle.provider_core.specs.Planned.{IsLineFault}
 use Rattle.provider_core.specs.Versions.{IsVersioned, version_acts}
 use Rattle.provider_core.proofs.Finding.{token_pushes}

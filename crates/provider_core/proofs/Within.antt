@@ -1,20 +1,15 @@
 -- Acts that do not take the counter of references past its last number.
-use Rattle.std.proofs.Common.{◌≡◌, ◌≤◌, ◌+◌, ◌++◌, ℕ, List, [], ◌∷◌, inl, inr, sym, subst}
-use Rattle.std.specs.Prelude.{Contains}
+use Rattle.std.proofs.Common.{◌≡◌, ◌≤◌, ◌+◌, ◌++◌, ℕ, List, [], ◌∷◌, inl, inr, sym, subst, Contains}
 use Rattle.std.specs.List.{flat_map}
 use Rattle.std.proofs.lemmas.List.Elements.{Contains-append_cases}
-use Rattle.ocpi_text.specs.Whole.{max_whole}
-use Rattle.ocpi_types.specs.declared.rows.Change.{Change}
-use Rattle.ocpi_types.specs.declared.rows.Change.TheVariants.{Put}
-use Rattle.ocpi_types.specs.declared.rows.Counter.TheVariants.{Reference}
-use Rattle.ocpi_types.specs.declared.rows.Row.TheVariants as row
-use Rattle.node_steps.specs.Acts.{Act, all_changes, in_turn, all_requests}
-use Rattle.node_steps.specs.Drafts.{IsInRange, counted}
+use Rattle.ocpi_text.specs.{max_whole}
+use Rattle.ocpi_types.specs.{Change, Put, Reference}
+use Rattle.ocpi_types.specs.row
+use Rattle.node_steps.specs.{Act, IsInRange, all_changes, all_requests, counted, in_turn}
 use Rattle.node_steps.proofs.Gathering.{changes_append}
 use Rattle.tables.proofs.Elements.{in_none, in_single, in_front}
 use Rattle.provider_rows.specs.State.{State}
-use Rattle.provider_steps.specs.Acts.{referenced}
-use Rattle.provider_steps.specs.Moves.{AreInRange, counters_of}
+use Rattle.provider_steps.specs.{AreInRange, counters_of, referenced}
 use Rattle.provider_core.specs.Planned.{AreWithin, IsWithin, ReferWithin}
 
 each_within : (cs : List Change) (c : Change) → AreWithin cs → Contains cs c → IsWithin c

@@ -1,26 +1,18 @@
 -- What an answer to a request does.
 use Rattle.std.specs.Prelude.{◌≤◌, ℕ, List, [], ◌∷◌, Option, Some, None, ⊤}
 use Rattle.std.specs.FinMap.{get}
-use Rattle.ocpi_text.specs.Text.{key}
-use Rattle.ocpi_text.specs.Whole.{max_whole}
-use Rattle.ocpi_types.specs.declared.authorizations.Authorization.TheVariants as authorization
-use Rattle.ocpi_types.specs.declared.authorizations.AuthorizationInfo.{AuthorizationInfo}
-use Rattle.ocpi_types.specs.declared.packet.Packet.{Packet}
-use Rattle.ocpi_types.specs.declared.packet.Body.{Body}
-use Rattle.ocpi_types.specs.declared.packet.Body.TheVariants as body
-use Rattle.ocpi_types.specs.declared.stored.Reply.{Reply}
-use Rattle.ocpi_types.specs.declared.stored.Reply.TheVariants as reply
-use Rattle.ocpi_types.specs.declared.stored.SentCommand.{SentCommand}
-use Rattle.ocpi_types.specs.declared.token.Token.{Token}
-use Rattle.ocpi_types.specs.declared.words.AllowedType.TheVariants as allowed
-use Rattle.ocpi_types.specs.declared.words.CommandResultType.{CommandResultType}
+use Rattle.ocpi_text.specs.{key, max_whole}
+use Rattle.ocpi_types.specs.authorization
+use Rattle.ocpi_types.specs.{AuthorizationInfo, Body, CommandResultType, Packet, Reply, SentCommand, Token}
+use Rattle.ocpi_types.specs.body
+use Rattle.ocpi_types.specs.reply
+use Rattle.ocpi_types.specs.allowed
 use Rattle.outbox.specs.Commands.{Commands}
-use Rattle.token_desk.specs.References.{reference_of}
-use Rattle.node_steps.specs.Acts.{Act, answered}
+use Rattle.token_desk.specs.{reference_of}
+use Rattle.node_steps.specs.{Act, answered}
 use Rattle.provider_rows.specs.State.{State}
-use Rattle.provider_steps.specs.Acts.{acknowledgement, allowed_reply, billed, blocked_reply, held, kept, referenced, unknown_reply, with_result}
-use Rattle.provider_steps.specs.Orders.{next_reference}
-use Rattle.provider_steps.specs.Packets.{Answers}
+use Rattle.provider_steps.specs.{Answers, acknowledgement, allowed_reply, billed, blocked_reply, held, kept}
+use Rattle.provider_steps.specs.{next_reference, referenced, unknown_reply, with_result}
 use Rattle.provider_core.specs.declared.packets.answer_kinds.Answer.{Answer}
 use Rattle.provider_core.specs.declared.packets.answer_kinds.Answer.TheVariants.{Refused, Kept, Taken, Resulted, Unknown, Blocked, Allowed}
 

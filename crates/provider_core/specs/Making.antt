@@ -1,15 +1,12 @@
 -- What a prepared order does.
 use Rattle.std.specs.Prelude.{◌≡◌, ◌≤◌, ◌+◌, ℕ, ◌++◌, List, [], ◌∷◌, Some, ⊤}
-use Rattle.ocpi_text.specs.Whole.{max_whole}
-use Rattle.ocpi_types.specs.declared.events.Order.{Order}
-use Rattle.ocpi_types.specs.declared.commands.Command.{Command}
-use Rattle.ocpi_types.specs.declared.commands.Command.TheVariants as command
-use Rattle.node_steps.specs.Acts.{Act, commanded}
-use Rattle.node_steps.specs.declared.fault.NodeFault.{NodeFault}
-use Rattle.node_steps.specs.declared.fault.NodeFault.TheVariants.{NotForMe, UnknownOperator, UnknownToken, StampEnd, NumbersUsedUp, Memory}
+use Rattle.ocpi_text.specs.{max_whole}
+use Rattle.ocpi_types.specs.{Command, Order}
+use Rattle.ocpi_types.specs.command
+use Rattle.node_steps.specs.{Act, Memory, NodeFault, NotForMe, NumbersUsedUp, StampEnd, UnknownOperator, UnknownToken}
+use Rattle.node_steps.specs.{commanded}
 use Rattle.provider_rows.specs.State.{State}
-use Rattle.provider_steps.specs.Acts.{own_url, referenced}
-use Rattle.provider_steps.specs.Orders.{LacksToken, Makes, next_reference, next_request}
+use Rattle.provider_steps.specs.{LacksToken, Makes, next_reference, next_request, own_url, referenced}
 use Rattle.provider_core.specs.declared.orders.prepared_orders.Prepared.{Prepared}
 use Rattle.provider_core.specs.declared.orders.prepared_orders.Prepared.TheVariants.{Start, Reserve, Stop, Cancel, Unlock}
 

@@ -1,19 +1,13 @@
 -- What a step answers, and when what a line asks for is refused.
 use Rattle.std.specs.Prelude.{◌≤◌, ℕ, List, [], ◌∷◌, ⊤}
-use Rattle.ocpi_text.specs.Whole.{max_whole}
-use Rattle.ocpi_types.specs.declared.rows.Change.{Change}
-use Rattle.ocpi_types.specs.declared.rows.Change.TheVariants.{Put, Drop}
-use Rattle.ocpi_types.specs.declared.rows.Counter.{Counter}
-use Rattle.ocpi_types.specs.declared.rows.Counter.TheVariants.{Serial, Request, Session, Cdr, Reference}
-use Rattle.ocpi_types.specs.declared.rows.Row.{Row}
-use Rattle.ocpi_types.specs.declared.rows.Row.TheVariants as row
-use Rattle.node_steps.specs.Acts.{Act, all_changes}
-use Rattle.node_steps.specs.declared.fault.NodeFault.{NodeFault}
-use Rattle.node_steps.specs.declared.fault.NodeFault.TheVariants.{NotForMe, UnknownOperator, UnknownToken, StampEnd, NumbersUsedUp, Memory}
-use Rattle.node_steps.specs.declared.plan.Stepped.{Stepped}
+use Rattle.ocpi_text.specs.{max_whole}
+use Rattle.ocpi_types.specs.{Change, Counter, Drop, Put, Reference, Request, Row, Serial}
+use Rattle.ocpi_types.specs.declared.rows.Counter.TheVariants.{Session, Cdr}
+use Rattle.ocpi_types.specs.row
+use Rattle.node_steps.specs.{Act, Memory, NodeFault, NotForMe, NumbersUsedUp, StampEnd, Stepped, UnknownOperator}
+use Rattle.node_steps.specs.{UnknownToken, all_changes}
 use Rattle.provider_rows.specs.State.{State}
-use Rattle.provider_steps.specs.Faults.{MayStep, PassesLast}
-use Rattle.provider_steps.specs.Moves.{Out}
+use Rattle.provider_steps.specs.{MayStep, Out, PassesLast}
 
 abbrev pub out_of : State → Stepped → Out
 out_of s x = record { state = s; changes = x.rows.items; packets = x.packets.items }

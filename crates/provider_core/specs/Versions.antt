@@ -1,15 +1,12 @@
 -- A version of a token is stored and pushed.
 use Rattle.std.specs.Prelude.{◌≡◌, ℕ, List, ◌∷◌, Option}
-use Rattle.ocpi_types.specs.declared.stored.Push.TheVariants as push
-use Rattle.ocpi_types.specs.declared.token.Token.{Token}
-use Rattle.outbox.specs.Pushes.{IsReplaced, Pushes, subject}
-use Rattle.node_steps.specs.Acts.{Act, in_turn}
-use Rattle.node_steps.specs.Drafts.{Gathered, Step, with_acts}
+use Rattle.ocpi_types.specs.push
+use Rattle.ocpi_types.specs.{Token}
+use Rattle.outbox.specs.{IsReplaced, subject}
+use Rattle.outbox.specs.Pushes.{Pushes}
+use Rattle.node_steps.specs.{Act, Gathered, Step, in_turn, with_acts}
 use Rattle.provider_rows.specs.State.{State}
-use Rattle.provider_steps.specs.declared.pushing.Pushing.{Pushing}
-use Rattle.provider_steps.specs.Acts.{stored, token_acts}
-use Rattle.provider_steps.specs.Moves.{step_of_acts}
-use Rattle.provider_steps.specs.Tokens.{AreTokenPushes}
+use Rattle.provider_steps.specs.{AreTokenPushes, Pushing, step_of_acts, stored, token_acts}
 
 -- it is stored, and pushed to each operator as the next request after `last`
 abbrev pub version_acts : ℕ → Token → List Pushing → ℕ → List Act

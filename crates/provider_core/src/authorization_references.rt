@@ -1,12 +1,10 @@
 //! Authorization references, which a provider gives by one counter (OCPI 2.2.1, Tokens: AuthorizationInfo object).
 
 ghost use Rattle.std.specs.Prelude.{◌≡◌, ◌≤◌, ◌∷◌, [], IfOk, IfErr, OnOk};
-ghost use Rattle.ocpi_text.specs.Whole.{max_whole};
-ghost use Rattle.node_steps.specs.Drafts.{with_acts};
-ghost use Rattle.node_steps.specs.declared.fault.NodeFault.TheVariants.{NumbersUsedUp};
-ghost use Rattle.token_desk.specs.References.{reference_of};
-ghost use Rattle.provider_steps.specs.Acts.{referenced};
-ghost use Rattle.provider_steps.specs.Orders.{next_reference};
+ghost use Rattle.ocpi_text.specs.{max_whole};
+ghost use Rattle.node_steps.specs.{NumbersUsedUp, with_acts};
+ghost use Rattle.token_desk.specs.{reference_of};
+ghost use Rattle.provider_steps.specs.{next_reference, referenced};
 
 use crate::provider::Provider;
 use node_steps::{Draft, NodeFault};

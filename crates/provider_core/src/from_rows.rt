@@ -1,13 +1,11 @@
 //! A provider that is made of rows.
 
 ghost use Rattle.std.specs.Prelude.{◌≡◌, IfErr, IfOk};
-ghost use Rattle.provider_rows.specs.Rows.{AreKeyed};
-ghost use Rattle.provider_rows.specs.Sound.{IsConsistent, with_rows};
-ghost use Rattle.provider_rows.specs.State.{State, opening};
-ghost use Rattle.provider_rows.specs.Steps.{restarted};
+ghost use Rattle.provider_rows.specs.{AreKeyed, IsConsistent, opening, restarted, with_rows};
+ghost use Rattle.provider_rows.specs.State.{State};
 ghost use Rattle.provider_stored.specs.Bad.{IsBad};
 ghost use Rattle.provider_stored.specs.Making.{IsMadeOf, StartsAgain};
-ghost use Rattle.stored_rows.specs.Faults.{IfBadRows};
+ghost use Rattle.stored_rows.specs.{IfBadRows};
 
 use crate::provider::Provider;
 use ocpi_types::Row;

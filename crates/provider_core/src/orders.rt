@@ -1,13 +1,10 @@
 //! What an order makes a provider do (OCPI 2.2.1, Commands). Nothing is changed here.
 
 ghost use Rattle.std.specs.Prelude.{◌≡◌, ◌≤◌, ◌+◌, IfOk, IfErr, OnOk};
-ghost use Rattle.ocpi_text.specs.Whole.{max_whole};
-ghost use Rattle.node_steps.specs.Drafts.{HasNumbers, IsInRange, StopsBy, counted, step_of, with_acts};
-ghost use Rattle.provider_rows.specs.Steps.{MayFollow};
-ghost use Rattle.provider_steps.specs.Acts.{own_url};
-ghost use Rattle.provider_steps.specs.Faults.{IsOrderFault};
-ghost use Rattle.provider_steps.specs.Moves.{PlannedBy, counters_of, step_of_acts};
-ghost use Rattle.provider_steps.specs.Orders.{OrderLine};
+ghost use Rattle.ocpi_text.specs.{max_whole};
+ghost use Rattle.node_steps.specs.{HasNumbers, IsInRange, StopsBy, counted, step_of, with_acts};
+ghost use Rattle.provider_rows.specs.{MayFollow};
+ghost use Rattle.provider_steps.specs.{IsOrderFault, OrderLine, PlannedBy, counters_of, own_url, step_of_acts};
 ghost use Rattle.provider_core.specs.Making.{before_of, command_of, order_acts};
 
 mod lookups;
@@ -20,10 +17,7 @@ use crate::orders::response_urls::own_url;
 use crate::provider::Provider;
 use node_steps::{Draft, Needs, NodeFault, Plan, find_peer};
 use ocpi_text::{FreeText, Moment, Party};
-use ocpi_types::{
-    Boxed, CancelReservation, Command, Order, ReserveNow, StartSession, StopSession,
-    UnlockConnector,
-};
+use ocpi_types::{Boxed, CancelReservation, Command, Order, ReserveNow, StartSession, StopSession, UnlockConnector};
 use provider_steps::facts;
 use std::alloc::{AllocError, Global};
 

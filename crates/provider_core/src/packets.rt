@@ -2,16 +2,14 @@
 
 ghost use Rattle.std.specs.Prelude.{◌≡◌, ◌↔◌, ◌∷◌, [], ℕ, List, IsTrue, IfOk, IfErr, OnOk, IfSome, IfNone};
 ghost use Rattle.std.specs.FinMap as map;
-ghost use Rattle.ocpi_text.specs.Text.{key};
-ghost use Rattle.ocpi_types.specs.declared.packet.Body.TheVariants as body;
-ghost use Rattle.ocpi_types.specs.declared.stored.SentCommand.{SentCommand as SentCommandOf};
-ghost use Rattle.node_steps.specs.Acts.{repeated};
-ghost use Rattle.node_steps.specs.Drafts.{HasNumbers, IsInRange, StopsBy, counted, later, opened, step_of, with_acts};
-ghost use Rattle.node_steps.specs.Peers.{IsPeer};
-ghost use Rattle.provider_rows.specs.Steps.{MayFollow};
-ghost use Rattle.provider_steps.specs.Faults.{IsPacketFault, MayStep};
-ghost use Rattle.provider_steps.specs.Moves.{PlannedBy, counters_of, step_of_acts};
-ghost use Rattle.provider_steps.specs.Packets.{Acknowledges, Comes, IsAwaited, IsForMe, IsRequest, IsTaken, PacketLine};
+ghost use Rattle.ocpi_text.specs.{key};
+ghost use Rattle.ocpi_types.specs.body;
+ghost use Rattle.ocpi_types.specs.{SentCommand as SentCommandOf};
+ghost use Rattle.node_steps.specs.{HasNumbers, IsInRange, IsPeer, StopsBy, counted, later, opened, repeated, step_of};
+ghost use Rattle.node_steps.specs.{with_acts};
+ghost use Rattle.provider_rows.specs.{MayFollow};
+ghost use Rattle.provider_steps.specs.{Acknowledges, Comes, IsAwaited, IsForMe, IsPacketFault, IsRequest, IsTaken};
+ghost use Rattle.provider_steps.specs.{MayStep, PacketLine, PlannedBy, counters_of, step_of_acts};
 ghost use Rattle.provider_core.specs.Answering.{answer_acts, own_acts, result_acts};
 ghost use Rattle.provider_core.specs.Planned.{IsLineFault};
 
@@ -29,10 +27,7 @@ use crate::packets::sent_commands::{with_answer, with_result};
 use crate::provider::Provider;
 use node_steps::{Draft, Needs, NodeFault, Plan, find_peer};
 use ocpi_text::{Moment, Party, Whole};
-use ocpi_types::{
-    Ack, Body, Boxed, Change, CommandResponse, CommandResultType, Packet, Reply, Row, RowKey,
-    SentCommand,
-};
+use ocpi_types::{Ack, Body, Boxed, Change, CommandResponse, CommandResultType, Packet, Reply, Row, RowKey, SentCommand};
 use provider_steps::facts;
 use std::alloc::AllocError;
 

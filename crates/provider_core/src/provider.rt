@@ -1,9 +1,9 @@
 //! The provider.
 
 ghost use Rattle.std.specs.Prelude.{◌≡◌, IfOk, IfErr, IsOk, OnErr, OnOk};
-ghost use Rattle.ocpi_text.specs.Text.{key};
-ghost use Rattle.handover.specs.Owed.{owed};
-ghost use Rattle.provider_rows.specs.State.{opening};
+ghost use Rattle.ocpi_text.specs.{key};
+ghost use Rattle.handover.specs.{owed};
+ghost use Rattle.provider_rows.specs.{opening};
 
 use node_steps::{NodeFault, Plan, Stepped, copies};
 use ocpi_text::{Moment, Party, ShortText, Whole};
@@ -26,7 +26,7 @@ pub struct Provider {
 impl Model for Provider {
     ghost use Rattle.std.specs.FinMap as map;
     ghost use Rattle.std.specs.Coded.{codes};
-    ghost use Rattle.provider_rows.specs.Steps.{Node};
+    ghost use Rattle.provider_rows.specs.{Node};
 
     ghost Value = { Node };
 
@@ -37,16 +37,10 @@ impl Model for Provider {
 
 impl Provider {
     ghost use Rattle.std.specs.FinMap as map;
-    ghost use Rattle.node_steps.specs.Drafts.{step_of};
-    ghost use Rattle.provider_rows.specs.Rows.{AreChanges, AreRowsOf};
-    ghost use Rattle.provider_rows.specs.Sound.{IsConsistent};
-    ghost use Rattle.provider_rows.specs.Steps.{HasRoomFor, MayFollow, after, restarted};
-    ghost use Rattle.provider_steps.specs.Faults.{IsOrderFault, IsPacketFault, IsTickFault, IsTokenFault};
-    ghost use Rattle.provider_steps.specs.Moves.{carried};
-    ghost use Rattle.provider_steps.specs.Orders.{OrderStep};
-    ghost use Rattle.provider_steps.specs.Packets.{PacketStep};
-    ghost use Rattle.provider_steps.specs.Tick.{TickStep};
-    ghost use Rattle.provider_steps.specs.Tokens.{TokenStep};
+    ghost use Rattle.node_steps.specs.{step_of};
+    ghost use Rattle.provider_rows.specs.{AreChanges, AreRowsOf, HasRoomFor, IsConsistent, MayFollow, after, restarted};
+    ghost use Rattle.provider_steps.specs.{IsOrderFault, IsPacketFault, IsTickFault, IsTokenFault, OrderStep};
+    ghost use Rattle.provider_steps.specs.{PacketStep, TickStep, TokenStep, carried};
     ghost use Rattle.provider_core.specs.Planned.{out_of};
 
     /// The provider of these peers before its first event. It takes no memory.

@@ -2,12 +2,11 @@
 
 ghost use Rattle.std.specs.Prelude.{◌≡◌, IfOk, IfErr, OnOk};
 ghost use Rattle.std.specs.FinMap as map;
-ghost use Rattle.outbox.specs.Due.{AreExactly, IsDue};
-ghost use Rattle.node_steps.specs.Drafts.{HasNumbersOf, IsInRange, StopsBy, counted, step_of, with_acts};
-ghost use Rattle.provider_rows.specs.Steps.{MayFollow};
-ghost use Rattle.provider_steps.specs.Faults.{IsTickFault};
-ghost use Rattle.provider_steps.specs.Moves.{PlannedBy, counters_of, step_of_acts};
-ghost use Rattle.provider_steps.specs.Tick.{TickLine, all_resent, resent_acts};
+ghost use Rattle.outbox.specs.{AreExactly, IsDue};
+ghost use Rattle.node_steps.specs.{HasNumbersOf, IsInRange, StopsBy, counted, step_of, with_acts};
+ghost use Rattle.provider_rows.specs.{MayFollow};
+ghost use Rattle.provider_steps.specs.{IsTickFault, PlannedBy, TickLine, all_resent, counters_of, resent_acts};
+ghost use Rattle.provider_steps.specs.{step_of_acts};
 
 use crate::provider::Provider;
 use node_steps::{Draft, Needs, NodeFault, Plan};

@@ -2,12 +2,9 @@
 //! here.
 
 ghost use Rattle.std.specs.Prelude.{◌≡◌, ℕ, List, length, Option, IfOk, IfErr, OnOk};
-ghost use Rattle.node_steps.specs.Drafts.{HasNumbers, IsInRange, StopsBy, later, step_of, with_acts};
-ghost use Rattle.provider_rows.specs.Steps.{MayFollow};
-ghost use Rattle.provider_steps.specs.Acts.{replaced};
-ghost use Rattle.provider_steps.specs.Faults.{IsTokenFault};
-ghost use Rattle.provider_steps.specs.Moves.{PlannedBy, counters_of};
-ghost use Rattle.provider_steps.specs.Tokens.{TokenLine};
+ghost use Rattle.node_steps.specs.{HasNumbers, IsInRange, StopsBy, later, step_of, with_acts};
+ghost use Rattle.provider_rows.specs.{MayFollow};
+ghost use Rattle.provider_steps.specs.{IsTokenFault, PlannedBy, TokenLine, counters_of, replaced};
 ghost use Rattle.provider_core.specs.Versions.{ArePushed, IsGathered, IsPushed, IsVersioned};
 
 use crate::provider::Provider;

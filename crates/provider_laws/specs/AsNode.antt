@@ -1,19 +1,14 @@
 -- A provider as a node of any role: what the laws of nodes speak of.
 use Rattle.std.specs.Prelude.{ℕ, List, [], ◌∷◌, map, Option, Some, None}
 use Rattle.std.specs.FinMap.{get}
-use Rattle.ocpi_types.specs.Stored.{body_of_push}
-use Rattle.ocpi_types.specs.declared.packet.Body.TheVariants as body
-use Rattle.ocpi_types.specs.declared.packet.Packet.{Packet}
-use Rattle.ocpi_types.specs.declared.replies.CommandResponse.{CommandResponse}
-use Rattle.ocpi_types.specs.declared.stored.SentCommand.{SentCommand}
-use Rattle.ocpi_types.specs.declared.words.CommandResultType.{CommandResultType}
-use Rattle.outbox.specs.Outbox.{OutboxRows}
-use Rattle.outbox.specs.declared.push_book.Outgoing.{Outgoing}
+use Rattle.ocpi_types.specs.{CommandResponse, CommandResultType, Packet, SentCommand, body_of_push}
+use Rattle.ocpi_types.specs.body
+use Rattle.outbox.specs.{OutboxRows, Outgoing}
 use Rattle.node_laws.specs.Nodes.{Node, Exchange, Request, NodeStep}
 use Rattle.node_laws.specs.Laws.{NodeRun}
 use Rattle.provider_rows.specs.State.{State}
-use Rattle.provider_rows.specs.Sound.{IsConsistent}
-use Rattle.provider_steps.specs.Events.{Input, Arrives, Submits, Gives, Ticks, Restarts, Event, Happens}
+use Rattle.provider_rows.specs.{IsConsistent}
+use Rattle.provider_steps.specs.{Arrives, Event, Gives, Happens, Input, Restarts, Submits, Ticks}
 use Rattle.provider_laws.specs.Laws.{Run}
 
 abbrev pub pushed_request : Outgoing → Request

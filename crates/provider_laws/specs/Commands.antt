@@ -1,18 +1,12 @@
 -- The commands that a provider sent, their responses and results (OCPI 2.2.1, Commands).
 use Rattle.std.specs.Prelude.{◌≡◌, ◌⊎◌, ℕ, List, Some, Contains}
 use Rattle.std.specs.FinMap.{get}
-use Rattle.ocpi_text.specs.Text.{key}
-use Rattle.ocpi_types.specs.declared.packet.Packet.{Packet}
-use Rattle.ocpi_types.specs.declared.packet.Body.TheVariants as body
-use Rattle.ocpi_types.specs.declared.replies.CommandResponse.{CommandResponse}
-use Rattle.ocpi_types.specs.declared.replies.CommandResult.{CommandResult}
-use Rattle.ocpi_types.specs.declared.commands.Command.{Command}
-use Rattle.ocpi_types.specs.declared.stored.SentCommand.{SentCommand}
-use Rattle.ocpi_types.specs.declared.words.CommandResultType.{CommandResultType}
-use Rattle.provider_rows.specs.State.{Peering, State, opening, url_of}
-use Rattle.provider_rows.specs.Sound.{IsConsistent}
-use Rattle.provider_steps.specs.Acts.{own_url}
-use Rattle.provider_steps.specs.Events.{Event}
+use Rattle.ocpi_text.specs.{key}
+use Rattle.ocpi_types.specs.{Command, CommandResponse, CommandResult, CommandResultType, Packet, SentCommand}
+use Rattle.ocpi_types.specs.body
+use Rattle.provider_rows.specs.{IsConsistent, Peering, opening, url_of}
+use Rattle.provider_rows.specs.State.{State}
+use Rattle.provider_steps.specs.{Event, own_url}
 use Rattle.provider_laws.specs.Laws.{Came, Run, sent}
 
 -- a sent command as it may stand later: with the same addressee and command, and with the response and the result that

@@ -3,22 +3,15 @@
 use Rattle.std.specs.Prelude.{◌≡◌, ◌≢◌, ◌⊎◌, ◌≤◌, ◌<◌, ◌+ℤ◌, ℕ, List, [], ◌∷◌, Some, None, Contains}
 use Rattle.std.specs.List.{AllPairs, flat_map}
 use Rattle.std.specs.FinMap.{get, values}
-use Rattle.ocpi_text.specs.Text.{key}
-use Rattle.ocpi_types.specs.declared.cdrs.Cdr.{Cdr}
-use Rattle.ocpi_types.specs.declared.packet.Packet.{Packet}
-use Rattle.ocpi_types.specs.declared.packet.Body.TheVariants as body
-use Rattle.ocpi_types.specs.declared.replies.Ack.{Ack}
-use Rattle.ocpi_types.specs.declared.rows.Change.{Change}
-use Rattle.ocpi_types.specs.declared.rows.Change.TheVariants.{Put, Drop}
-use Rattle.ocpi_types.specs.declared.rows.Row.TheVariants as row
-use Rattle.ocpi_types.specs.declared.sessions.Session.{Session}
-use Rattle.ocpi_types.specs.declared.stored.Reply.{Reply}
-use Rattle.ocpi_types.specs.declared.stored.Reply.TheVariants as reply
-use Rattle.handover.specs.Cdrs.{HasOnePerSession, cdr_key}
-use Rattle.handover.specs.Inbox.{IsFinal, IsOfParties, session_key}
-use Rattle.handover.specs.Owed.{Account, owed}
-use Rattle.provider_rows.specs.State.{Peering, State, opening}
-use Rattle.provider_steps.specs.Events.{Event, Happens}
+use Rattle.ocpi_text.specs.{key}
+use Rattle.ocpi_types.specs.{Ack, Cdr, Change, Drop, Packet, Put, Reply, Session}
+use Rattle.ocpi_types.specs.body
+use Rattle.ocpi_types.specs.row
+use Rattle.ocpi_types.specs.reply
+use Rattle.handover.specs.{Account, HasOnePerSession, IsFinal, IsOfParties, cdr_key, owed, session_key}
+use Rattle.provider_rows.specs.{Peering, opening}
+use Rattle.provider_rows.specs.State.{State}
+use Rattle.provider_steps.specs.{Event, Happens}
 use Rattle.provider_laws.specs.Laws.{AnswersIt, Came, Run, sent}
 
 -- the session came in the run, from its operator and for a token of that party

@@ -4,15 +4,13 @@
 use Rattle.std.specs.Prelude.{◌≡◌, ◌⊎◌, ℕ, ◌+◌, List, Some, None, Contains, slice_get, ◌++◌, ◌∷◌}
 use Rattle.std.specs.List.{flat_map}
 use Rattle.std.specs.FinMap.{get}
-use Rattle.ocpi_text.specs.Text.{key}
-use Rattle.ocpi_types.specs.Stored.{body_of_reply}
-use Rattle.ocpi_types.specs.declared.packet.Packet.{Packet}
-use Rattle.ocpi_types.specs.declared.stored.Reply.{Reply}
+use Rattle.ocpi_text.specs.{key}
+use Rattle.ocpi_types.specs.{Packet, Reply, body_of_reply}
 use Rattle.node_laws.specs.Runs as runs
 use Rattle.node_laws.specs.Nodes.{Answers, IsReply}
-use Rattle.provider_rows.specs.State.{ArePeers, Peering, State, opening}
-use Rattle.provider_rows.specs.Sound.{IsConsistent}
-use Rattle.provider_steps.specs.Events.{Arrives, Event, Happens}
+use Rattle.provider_rows.specs.{ArePeers, IsConsistent, Peering, opening}
+use Rattle.provider_rows.specs.State.{State}
+use Rattle.provider_steps.specs.{Arrives, Event, Happens}
 
 -- a run from one state to another, event by event
 abbrev pub Run : State → List Event → State → Type 0

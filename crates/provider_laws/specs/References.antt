@@ -2,16 +2,13 @@
 -- (OCPI 2.2.1, Commands: StartSession; Tokens: AuthorizationInfo).
 use Rattle.std.specs.Prelude.{◌≡◌, ◌≤◌, ℕ, List, Option, Some, None}
 use Rattle.std.specs.FinMap.{get}
-use Rattle.ocpi_text.specs.OwnIds.{own_id_text}
-use Rattle.ocpi_text.specs.Text.{key}
-use Rattle.ocpi_text.specs.Whole.{max_whole}
-use Rattle.ocpi_text.specs.declared.own_ids.OwnIdKind.TheVariants.{AuthorizationReference}
-use Rattle.ocpi_types.specs.declared.authorizations.Authorization.TheVariants as authorization
-use Rattle.ocpi_types.specs.declared.stored.Reply.{Reply}
-use Rattle.ocpi_types.specs.declared.stored.Reply.TheVariants as reply
-use Rattle.ocpi_types.specs.declared.stored.SentCommand.{SentCommand}
-use Rattle.provider_rows.specs.State.{ArePeers, Peering, Rows, State, opening, reference_of}
-use Rattle.provider_steps.specs.Events.{Event}
+use Rattle.ocpi_text.specs.{AuthorizationReference, key, max_whole, own_id_text}
+use Rattle.ocpi_types.specs.authorization
+use Rattle.ocpi_types.specs.{Reply, SentCommand}
+use Rattle.ocpi_types.specs.reply
+use Rattle.provider_rows.specs.{ArePeers, Peering, opening, reference_of}
+use Rattle.provider_rows.specs.State.{Rows, State}
+use Rattle.provider_steps.specs.{Event}
 use Rattle.provider_laws.specs.Laws.{Run}
 
 -- the counter of references never falls, over restarts too

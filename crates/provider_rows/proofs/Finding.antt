@@ -1,8 +1,9 @@
 -- The command of a url is among the entries that stand from the url's place on.
-use Rattle.std.proofs.Common.{◌≡◌, ◌≢◌, ◌⊎◌, ◌≤◌, ◌%◌, ◌+◌, ◌-◌, ◌*◌, ◌<◌, inl, inr, ℕ, List, [], ◌∷◌, Bool, true, false, cond, drop, length, get_or, suc, refl, sym, ap, subst, ◌∙◌, arith}
+use Rattle.std.proofs.Common.{◌≡◌, ◌≢◌, ◌⊎◌, ◌≤◌, ◌%◌, ◌+◌, ◌-◌, ◌*◌, ◌<◌, inl, inr, ℕ, List, [], ◌∷◌, Bool, true}
+use Rattle.std.proofs.Common.{false, cond, drop, length, get_or, suc, refl, sym, ap, subst, ◌∙◌, arith, Some, Contains}
+use Rattle.std.proofs.Common.{IsTrue, nat_eq, not}
 use Rattle.std.proofs.Math.Seq.{drop-cons}
 use Rattle.std.proofs.lemmas.Bool.{eqb-false}
-use Rattle.std.specs.Prelude.{Some, Contains, IsTrue, nat_eq, not}
 use Rattle.std.specs.Ordering.{nat_cmp, is_le, is_gt, ordering_then}
 use Rattle.std.specs.List.{filter}
 use Rattle.std.specs.List.Sorted.{IsStrictlySortedBy}
@@ -13,14 +14,13 @@ use Rattle.std.specs.declared.cmp.Ordering.TheVariants.{Less, Equal}
 use Rattle.std.specs.FinMap.{get, entries}
 use Rattle.std.proofs.lemmas.List.Kept.{IsStrictlySortedBy-filter}
 use Rattle.std.proofs.lemmas.Map.Keys.{le_from_not_gt, sorted_tail}
-use Rattle.std.proofs.lemmas.Nat.{mod_below}
 use Rattle.tables.proofs.Elements.{in_none, in_front, in_map, first_below}
 use Rattle.tables.proofs.Entries.{keys_in_order, listed}
 use Rattle.tables.proofs.Maps.{equal_of_is_eq}
 use Rattle.tables.proofs.Ordered.{le_of_not_gt, not_gt_of_le}
 use Rattle.tables.proofs.Parts.{first_part_le}
 use Rattle.outbox.specs.Commands.{Commands}
-use Rattle.outbox.specs.Resend.{Moments, moment_number_cmp}
+use Rattle.outbox.specs.{Moments, moment_number_cmp}
 use Rattle.outbox.proofs.Timing.{queue_total, queue_exact, not_above}
 use Rattle.provider_rows.specs.State.{url_of}
 use Rattle.provider_rows.specs.Urls.{AreFound, Fits, url_place}
@@ -39,11 +39,6 @@ fits_not test failed passed = absurd (let bad : false ≡ true = sym failed ∙ 
 
 abbrev Entry : Type 0
 Entry = (ℕ × ℕ) × Unit {0}
-
--- the place of a text is that of its end, with one byte before it
-pub place_below : (bytes : List ℕ) → url_place bytes < 1000000007
-place_below [] = omega arith
-place_below (b ∷ bs) = mod_below (b + 31 * url_place bs) 1000000007 (omega arith)
 
 pub place_step : (bytes : List ℕ) (i b place : ℕ) → i < length bytes → b ≡ get_or bytes (length bytes - 1 - i) 0 → place ≡ url_place (drop (length bytes - i) bytes) →
     (b + 31 * place) % 1000000007 ≡ url_place (drop (length bytes - (i + 1)) bytes)

@@ -1,26 +1,21 @@
 -- What `Books` keeps together, as rows of each kind are put and dropped.
-use Rattle.std.proofs.Common.{◌≡◌, ℕ, List, inl, inr, refl, sym, ap, subst, ◌∙◌}
-use Rattle.std.specs.Prelude.{Some, None}
+use Rattle.std.proofs.Common.{◌≡◌, ℕ, List, inl, inr, refl, sym, ap, subst, ◌∙◌, Some, None}
 use Rattle.std.specs.Cmp.{nat_cmp_total}
 use Rattle.std.specs.FinMap.{nat_cmp-IsAntisymmetric, get, insert, remove, empty}
 use Rattle.tables.proofs.Indexing.{listed, relisted, nothing_listed}
 use Rattle.tables.proofs.Maps.{insert_removed}
 use Rattle.tables.proofs.Options.{known}
-use Rattle.ocpi_types.specs.declared.rows.Row.{Row}
-use Rattle.ocpi_types.specs.declared.rows.Row.TheVariants as row
-use Rattle.ocpi_types.specs.declared.rows.RowKey.TheVariants as keys
-use Rattle.ocpi_types.specs.declared.rows.Counter.TheVariants as counter
-use Rattle.ocpi_types.specs.declared.stored.Push.{Push}
-use Rattle.ocpi_types.specs.declared.stored.Reply.{Reply}
-use Rattle.ocpi_types.specs.declared.stored.SentCommand.{SentCommand}
+use Rattle.ocpi_types.specs.{Push, Reply, Row, SentCommand}
+use Rattle.ocpi_types.specs.row
+use Rattle.ocpi_types.specs.keys
+use Rattle.ocpi_types.specs.counter
 use Rattle.command_book.specs.Stored as answered
 use Rattle.token_desk.specs.Stored as desk
 use Rattle.outbox.specs.Commands.{Commands}
 use Rattle.outbox.specs.Outbox as outbox
-use Rattle.outbox.specs.Outbox.{OutboxRows, HeldOutbox}
-use Rattle.outbox.specs.Resend.{Moments, queue_number}
+use Rattle.outbox.specs.{HeldOutbox, Moments, OutboxRows, queue_number}
 use Rattle.outbox.proofs.Timing.{queue_total, queue_exact}
-use Rattle.handover.specs.Inbox.{InboxRows}
+use Rattle.handover.specs.{InboxRows}
 use Rattle.provider_rows.specs.State.{Peering, Rows, State, opening, url_of}
 use Rattle.provider_rows.specs.Stored.{put_row, drop_row}
 use Rattle.provider_rows.specs.Sound.{IsSound, MayPut, MayPutCommand, MayPutPush, MayPutRequest, with_rows}

@@ -1,28 +1,21 @@
 -- What holds of a provider at all times is kept by each change of a row that may be made, kind by kind.
-use Rattle.std.proofs.Common.{◌≡◌, ◌≤◌, inl, inr, ℕ, List, [], ◌∷◌, refl, sym, ap, subst, ◌∙◌, arith}
-use Rattle.std.specs.Prelude.{None}
+use Rattle.std.proofs.Common.{◌≡◌, ◌≤◌, inl, inr, ℕ, List, [], ◌∷◌, refl, sym, ap, subst, ◌∙◌, arith, None}
 use Rattle.std.specs.Cmp.{nat_cmp_total}
 use Rattle.std.specs.Ordering.{nat_cmp}
 use Rattle.std.specs.FinMap.{nat_cmp-IsAntisymmetric, get, empty, get-empty}
-use Rattle.ocpi_text.specs.Text.{key}
+use Rattle.ocpi_text.specs.{key}
 use Rattle.tables.proofs.Maps.{of_insert, of_remove}
 use Rattle.tables.proofs.Options.{none_some}
-use Rattle.ocpi_types.specs.declared.rows.Row.{Row}
-use Rattle.ocpi_types.specs.declared.rows.Row.TheVariants as row
-use Rattle.ocpi_types.specs.declared.rows.RowKey.{RowKey}
-use Rattle.ocpi_types.specs.declared.rows.RowKey.TheVariants as keys
-use Rattle.ocpi_types.specs.declared.rows.Change.{Change}
-use Rattle.ocpi_types.specs.declared.rows.Change.TheVariants.{Put, Drop}
-use Rattle.ocpi_types.specs.declared.rows.Counter.TheVariants as counter
-use Rattle.ocpi_types.specs.declared.stored.Push.{Push}
-use Rattle.ocpi_types.specs.declared.stored.SentCommand.{SentCommand}
+use Rattle.ocpi_types.specs.{Change, Drop, Push, Put, Row, RowKey, SentCommand}
+use Rattle.ocpi_types.specs.row
+use Rattle.ocpi_types.specs.keys
+use Rattle.ocpi_types.specs.counter
 use Rattle.outbox.specs.Outbox as outbox
 use Rattle.outbox.specs.Resend.{Resend}
-use Rattle.outbox.specs.declared.push_book.Outgoing.{Outgoing}
+use Rattle.outbox.specs.{Outgoing}
 use Rattle.outbox.proofs.Timing.{has_none}
 use Rattle.outbox.proofs.Held.{none_held, put_push_held, put_command_held, end_push_held}
-use Rattle.node_steps.specs.Drafts.{Step}
-use Rattle.node_steps.specs.Peers.{HasPeer}
+use Rattle.node_steps.specs.{HasPeer, Step}
 use Rattle.provider_rows.specs.State.{Peering, State, Rows, opening}
 use Rattle.provider_rows.specs.Stored.{put_row, drop_row, changed, changed_all}
 use Rattle.provider_rows.specs.Sound.{IsSound, IsGiven, MayPut, MayPutRequest, MayPutReference, MayDrop, MayChange, MayChangeAll, MayPutPush, MayPutCommand, with_rows}

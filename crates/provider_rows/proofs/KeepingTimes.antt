@@ -1,21 +1,17 @@
 -- Only requests that wait have resend times, and that stays so.
-use Rattle.std.proofs.Common.{◌≡◌, ◌≢◌, ◌⊎◌, inl, inr, ℕ, List, [], ◌∷◌, map, refl, sym, ap, subst, ◌∙◌}
-use Rattle.std.specs.Prelude.{Option, Some, None, IsTrue, Contains, is_some}
+use Rattle.std.proofs.Common.{◌≡◌, ◌≢◌, ◌⊎◌, inl, inr, ℕ, List, [], ◌∷◌, map, refl, sym, ap, subst, ◌∙◌, Option, Some}
+use Rattle.std.proofs.Common.{None, IsTrue, Contains, is_some}
 use Rattle.std.specs.Ordering.{nat_cmp}
 use Rattle.std.specs.Cmp.{nat_cmp_total}
 use Rattle.std.specs.FinMap.{nat_cmp-IsAntisymmetric, get, contains_key}
 use Rattle.tables.proofs.Elements.{in_none, in_front}
-use Rattle.ocpi_types.specs.declared.rows.Change.{Change}
-use Rattle.ocpi_types.specs.declared.rows.Row.TheVariants as row
-use Rattle.ocpi_types.specs.declared.rows.RowKey.{RowKey}
-use Rattle.ocpi_types.specs.declared.rows.RowKey.TheVariants as keys
-use Rattle.outbox.specs.Outbox.{Waits, request_of, without}
-use Rattle.outbox.specs.Resend.{Resend, due_again}
-use Rattle.outbox.specs.declared.push_book.Outgoing.{Outgoing}
+use Rattle.ocpi_types.specs.{Change, RowKey}
+use Rattle.ocpi_types.specs.row
+use Rattle.ocpi_types.specs.keys
+use Rattle.outbox.specs.{Outgoing, Waits, due_again, request_of, without}
+use Rattle.outbox.specs.Resend.{Resend}
 use Rattle.outbox.proofs.Timing.{put_or, stood, has_some, has_none}
-use Rattle.node_steps.specs.Drafts.{Step}
-use Rattle.node_steps.specs.declared.plan.Volatile.{Volatile}
-use Rattle.node_steps.specs.declared.plan.Volatile.TheVariants.{Sent}
+use Rattle.node_steps.specs.{Sent, Step, Volatile}
 use Rattle.provider_rows.specs.State.{ArePeers, Peering, State, opening}
 use Rattle.provider_rows.specs.Stored.{change_key, changed_all}
 use Rattle.provider_rows.specs.Sound.{IsConsistent}

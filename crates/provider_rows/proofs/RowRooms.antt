@@ -1,14 +1,12 @@
 -- The room that rows have, as room is taken for others.
-use Rattle.std.proofs.Common.{◌≡◌, ℕ, ◌+◌, ◌<◌, List, inl, inr, sym, ap, subst, ◌∙◌, arith}
-use Rattle.std.specs.Prelude.{Some, slice_get}
+use Rattle.std.proofs.Common.{◌≡◌, ℕ, ◌+◌, ◌<◌, List, inl, inr, sym, ap, subst, ◌∙◌, arith, Some, slice_get}
 use Rattle.std.proofs.lemmas.Bool.{cases_lt}
-use Rattle.ocpi_types.specs.declared.rows.Row.TheVariants as row
-use Rattle.ocpi_types.specs.declared.rows.Change.{Change}
-use Rattle.ocpi_types.specs.declared.rows.Change.TheVariants.{Put, Drop}
+use Rattle.ocpi_types.specs.row
+use Rattle.ocpi_types.specs.{Change, Drop, Put}
 use Rattle.command_book.specs.Room as replies
 use Rattle.token_desk.specs.Stored as desk
 use Rattle.outbox.specs.Outbox as outbox
-use Rattle.outbox.specs.Resend.{Moments}
+use Rattle.outbox.specs.{Moments}
 use Rattle.handover.specs.Inbox as inbox
 use Rattle.provider_rows.specs.Urls.{KeepsUrlRoom}
 use Rattle.provider_rows.specs.Stored.{Rooms, HasRoom, KeepsRoom}

@@ -1,23 +1,19 @@
 -- The room for the resend times of requests, as rows change and requests are sent.
-use Rattle.std.proofs.Common.{◌≡◌, ◌≢◌, ◌⊎◌, ◌+◌, ◌<◌, inl, inr, true, false, ℕ, List, [], ◌∷◌, ◌++◌, take, length, get_or, sym, ap, subst, ◌∙◌, add-one}
+use Rattle.std.proofs.Common.{◌≡◌, ◌≢◌, ◌⊎◌, ◌+◌, ◌<◌, inl, inr, true, false, ℕ, List, [], ◌∷◌, ◌++◌, take, length}
+use Rattle.std.proofs.Common.{get_or, sym, ap, subst, ◌∙◌, add-one, Option, Some, None, Result, Ok, Err, OnOk, IsOk}
+use Rattle.std.proofs.Common.{IsTrue, Contains}
 use Rattle.std.proofs.Math.Seq.{take-suc}
-use Rattle.std.specs.Prelude.{Option, Some, None, Result, Ok, Err, OnOk, IsOk, IsTrue, Contains}
 use Rattle.std.specs.Cmp.{nat_cmp_total}
 use Rattle.std.specs.FinMap.{nat_cmp-IsAntisymmetric, get, remove, contains_key}
 use Rattle.std.proofs.lemmas.List.Elements.{All-contains, Contains-append_right, Contains-push_cases}
 use Rattle.tables.proofs.Elements.{in_single, in_front, first_pairs, later_pairs}
 use Rattle.tables.proofs.Maps.{get-remove_same, get-remove_other, told, others_keep}
-use Rattle.ocpi_types.specs.Rows.{key_of}
-use Rattle.ocpi_types.specs.declared.rows.Row.{Row}
-use Rattle.ocpi_types.specs.declared.rows.RowKey.{RowKey}
-use Rattle.ocpi_types.specs.declared.rows.Change.{Change}
-use Rattle.ocpi_types.specs.declared.rows.Change.TheVariants.{Put, Drop}
-use Rattle.outbox.specs.Outbox.{HeldOutbox, OutboxRows, request_of, without, released_of, given_back_of}
-use Rattle.outbox.specs.Resend.{Resend, Moments, SendRooms, HasRoomUntil, KeepsSendRoom, due_again, unqueued, released, given_back}
+use Rattle.ocpi_types.specs.{Change, Drop, Put, Row, RowKey, key_of}
+use Rattle.outbox.specs.{HasRoomUntil, HeldOutbox, KeepsSendRoom, Moments, OutboxRows, SendRooms, due_again, given_back}
+use Rattle.outbox.specs.{given_back_of, released, released_of, request_of, unqueued, without}
+use Rattle.outbox.specs.Resend.{Resend}
 use Rattle.outbox.proofs.Timing.{queue_total, queue_exact, put_keeps}
-use Rattle.node_steps.specs.Drafts.{Step}
-use Rattle.node_steps.specs.declared.plan.Volatile.{Volatile}
-use Rattle.node_steps.specs.declared.plan.Volatile.TheVariants.{Sent}
+use Rattle.node_steps.specs.{Sent, Step, Volatile}
 use Rattle.provider_rows.specs.State.{State}
 use Rattle.provider_rows.specs.Stored.{Each, HasRoom, change_key}
 use Rattle.provider_rows.specs.Steps.{Node, HasRoomFor, KeepsTimeRoom, Outlasts, MayFollow, HasTimeRoom, HaveTimeRoom, AreSendable, number_of, time_taken, untimed}

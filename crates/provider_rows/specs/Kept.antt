@@ -3,9 +3,8 @@ use Rattle.std.specs.Prelude.{◌≡◌, ℕ}
 use Rattle.std.specs.FinMap.{empty}
 use Rattle.command_book.specs.Stored as answered
 use Rattle.token_desk.specs.Stored as desk
-use Rattle.outbox.specs.Outbox.{HeldOutbox}
-use Rattle.outbox.specs.Resend.{Moments}
-use Rattle.handover.specs.Inbox.{InboxRows}
+use Rattle.outbox.specs.{HeldOutbox, Moments}
+use Rattle.handover.specs.{InboxRows}
 use Rattle.provider_rows.specs.State.{Peering, State}
 use Rattle.provider_rows.specs.Sound.{IsSound}
 use Rattle.provider_rows.specs.Urls.{AreFound}

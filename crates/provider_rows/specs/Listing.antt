@@ -1,8 +1,7 @@
 -- The rows of a provider that are of none of its books.
 use Rattle.std.specs.Prelude.{ℕ, nat_eq, cond, List, [], ◌∷◌}
-use Rattle.ocpi_types.specs.declared.rows.Row.{Row}
-use Rattle.ocpi_types.specs.declared.rows.Row.TheVariants as row
-use Rattle.ocpi_types.specs.declared.rows.Counter.TheVariants.{Serial}
+use Rattle.ocpi_types.specs.{Row, Serial}
+use Rattle.ocpi_types.specs.row
 
 -- the counter of packets, where it has given a number
 abbrev pub serial_rows : ℕ → List Row

@@ -1,7 +1,7 @@
 -- The laws of a provider's rows.
 use Rattle.std.specs.Prelude.{List}
-use Rattle.ocpi_types.specs.declared.rows.Change.{Change}
-use Rattle.node_steps.specs.Drafts.{Step}
+use Rattle.ocpi_types.specs.{Change}
+use Rattle.node_steps.specs.{Step}
 use Rattle.provider_rows.specs.State.{ArePeers, Peering, State, opening}
 use Rattle.provider_rows.specs.Stored.{AreApart, changed_all}
 use Rattle.provider_rows.specs.Rows.{AreChanges}

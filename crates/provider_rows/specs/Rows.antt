@@ -2,18 +2,14 @@
 use Rattle.std.specs.Prelude.{◌≡◌, ◌≢◌, ◌↔◌, ◌⊎◌, ℕ, List, map, Some, Contains}
 use Rattle.std.specs.List.{AllPairs}
 use Rattle.std.specs.FinMap.{get}
-use Rattle.ocpi_types.specs.Rows.{key_of}
-use Rattle.ocpi_types.specs.declared.rows.Row.{Row}
-use Rattle.ocpi_types.specs.declared.rows.Row.TheVariants as row
-use Rattle.ocpi_types.specs.declared.rows.Change.{Change}
-use Rattle.ocpi_types.specs.declared.rows.Change.TheVariants.{Put}
-use Rattle.ocpi_types.specs.declared.rows.Counter.{Counter}
-use Rattle.ocpi_types.specs.declared.rows.Counter.TheVariants.{Serial, Request, Session, Cdr, Reference}
+use Rattle.ocpi_types.specs.{Change, Counter, Put, Reference, Request, Row, Serial, key_of}
+use Rattle.ocpi_types.specs.row
+use Rattle.ocpi_types.specs.declared.rows.Counter.TheVariants.{Session, Cdr}
 use Rattle.token_desk.specs.Stored as desk
 use Rattle.token_desk.specs.Tokens as tokens
 use Rattle.outbox.specs.Outbox as outbox
 use Rattle.handover.specs.Inbox as inbox
-use Rattle.handover.specs.InboxListing.{AreOwnRows}
+use Rattle.handover.specs.{AreOwnRows}
 use Rattle.provider_rows.specs.State.{Rows}
 use Rattle.provider_rows.specs.Stored.{change_key}
 

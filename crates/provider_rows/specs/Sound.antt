@@ -2,25 +2,15 @@
 -- made of them; and which changes of rows keep it.
 use Rattle.std.specs.Prelude.{◌≡◌, ◌≢◌, ◌≤◌, ℕ, List, [], ◌∷◌, Some, None, ⊤}
 use Rattle.std.specs.FinMap.{get}
-use Rattle.ocpi_text.specs.Text.{key}
-use Rattle.ocpi_text.specs.Whole.{max_whole}
-use Rattle.ocpi_text.specs.OwnIds.{own_id_text}
-use Rattle.ocpi_text.specs.declared.own_ids.OwnIdKind.TheVariants.{AuthorizationReference}
-use Rattle.ocpi_types.specs.declared.rows.Row.{Row}
-use Rattle.ocpi_types.specs.declared.rows.Row.TheVariants as row
-use Rattle.ocpi_types.specs.declared.rows.RowKey.{RowKey}
-use Rattle.ocpi_types.specs.declared.rows.RowKey.TheVariants as keys
-use Rattle.ocpi_types.specs.declared.rows.Change.{Change}
-use Rattle.ocpi_types.specs.declared.rows.Change.TheVariants.{Put, Drop}
-use Rattle.ocpi_types.specs.declared.rows.Counter.{Counter}
-use Rattle.ocpi_types.specs.declared.rows.Counter.TheVariants.{Serial, Request, Session, Cdr, Reference}
-use Rattle.ocpi_types.specs.declared.commands.Command.{Command}
-use Rattle.ocpi_types.specs.declared.stored.Push.{Push}
-use Rattle.ocpi_types.specs.declared.stored.SentCommand.{SentCommand}
+use Rattle.ocpi_text.specs.{AuthorizationReference, key, max_whole, own_id_text}
+use Rattle.ocpi_types.specs.{Change, Command, Counter, Drop, Push, Put, Reference, Request, Row, RowKey, SentCommand}
+use Rattle.ocpi_types.specs.{Serial}
+use Rattle.ocpi_types.specs.row
+use Rattle.ocpi_types.specs.keys
+use Rattle.ocpi_types.specs.declared.rows.Counter.TheVariants.{Session, Cdr}
 use Rattle.outbox.specs.Outbox as outbox
-use Rattle.outbox.specs.Pushes.{subject}
-use Rattle.outbox.specs.declared.push_book.Outgoing.{Outgoing}
-use Rattle.node_steps.specs.Peers.{HasPeer}
+use Rattle.outbox.specs.{Outgoing, subject}
+use Rattle.node_steps.specs.{HasPeer}
 use Rattle.provider_rows.specs.State.{ArePeers, State, Rows, reference_of, url_of}
 use Rattle.provider_rows.specs.Stored.{changed}
 

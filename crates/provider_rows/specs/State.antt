@@ -1,11 +1,9 @@
 -- What a provider stores. Keys are in the form by which texts are compared.
 use Rattle.std.specs.Prelude.{◌≡◌, ◌≤◌, ℕ, List, [], ◌∷◌, Option, None, Ok, length, map}
 use Rattle.std.specs.FinMap.{empty}
-use Rattle.ocpi_text.specs.Text.{key}
-use Rattle.ocpi_text.specs.Party.{party_at}
-use Rattle.ocpi_types.specs.Apart.{DifferFrom}
-use Rattle.ocpi_types.specs.declared.commands.Command.{Command}
-use Rattle.ocpi_types.specs.declared.commands.Command.TheVariants as command
+use Rattle.ocpi_text.specs.{key, party_at}
+use Rattle.ocpi_types.specs.{Command, DifferFrom}
+use Rattle.ocpi_types.specs.command
 use Rattle.command_book.specs.Stored.{Replies}
 use Rattle.token_desk.specs.Stored as desk
 use Rattle.outbox.specs.Outbox as outbox

@@ -2,13 +2,10 @@
 use Rattle.std.specs.Prelude.{◌≡◌, ◌≢◌, ◌⊎◌, ℕ, List, Some, None, Contains}
 use Rattle.std.specs.List.{AllPairs}
 use Rattle.std.specs.FinMap.{get, empty}
-use Rattle.ocpi_types.specs.declared.rows.Change.{Change}
-use Rattle.ocpi_types.specs.declared.rows.Change.TheVariants.{Drop}
-use Rattle.ocpi_types.specs.declared.rows.RowKey.{RowKey}
-use Rattle.outbox.specs.Outbox.{OutboxRows, Waits, request_of}
-use Rattle.outbox.specs.Resend.{Resend, SendRooms, HasRoomUntil}
-use Rattle.node_steps.specs.Drafts.{Step}
-use Rattle.node_steps.specs.declared.plan.Volatile.{Volatile}
+use Rattle.ocpi_types.specs.{Change, Drop, RowKey}
+use Rattle.outbox.specs.{HasRoomUntil, OutboxRows, SendRooms, Waits, request_of}
+use Rattle.outbox.specs.Resend.{Resend}
+use Rattle.node_steps.specs.{Step, Volatile}
 pub use Rattle.node_steps.specs.Timing.{HasTimeRoom, HaveTimeRoom, number_of, time_taken, timed, timed_all, untimed, untimed_all}
 use Rattle.provider_rows.specs.State.{State}
 use Rattle.provider_rows.specs.Stored.{AreApart, Each, HasRoom, Rooms, changed, changed_all, change_key}

@@ -1,19 +1,14 @@
 -- What changes of rows make of what a provider stores, and the room that they need.
 use Rattle.std.specs.Prelude.{◌≢◌, ℕ, List, [], ◌∷◌, IsTrue, ⊤}
 use Rattle.std.specs.FinMap.{insert, remove, contains_key}
-use Rattle.ocpi_types.specs.declared.rows.Row.{Row}
-use Rattle.ocpi_types.specs.declared.rows.Row.TheVariants as row
-use Rattle.ocpi_types.specs.declared.rows.RowKey.{RowKey}
-use Rattle.ocpi_types.specs.declared.rows.RowKey.TheVariants as keys
-use Rattle.ocpi_types.specs.declared.rows.Change.{Change}
-use Rattle.ocpi_types.specs.declared.rows.Change.TheVariants.{Put, Drop}
-use Rattle.ocpi_types.specs.declared.rows.Counter.{Counter}
-use Rattle.ocpi_types.specs.declared.rows.Counter.TheVariants as counter
-use Rattle.ocpi_types.specs.declared.stored.SentCommand.{SentCommand}
+use Rattle.ocpi_types.specs.{Change, Counter, Drop, Put, Row, RowKey, SentCommand}
+use Rattle.ocpi_types.specs.row
+use Rattle.ocpi_types.specs.keys
+use Rattle.ocpi_types.specs.counter
 use Rattle.command_book.specs.Room as replies
 use Rattle.token_desk.specs.Stored as desk
 use Rattle.outbox.specs.Outbox as outbox
-use Rattle.outbox.specs.Resend.{Moments}
+use Rattle.outbox.specs.{Moments}
 use Rattle.handover.specs.Inbox as inbox
 pub use Rattle.node_steps.specs.Changes.{AreApart, Each, change_key}
 use Rattle.provider_rows.specs.State.{Rows}

@@ -1,11 +1,11 @@
 -- How the command is found whose result is posted to a url (OCPI 2.2.1, Commands: response_url).
 use Rattle.std.specs.Prelude.{◌≡◌, ℕ, ◌+◌, ◌*◌, ◌%◌, List, [], ◌∷◌, Some, IsTrue}
 use Rattle.std.specs.FinMap.{get, contains_key}
-use Rattle.ocpi_text.specs.Text.{key}
-use Rattle.ocpi_types.specs.declared.stored.SentCommand.{SentCommand}
+use Rattle.ocpi_text.specs.{key}
+use Rattle.ocpi_types.specs.{SentCommand}
 use Rattle.tables.specs.Indexes.{Indexes}
 use Rattle.outbox.specs.Commands.{Commands}
-use Rattle.outbox.specs.Resend.{Moments, queue_number}
+use Rattle.outbox.specs.{Moments, queue_number}
 use Rattle.provider_rows.specs.State.{url_of}
 
 -- the result of the command of that number is posted to that url, by that party

@@ -1,7 +1,7 @@
 //! Rows that were stored before, put back one by one.
 
 ghost use Rattle.std.specs.Prelude.{◌≡◌, IfOk, OnErr, OnOk};
-ghost use Rattle.ocpi_types.specs.declared.rows.Change.TheVariants as change;
+ghost use Rattle.ocpi_types.specs.change;
 ghost use Rattle.provider_rows.specs.Rows.{AreKeyed};
 ghost use Rattle.provider_rows.specs.Sound.{MayPut, with_rows};
 ghost use Rattle.provider_rows.specs.State.{opening};

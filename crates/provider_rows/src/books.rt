@@ -2,7 +2,7 @@
 
 ghost use Rattle.std.specs.Prelude.{◌≡◌, ◌≤◌, option_copied};
 ghost use Rattle.std.specs.FinMap as map;
-ghost use Rattle.ocpi_text.specs.Whole.{max_whole};
+ghost use Rattle.ocpi_text.specs.{max_whole};
 ghost use Rattle.provider_rows.specs.Sound.{IsConsistent};
 ghost use Rattle.provider_rows.specs.State.{opening};
 
@@ -40,8 +40,8 @@ pub struct Books {
 impl Model for Books {
     ghost use Rattle.std.specs.FinMap as map;
     ghost use Rattle.std.specs.Coded.{codes};
-    ghost use Rattle.tables.specs.Tables.{shown_of, rooms_of};
-    ghost use Rattle.outbox.specs.Resend.{moment_number_cmp};
+    ghost use Rattle.tables.specs.{rooms_of, shown_of};
+    ghost use Rattle.outbox.specs.{moment_number_cmp};
     ghost use Rattle.provider_rows.specs.Kept.{AreKept, state_of};
     ghost use Rattle.provider_rows.specs.Steps.{Node};
 

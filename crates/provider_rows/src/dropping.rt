@@ -1,9 +1,9 @@
 //! Rows that are dropped.
 
 ghost use Rattle.std.specs.Prelude.{◌≡◌, Some};
-ghost use Rattle.ocpi_types.specs.declared.rows.Change.TheVariants as change;
-ghost use Rattle.ocpi_types.specs.declared.rows.RowKey.TheVariants as keys;
-ghost use Rattle.outbox.specs.Outbox.{given_back_of, request_of};
+ghost use Rattle.ocpi_types.specs.change;
+ghost use Rattle.ocpi_types.specs.keys;
+ghost use Rattle.outbox.specs.{given_back_of, request_of};
 ghost use Rattle.provider_rows.specs.Sound.{MayDrop};
 ghost use Rattle.provider_rows.specs.Steps.{after_change};
 ghost use Rattle.provider_rows.specs.Stored.{KeepsOtherRoom};

@@ -2,9 +2,9 @@
 
 ghost use Rattle.std.specs.Prelude.{◌≡◌, OnOk, IsOk, IsTrue};
 ghost use Rattle.std.specs.FinMap as map;
-ghost use Rattle.tables.specs.Tables.{shown_of, rooms_of};
-ghost use Rattle.node_steps.specs.Drafts.{step_of};
-ghost use Rattle.outbox.specs.Resend.{KeepsSendRoom, moment_number_cmp};
+ghost use Rattle.tables.specs.{rooms_of, shown_of};
+ghost use Rattle.node_steps.specs.{step_of};
+ghost use Rattle.outbox.specs.{KeepsSendRoom, moment_number_cmp};
 ghost use Rattle.provider_rows.specs.Steps.{HasRoomFor, HasTimeRoom, HaveTimeRoom};
 ghost use Rattle.provider_rows.specs.Stored.{Each, HasRoom, HasRoomOf, KeepsRoom};
 ghost use Rattle.provider_rows.specs.Urls.{KeepsUrlRoom, url_entry};

@@ -1,11 +1,11 @@
 //! Rows that are put.
 
 ghost use Rattle.std.specs.Prelude.{◌≡◌, Some};
-ghost use Rattle.ocpi_types.specs.Rows.{key_of};
-ghost use Rattle.ocpi_types.specs.declared.rows.Change.TheVariants as change;
-ghost use Rattle.ocpi_types.specs.declared.rows.Row.TheVariants as row;
-ghost use Rattle.ocpi_types.specs.declared.rows.RowKey.TheVariants as keys;
-ghost use Rattle.outbox.specs.Outbox.{released_of, request_of};
+ghost use Rattle.ocpi_types.specs.{key_of};
+ghost use Rattle.ocpi_types.specs.change;
+ghost use Rattle.ocpi_types.specs.row;
+ghost use Rattle.ocpi_types.specs.keys;
+ghost use Rattle.outbox.specs.{released_of, request_of};
 ghost use Rattle.provider_rows.specs.Sound.{MayPut};
 ghost use Rattle.provider_rows.specs.Steps.{after_change};
 ghost use Rattle.provider_rows.specs.Stored.{HasRoomOf, KeepsOtherRoom};

@@ -1,8 +1,8 @@
 //! Steps that are carried out.
 
 ghost use Rattle.std.specs.Prelude.{◌≡◌, ◌∷◌, []};
-ghost use Rattle.outbox.specs.Outbox.{Waits};
-ghost use Rattle.node_steps.specs.Drafts.{step_of};
+ghost use Rattle.outbox.specs.{Waits};
+ghost use Rattle.node_steps.specs.{step_of};
 ghost use Rattle.provider_rows.specs.Sound.{MayChange, MayChangeAll};
 ghost use Rattle.provider_rows.specs.Steps.{
   AreSendable,

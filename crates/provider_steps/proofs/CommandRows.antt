@@ -2,16 +2,12 @@
 use Rattle.std.proofs.Common.{◌≡◌, ◌≤◌, ◌+◌, ℕ, List, Option, Some, None, is_some, sym, ap, ◌∙◌, arith}
 use Rattle.std.specs.FinMap.{get}
 use Rattle.tables.proofs.Options.{none_of}
-use Rattle.ocpi_text.specs.Text.{key}
-use Rattle.ocpi_types.specs.declared.replies.CommandResponse.{CommandResponse}
-use Rattle.ocpi_types.specs.declared.commands.Command.{Command}
-use Rattle.ocpi_types.specs.declared.stored.SentCommand.{SentCommand}
-use Rattle.ocpi_types.specs.declared.words.CommandResultType.{CommandResultType}
+use Rattle.ocpi_text.specs.{key}
+use Rattle.ocpi_types.specs.{Command, CommandResponse, CommandResultType, SentCommand}
 use Rattle.command_book.specs.Stored.{Replies}
-use Rattle.node_steps.specs.Acts.{unanswered}
-use Rattle.node_steps.specs.Peers.{HasPeer}
-use Rattle.provider_rows.specs.State.{State, url_of}
-use Rattle.provider_rows.specs.Sound.{IsGiven, IsSound, MayPutCommand, with_rows}
+use Rattle.node_steps.specs.{HasPeer, unanswered}
+use Rattle.provider_rows.specs.{IsGiven, IsSound, MayPutCommand, url_of, with_rows}
+use Rattle.provider_rows.specs.State.{State}
 
 -- no push has the number of a command that stands
 pub push_apart : (s : State) → IsSound s → (n : ℕ) (c : SentCommand) → get s.rows.outbox.commands n ≡ Some c → get s.rows.outbox.pushes n ≡ None

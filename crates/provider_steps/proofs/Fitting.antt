@@ -2,16 +2,12 @@
 use Rattle.std.proofs.Common.{◌≡◌, ◌≢◌, ◌≤◌, ℕ, true, false, cond, nat_eq, List, [], ◌∷◌, ◌++◌, refl, sym, ap, subst, ◌∙◌, arith}
 use Rattle.std.proofs.lemmas.Bool.{eqb-true, eqb-false}
 use Rattle.std.specs.Prelude.{⊤}
-use Rattle.ocpi_types.specs.declared.rows.Change.{Change}
-use Rattle.ocpi_types.specs.declared.rows.Change.TheVariants.{Put}
-use Rattle.ocpi_types.specs.declared.rows.Row.TheVariants as row
-use Rattle.ocpi_types.specs.declared.rows.Counter.TheVariants.{Serial, Request}
-use Rattle.outbox.specs.Outbox.{AreUpTo}
-use Rattle.node_steps.specs.Acts.{Act, all_changes}
-use Rattle.node_steps.specs.Drafts.{Counters, count_change, count_changes, counted}
+use Rattle.ocpi_types.specs.{Change, Put, Request, Serial}
+use Rattle.ocpi_types.specs.row
+use Rattle.outbox.specs.{AreUpTo}
+use Rattle.node_steps.specs.{Act, Counters, all_changes, count_change, count_changes, counted}
 use Rattle.provider_rows.specs.State.{State, Rows}
-use Rattle.provider_rows.specs.Stored.{changed_all}
-use Rattle.provider_rows.specs.Sound.{IsSound, MayChangeAll, with_rows}
+use Rattle.provider_rows.specs.{IsSound, MayChangeAll, changed_all, with_rows}
 use Rattle.provider_steps.specs.Moves.{counters_of, step_of_acts}
 
 -- the rows allow the changes of the act
@@ -43,15 +39,6 @@ numbered_for acts s = with_counters (counted (counters_of s) acts) s
 pub changed_append : (xs ys : List Change) (s : Rows) → changed_all (xs ++ ys) s ≡ changed_all ys (changed_all xs s)
 changed_append [] ys s = refl
 changed_append (x ∷ xs) ys s = changed_append xs ys _
-
-pub left_append : (acts rest : List Act) (s : State) → left_by (acts ++ rest) s ≡ left_by rest (left_by acts s)
-left_append [] rest s = refl
-left_append (a ∷ acts) rest s = left_append acts rest (left_by_act a s)
-
--- what acts leave is what their changes make of the rows
-pub left_is : (acts : List Act) (s : State) → left_by acts s ≡ with_rows (changed_all (all_changes acts) s.rows) s
-left_is [] s = refl
-left_is (a ∷ acts) s = left_is acts (left_by_act a s) ∙ ap (λ r. with_rows r s) (sym (changed_append a.changes (all_changes acts) s.rows))
 
 pub may_append : (xs ys : List Change) (s : State) → MayChangeAll s xs → MayChangeAll (with_rows (changed_all xs s.rows) s) ys → MayChangeAll s (xs ++ ys)
 may_append [] ys s h g = g
@@ -116,10 +103,3 @@ pub fit_step : (acts : List Act) (s : State) → IsSound s → AreFit (numbered_
 fit_step acts s sound h =
     may_append (count_changes (counters_of s) (counted (counters_of s) acts)) (all_changes acts) s (may_count (counted (counters_of s) acts) s sound (omega arith) (omega arith))
     (subst (λ r. MayChangeAll (with_rows r s) (all_changes acts)) (sym (counters_first (counted (counters_of s) acts) s)) (fit_changes acts (numbered_for acts s) h))
-
--- the rows after a step of acts are those that the acts leave
-pub rows_after : (acts : List Act) (s : State) → changed_all (step_of_acts s acts).changes s.rows ≡ changed_all (all_changes acts) (numbered_for acts s).rows
-rows_after acts s = changed_append (count_changes (counters_of s) (counted (counters_of s) acts)) (all_changes acts) s.rows ∙ ap (changed_all (all_changes acts)) (counters_first (counted (counters_of s) acts) s)
-
-pub fit_none : (s : State) (acts : List Act) → AreFit s acts → AreFit s (acts ++ [])
-fit_none s acts h = fit_append acts [] s h tt

@@ -1,6 +1,5 @@
 pub mod Orderly
 pub mod Fitting
-pub mod Counts
 pub mod Sending
 pub mod Planning
 pub mod OwnReferences

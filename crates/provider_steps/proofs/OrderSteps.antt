@@ -1,25 +1,14 @@
 -- An order is submitted: the acts may be carried out, and how many numbers they take.
 use Rattle.std.proofs.Common.{◌≡◌, ◌≤◌, ◌++◌, ℕ, List, [], ◌∷◌, length, inl, inr, refl, sym, ap, subst, ◌∙◌, arith}
-use Rattle.std.specs.Prelude.{Some, None, Contains}
+use Rattle.std.proofs.Common.{Some, None, Contains}
 use Rattle.tables.proofs.Elements.{in_none, in_front}
 use Rattle.tables.proofs.Options.{none_some}
-use Rattle.ocpi_text.specs.OwnIds.{own_id_text}
-use Rattle.ocpi_text.specs.declared.own_ids.OwnIdKind.TheVariants.{AuthorizationReference}
-use Rattle.ocpi_text.specs.Text.{key}
-use Rattle.ocpi_text.specs.Whole.{max_whole}
-use Rattle.ocpi_types.specs.declared.events.Order.{Order}
-use Rattle.ocpi_types.specs.declared.rows.Change.{Change}
-use Rattle.ocpi_types.specs.declared.rows.Change.TheVariants.{Put, Drop}
-use Rattle.ocpi_types.specs.declared.rows.Counter.TheVariants.{Reference}
-use Rattle.ocpi_types.specs.declared.rows.Row.{Row}
-use Rattle.ocpi_types.specs.declared.rows.Row.TheVariants as row
-use Rattle.ocpi_types.specs.declared.commands.Command.{Command}
-use Rattle.node_steps.specs.declared.plan.Volatile.TheVariants.{Sent}
-use Rattle.node_steps.specs.Acts.{Act, all_changes, all_messages, all_requests, commanded, unanswered}
-use Rattle.node_steps.specs.Peers.{HasPeer}
-use Rattle.provider_rows.specs.State.{State, reference_of}
-use Rattle.provider_rows.specs.Sound.{IsConsistent, IsGiven}
-use Rattle.provider_rows.specs.Steps.{IsUndropped}
+use Rattle.ocpi_text.specs.{AuthorizationReference, key, max_whole, own_id_text}
+use Rattle.ocpi_types.specs.{Change, Command, Drop, Order, Put, Reference, Row}
+use Rattle.ocpi_types.specs.row
+use Rattle.node_steps.specs.{Act, HasPeer, Sent, all_changes, all_messages, commanded, unanswered}
+use Rattle.provider_rows.specs.{IsConsistent, IsGiven, IsUndropped, reference_of}
+use Rattle.provider_rows.specs.State.{State}
 use Rattle.provider_steps.specs.Acts.{referenced}
 use Rattle.provider_steps.specs.Facts.{OrdersMayFollow}
 use Rattle.provider_steps.specs.Moves.{AreInRange}
@@ -106,18 +95,8 @@ made_sends s at to order c before (Stop id) = refl
 made_sends s at to order c before (Cancel id) = refl
 made_sends s at to order c before (Unlock location evse connector) = refl
 
-made_asks : (s : State) (at : ℕ) (to : List ℕ) (order : Order) (c : Command) (before : List Act) → Makes s order c before → all_requests (before ++ (commanded at (next_request s) to c ∷ [])) ≡ 1
-made_asks s at to order c before (Start uid type location evse connector t own) = refl
-made_asks s at to order c before (Reserve uid type expiry id location evse t own) = refl
-made_asks s at to order c before (Stop id) = refl
-made_asks s at to order c before (Cancel id) = refl
-made_asks s at to order c before (Unlock location evse connector) = refl
-
 pub order_sends : (s : State) (at : ℕ) (operator : List ℕ) (order : Order) (acts : List Act) → OrderLine s at operator order acts → length (all_messages acts) ≡ 1
 order_sends s at operator order acts line = ap (λ l. length (all_messages l)) line.acts_are ∙ made_sends s at line.to order line.command line.before line.makes
-
-pub order_asks : (s : State) (at : ℕ) (operator : List ℕ) (order : Order) (acts : List Act) → OrderLine s at operator order acts → all_requests acts ≡ 1
-order_asks s at operator order acts line = ap all_requests line.acts_are ∙ made_asks s at line.to order line.command line.before line.makes
 
 pub order_planned : (s : State) → IsConsistent s → (at : ℕ) (operator : List ℕ) (order : Order) (acts : List Act) → OrderLine s at operator order acts → AreInRange s acts → ArePlanned s acts
 order_planned s fine at operator order acts line range =

@@ -6,11 +6,7 @@ use Rattle.std.proofs.lemmas.Bool.{cond_both}
 use Rattle.std.proofs.lemmas.Bool.Decides.{nat_tests}
 use Rattle.uuid.specs.Text.{lower, by_index, digit_place, hex_digit, hyphen, hyphenated_text, is_hyphen_place, nibble}
 use Rattle.uuid.proofs.TextLemmas.{nibble_small}
-use Rattle.ocpi_text.specs.declared.own_ids.OwnIdKind.TheVariants.{AuthorizationReference}
-use Rattle.ocpi_text.specs.OwnIds.{own_id_bytes, own_id_text}
-use Rattle.ocpi_text.specs.Party.{party_at}
-use Rattle.ocpi_text.specs.Text.{key}
-use Rattle.ocpi_text.specs.Whole.{max_whole}
+use Rattle.ocpi_text.specs.{AuthorizationReference, key, max_whole, own_id_bytes, own_id_text, party_at}
 use Rattle.ocpi_text.proofs.OwnIds.{own_ids_are_apart}
 
 -- a text of small letters is read back from its key

@@ -1,21 +1,13 @@
 -- A packet comes: the acts may be carried out, and how many numbers they take.
-use Rattle.std.proofs.Common.{◌≡◌, ◌≤◌, ℕ, List, [], ◌∷◌, length, refl, sym, ap, subst, ◌∙◌, arith}
-use Rattle.std.specs.Prelude.{Some, is_some}
+use Rattle.std.proofs.Common.{◌≡◌, ℕ, List, [], ◌∷◌, refl, sym, ap, subst, arith, Some, is_some}
 use Rattle.std.specs.FinMap.{get}
 use Rattle.tables.proofs.Options.{none_of}
-use Rattle.ocpi_text.specs.Text.{key}
-use Rattle.ocpi_types.specs.declared.packet.Packet.{Packet}
-use Rattle.ocpi_types.specs.declared.cdrs.Cdr.{Cdr}
-use Rattle.ocpi_types.specs.declared.replies.CommandResponse.{CommandResponse}
-use Rattle.ocpi_types.specs.declared.sessions.Session.{Session}
-use Rattle.ocpi_types.specs.declared.stored.Reply.{Reply}
-use Rattle.ocpi_types.specs.declared.stored.SentCommand.{SentCommand}
-use Rattle.ocpi_types.specs.declared.words.CommandResultType.{CommandResultType}
-use Rattle.ocpi_types.specs.declared.rows.Change.{Change}
-use Rattle.outbox.specs.Outbox.{IsTo}
-use Rattle.node_steps.specs.Acts.{Act, acknowledged, all_changes, all_messages, all_requests, answered, changed, repeated}
+use Rattle.ocpi_text.specs.{key}
+use Rattle.ocpi_types.specs.{Cdr, CommandResponse, CommandResultType, Packet, Reply, SentCommand, Session}
+use Rattle.outbox.specs.{IsTo}
+use Rattle.node_steps.specs.{Act, acknowledged, all_changes, answered, repeated}
 use Rattle.provider_rows.specs.State.{State}
-use Rattle.provider_rows.specs.Sound.{IsConsistent, IsSound}
+use Rattle.provider_rows.specs.{IsConsistent, IsSound}
 use Rattle.provider_steps.specs.Acts.{billed, held, kept, referenced, with_answer, with_result}
 use Rattle.provider_steps.specs.Facts.{PacketsMayFollow}
 use Rattle.provider_steps.specs.Orders.{next_reference}
@@ -101,57 +93,6 @@ line_planned s at q to acts sound (Responded r carries c awaited is) = subst (Ar
 line_planned s at q to acts sound (LateResponse r carries none is) = subst (ArePlanned s) (sym is) (planned_none s)
 line_planned s at q to acts sound (Acknowledged a carries ends is) = subst (ArePlanned s) (sym is) (acknowledged_planned s sound q.from q.request ends.1)
 line_planned s at q to acts sound (Idle a carries ends is) = subst (ArePlanned s) (sym is) (planned_none s)
-
--- what an answer does beside the reply sends nothing, and makes no request
-own_same : {X : Type 0} (f : List Act → X) (own is : List Act) (x : X) → own ≡ is → f is ≡ x → f own ≡ x
-own_same f own is x same h = ap f same ∙ h
-
-module _ (s : State) (at : ℕ) (q : Packet) (reply : Reply) where
-  module _ {X : Type 0} (f : List Act → X) (x : X) (none : f [] ≡ x) (one : (c : Change) → f (changed c ∷ []) ≡ x) where
-    own_all : (own : List Act) → Answers s at q reply own → f own ≡ x
-    own_all own (ResultTaken r carries m c fits new told is) = own_same f own _ x is (one _)
-    own_all own (ResultKnown r carries m c fits y has told is) = own_same f own _ x is none
-    own_all own (ResultOfNone r carries never told is) = own_same f own _ x is none
-    own_all own (SessionRefused y carries wrong told is) = own_same f own _ x is none
-    own_all own (SessionTaken y carries right news told is) = own_same f own _ x is (one _)
-    own_all own (SessionKept y carries right old told is) = own_same f own _ x is none
-    own_all own (CdrRefused y carries wrong told is) = own_same f own _ x is none
-    own_all own (CdrInConflict y carries right conflict told is) = own_same f own _ x is none
-    own_all own (CdrKept y carries right apart has told is) = own_same f own _ x is none
-    own_all own (CdrTaken y carries right apart new told is) = own_same f own _ x is (one _)
-    own_all own (Unknown a carries never told is) = own_same f own _ x is none
-    own_all own (Allowed a carries t has valid told is) = own_same f own _ x is (one _)
-    own_all own (Blocked a carries t has blocked told is) = own_same f own _ x is none
-
-  pub own_silent : (own : List Act) → Answers s at q reply own → all_messages own ≡ []
-  own_silent = own_all all_messages [] refl (λ c. refl)
-
-  pub own_unasked : (own : List Act) → Answers s at q reply own → all_requests own ≡ 0
-  own_unasked = own_all all_requests 0 refl (λ c. refl)
-
--- a packet makes a provider send one packet or none, and make no request
-sends_of : {m : ℕ} (acts is : List Act) → acts ≡ is → length (all_messages is) ≤ m → length (all_messages acts) ≤ m
-sends_of {m = m} acts is same h = subst (λ l. length (all_messages l) ≤ m) (sym same) h
-
-pub line_sends : (s : State) (at : ℕ) (q : Packet) (to : List ℕ) (acts : List Act) → PacketLine s at q to acts → length (all_messages acts) ≤ 1
-line_sends s at q to acts (Again asks r has is) = sends_of acts _ is (omega arith)
-line_sends s at q to acts (Answered new reply own answers is) =
-    let none = ap length (own_silent s at q reply own answers) in
-    sends_of acts _ is (omega (arith, none))
-line_sends s at q to acts (Responded r carries c awaited is) = sends_of acts _ is (omega arith)
-line_sends s at q to acts (LateResponse r carries none is) = sends_of acts _ is (omega arith)
-line_sends s at q to acts (Acknowledged a carries ends is) = sends_of acts _ is (omega arith)
-line_sends s at q to acts (Idle a carries ends is) = sends_of acts _ is (omega arith)
-
-pub line_asks : (s : State) (at : ℕ) (q : Packet) (to : List ℕ) (acts : List Act) → PacketLine s at q to acts → all_requests acts ≡ 0
-line_asks s at q to acts (Again asks r has is) = ap all_requests is
-line_asks s at q to acts (Answered new reply own answers is) =
-    let none = own_unasked s at q reply own answers in
-    ap all_requests is ∙ omega (arith, none)
-line_asks s at q to acts (Responded r carries c awaited is) = ap all_requests is
-line_asks s at q to acts (LateResponse r carries none is) = ap all_requests is
-line_asks s at q to acts (Acknowledged a carries ends is) = ap all_requests is
-line_asks s at q to acts (Idle a carries ends is) = ap all_requests is
 
 pub packet_planned : (s : State) → IsConsistent s → (at : ℕ) (q : Packet) (acts : List Act) → Comes s at q acts → ArePlanned s acts
 packet_planned s h at q acts comes = line_planned s at q comes.operator acts h.sound comes.line

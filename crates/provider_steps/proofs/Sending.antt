@@ -1,6 +1,6 @@
 -- What acts send until it is answered: each is sent once, and waits after the step.
 use Rattle.std.proofs.Common.{◌≡◌, ◌≢◌, ◌⊎◌, ◌<◌, ℕ, List, [], ◌∷◌, ◌++◌, inl, inr, refl, sym, ap, subst, ◌∙◌, arith}
-use Rattle.std.specs.Prelude.{Some, None, Contains, is_some}
+use Rattle.std.proofs.Common.{Some, None, Contains, is_some}
 use Rattle.std.specs.List.{AllPairs}
 use Rattle.std.specs.Cmp.{nat_cmp_total}
 use Rattle.std.specs.FinMap.{get, nat_cmp-IsAntisymmetric}
@@ -8,22 +8,16 @@ use Rattle.std.proofs.lemmas.List.Elements.{Contains-append_left, Contains-appen
 use Rattle.tables.proofs.Elements.{in_none, in_front, in_single, no_pairs, joined}
 use Rattle.tables.proofs.Options.{known}
 use Rattle.tables.proofs.Maps.{get-insert_same, get-insert_other, get-remove_other}
-use Rattle.ocpi_types.specs.declared.rows.Change.{Change}
-use Rattle.ocpi_types.specs.declared.rows.Change.TheVariants.{Put, Drop}
-use Rattle.ocpi_types.specs.declared.rows.Row.TheVariants as row
-use Rattle.ocpi_types.specs.declared.rows.RowKey.TheVariants as keys
-use Rattle.ocpi_types.specs.declared.rows.Counter.TheVariants as counter
-use Rattle.ocpi_types.specs.declared.commands.Command.{Command}
-use Rattle.ocpi_types.specs.declared.stored.Push.{Push}
-use Rattle.ocpi_types.specs.declared.stored.SentCommand.{SentCommand}
-use Rattle.outbox.specs.Outbox.{Waits, request_of}
-use Rattle.node_steps.specs.declared.plan.Volatile.{Volatile}
-use Rattle.node_steps.specs.Acts.{Act, all_changes, all_volatile, unanswered}
+use Rattle.ocpi_types.specs.{Change, Command, Drop, Push, Put, SentCommand}
+use Rattle.ocpi_types.specs.row
+use Rattle.ocpi_types.specs.keys
+use Rattle.ocpi_types.specs.counter
+use Rattle.outbox.specs.{Waits, request_of}
+use Rattle.node_steps.specs.{Act, Volatile, all_changes, all_volatile, unanswered}
 use Rattle.node_steps.proofs.Gathering.{changes_append, volatile_append}
 use Rattle.provider_rows.specs.State.{State, Rows}
-use Rattle.provider_rows.specs.Stored.{AreApart, changed, changed_all, change_key}
-use Rattle.provider_rows.specs.Sound.{IsConsistent}
-use Rattle.provider_rows.specs.Steps.{IsUndropped, MaySend, number_of}
+use Rattle.provider_rows.specs.{AreApart, IsConsistent, IsUndropped, MaySend, change_key, changed, changed_all}
+use Rattle.provider_rows.specs.{number_of}
 use Rattle.provider_steps.proofs.Orderly.{of_cons, in_later, each_in}
 
 -- no change is of the request of that number

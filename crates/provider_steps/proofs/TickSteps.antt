@@ -1,21 +1,17 @@
 -- Requests that are due are sent again: the acts may be carried out, and how many numbers they take.
-use Rattle.std.proofs.Common.{◌≡◌, ◌≢◌, ◌<◌, ◌++◌, ℕ, suc, List, [], ◌∷◌, length, inl, inr, refl, sym, ap, subst, ◌∙◌, arith}
-use Rattle.std.specs.Prelude.{Option, Some, None, Contains, IsTrue, is_some, true, false}
+use Rattle.std.proofs.Common.{◌≡◌, ◌≢◌, ◌<◌, ◌++◌, ℕ, suc, List, [], ◌∷◌, length, inl, inr, refl, sym, ap, subst, ◌∙◌}
+use Rattle.std.proofs.Common.{arith, Option, Some, None, Contains, IsTrue, is_some, true, false}
 use Rattle.std.specs.List.{AllPairs}
 use Rattle.std.specs.FinMap.{get}
 use Rattle.std.proofs.lemmas.List.Elements.{All-contains, Contains-append_cases}
 use Rattle.tables.proofs.Elements.{in_none, in_front, in_single, first_pairs, later_pairs}
 use Rattle.tables.proofs.Options.{not_both}
-use Rattle.ocpi_types.specs.declared.rows.Change.{Change}
-use Rattle.ocpi_types.specs.declared.stored.SentCommand.{SentCommand}
-use Rattle.outbox.specs.Outbox.{OutboxRows, Waits, request_of}
-use Rattle.outbox.specs.declared.push_book.Outgoing.{Outgoing}
-use Rattle.node_steps.specs.declared.plan.Volatile.{Volatile}
-use Rattle.node_steps.specs.Acts.{Act, all_changes, all_messages, all_volatile, all_requests}
-use Rattle.node_steps.proofs.Gathering.{changes_append, volatile_append, requests_append}
+use Rattle.ocpi_types.specs.{Change, SentCommand}
+use Rattle.outbox.specs.{OutboxRows, Outgoing, Waits, request_of}
+use Rattle.node_steps.specs.{Act, Volatile, all_changes, all_messages, all_volatile}
+use Rattle.node_steps.proofs.Gathering.{changes_append, volatile_append}
 use Rattle.provider_rows.specs.State.{State}
-use Rattle.provider_rows.specs.Stored.{AreApart, change_key}
-use Rattle.provider_rows.specs.Steps.{number_of}
+use Rattle.provider_rows.specs.{AreApart, change_key, number_of}
 use Rattle.provider_steps.specs.Facts.{TicksMayFollow}
 use Rattle.provider_steps.specs.Tick.{TickLine, all_resent, resent_acts}
 use Rattle.provider_steps.proofs.Orderly.{AreOrderly, in_later, is_uncounted}
@@ -39,20 +35,6 @@ module _ (at : ℕ) (r : OutboxRows) where
 
   pub resent_leave : (numbers : List ℕ) (A : Change → Type 0) (c : Change) → Contains (all_changes (all_resent at r numbers)) c → A c
   resent_leave numbers A c h = absurd (in_none c (subst (λ l. Contains l c) (resent_changes numbers) h))
-
-  -- no request is made, and a packet is sent for each that waits
-  one_asks : (n : ℕ) (o : Option Outgoing) (c : Option SentCommand) → all_requests (resent_acts at n o c) ≡ 0
-  one_asks n None None = refl
-  one_asks n None (Some c) = refl
-  one_asks n (Some o) c = refl
-
-  pub resent_ask : (numbers : List ℕ) → all_requests (all_resent at r numbers) ≡ 0
-  resent_ask [] = refl
-  resent_ask (n ∷ ns) =
-      let all = requests_append (of_request n) (all_resent at r ns) in
-      let one = one_asks n (get r.pushes n) (get r.commands n) in
-      let more = resent_ask ns in
-      omega (arith, all, one, more)
 
   one_sends : (n : ℕ) (o : Option Outgoing) (c : Option SentCommand) (rest : List Act) → (o ≡ None → c ≡ None → ⊥) → length (all_messages (resent_acts at n o c ++ rest)) ≡ suc (length (all_messages rest))
   one_sends n None None rest stands = absurd (stands refl refl)
@@ -133,9 +115,6 @@ module _ (at : ℕ) (s : State) where
 -- a moment takes one packet for each request that is due, and no request
 pub tick_sends : (s : State) (at : ℕ) (acts : List Act) (line : TickLine s at acts) → length (all_messages acts) ≡ length line.due
 tick_sends s at acts line = ap (λ l. length (all_messages l)) line.acts_are ∙ resent_send at s.rows.outbox line.due (λ n i. ((line.are_due.exact n).0 i).waits)
-
-pub tick_asks : (s : State) (at : ℕ) (acts : List Act) → TickLine s at acts → all_requests acts ≡ 0
-tick_asks s at acts line = ap all_requests line.acts_are ∙ resent_ask at s.rows.outbox line.due
 
 pub tick_planned : (s : State) (at : ℕ) (acts : List Act) → TickLine s at acts → ArePlanned s acts
 tick_planned s at acts line =

@@ -1,6 +1,6 @@
 -- A token is given: the acts may be carried out, and how many numbers they take.
-use Rattle.std.proofs.Common.{◌≡◌, ◌≢◌, ◌≤◌, ◌+◌, ◌++◌, ℕ, List, [], ◌∷◌, map, length, inl, inr, is_some, refl, sym, ap, subst, ◌∙◌, arith}
-use Rattle.std.specs.Prelude.{Option, Some, None, Contains}
+use Rattle.std.proofs.Common.{◌≡◌, ◌≢◌, ◌≤◌, ◌+◌, ◌++◌, ℕ, List, [], ◌∷◌, map, length, inl, inr, is_some, refl, sym, ap}
+use Rattle.std.proofs.Common.{subst, ◌∙◌, arith, Option, Some, None, Contains}
 use Rattle.std.specs.List.{AllPairs}
 use Rattle.std.specs.FinMap.{get}
 use Rattle.std.proofs.lemmas.List.{length-map}
@@ -8,18 +8,14 @@ use Rattle.std.proofs.lemmas.List.Elements.{All-contains, Contains-append_left, 
 use Rattle.std.proofs.lemmas.List.Kept.{AllPairs-cons}
 use Rattle.tables.proofs.Elements.{all_of, in_none, in_front, in_map, in_single, first_pairs, later_pairs, no_pairs}
 use Rattle.tables.proofs.Options.{none_of, none_some}
-use Rattle.ocpi_text.specs.Text.{key}
-use Rattle.ocpi_types.specs.Apart.{DifferFrom}
-use Rattle.ocpi_types.specs.declared.stored.Push.TheVariants as push
-use Rattle.ocpi_types.specs.declared.token.Token.{Token}
-use Rattle.outbox.specs.Outbox.{request_of}
-use Rattle.outbox.specs.Pushes.{Pushes, IsAbout, IsReplaced, OneEach, subject, subject_of, type_number}
-use Rattle.outbox.specs.declared.push_book.Subject.{Subject}
-use Rattle.node_steps.specs.Acts.{Act, all_changes, all_messages, all_requests}
+use Rattle.ocpi_text.specs.{key}
+use Rattle.ocpi_types.specs.{DifferFrom, Token}
+use Rattle.ocpi_types.specs.push
+use Rattle.outbox.specs.{IsAbout, IsReplaced, OneEach, Subject, request_of, subject, subject_of, type_number}
+use Rattle.outbox.specs.Pushes.{Pushes}
+use Rattle.node_steps.specs.{Act, all_changes, all_messages}
 use Rattle.provider_rows.specs.State.{State}
-use Rattle.provider_rows.specs.Sound.{IsConsistent}
-use Rattle.provider_rows.specs.Stored.{change_key}
-use Rattle.provider_rows.specs.Steps.{number_of}
+use Rattle.provider_rows.specs.{IsConsistent, change_key, number_of}
 use Rattle.provider_steps.specs.declared.pushing.Pushing.{Pushing}
 use Rattle.provider_steps.specs.Acts.{stored}
 use Rattle.provider_steps.specs.Facts.{TokensMayFollow}
@@ -129,11 +125,6 @@ as_many s t pushes are = sym (length-map pushes (λ (p : Pushing). p.to)) ∙ ap
 
 pub token_sends : (s : State) (at : ℕ) (t : Token) (acts : List Act) → TokenLine s at t acts → length (all_messages acts) ≡ length s.operators
 token_sends s at t acts line = ap (λ l. length (all_messages l)) line.acts_are ∙ turns_send at line.version s.rows.outbox.last line.pushes ∙ as_many s line.version line.pushes line.are_pushes
-
-pub token_asks : (s : State) (at : ℕ) (t : Token) (acts : List Act) → TokenLine s at t acts → all_requests acts ≡ length s.operators
-token_asks s at t acts line =
-    let asked = turns_ask at line.version s.rows.outbox.last line.pushes ∙ as_many s line.version line.pushes line.are_pushes in
-    ap all_requests line.acts_are ∙ omega (arith, asked)
 
 pub token_planned : (s : State) → IsConsistent s → (at : ℕ) (t : Token) (acts : List Act) → TokenLine s at t acts → ArePlanned s acts
 token_planned s fine at t acts line = subst (ArePlanned s) (sym line.acts_are) (pushes_planned s fine line.version line.pushes line.are_pushes at)

@@ -1,7 +1,7 @@
 -- A token is pushed to one operator after the other: which rows the acts change, that the rows allow it, and that the
 -- pushes may be sent.
-use Rattle.std.proofs.Common.{◌≡◌, ◌≢◌, ◌⊎◌, ◌<◌, ◌≤◌, ◌+◌, ◌++◌, ℕ, List, [], ◌∷◌, length, inl, inr, refl, sym, ap, subst, ◌∙◌, arith}
-use Rattle.std.specs.Prelude.{Option, Some, None, Contains}
+use Rattle.std.proofs.Common.{◌≡◌, ◌≢◌, ◌⊎◌, ◌<◌, ◌≤◌, ◌+◌, ◌++◌, ℕ, List, [], ◌∷◌, length, inl, inr, refl, sym, ap}
+use Rattle.std.proofs.Common.{subst, ◌∙◌, arith, Option, Some, None, Contains}
 use Rattle.std.specs.List.{AllPairs}
 use Rattle.std.specs.Cmp.{nat_cmp_total}
 use Rattle.std.specs.FinMap.{get, insert, nat_cmp-IsAntisymmetric}
@@ -9,27 +9,18 @@ use Rattle.std.proofs.lemmas.List.Elements.{All-contains, Contains-append_cases}
 use Rattle.tables.proofs.Elements.{in_none, in_front, in_single, first_pairs, later_pairs}
 use Rattle.tables.proofs.Options.{none_some}
 use Rattle.tables.proofs.Maps.{of_insert, of_remove}
-use Rattle.ocpi_text.specs.Text.{key}
-use Rattle.ocpi_types.specs.declared.rows.Change.{Change}
-use Rattle.ocpi_types.specs.declared.rows.Change.TheVariants.{Put, Drop}
-use Rattle.ocpi_types.specs.declared.rows.Row.TheVariants as row
-use Rattle.ocpi_types.specs.declared.rows.RowKey.{RowKey}
-use Rattle.ocpi_types.specs.declared.rows.RowKey.TheVariants as keys
-use Rattle.ocpi_types.specs.declared.stored.Push.TheVariants as push
-use Rattle.ocpi_types.specs.declared.token.Token.{Token}
-use Rattle.outbox.specs.Outbox.{request_of, without}
-use Rattle.outbox.specs.Pushes.{Pushes, IsAbout, subject, subject_of}
-use Rattle.outbox.specs.declared.push_book.Outgoing.{Outgoing}
-use Rattle.outbox.specs.declared.push_book.Subject.{Subject}
-use Rattle.node_steps.specs.declared.plan.Volatile.{Volatile}
-use Rattle.node_steps.specs.declared.plan.Volatile.TheVariants.{Sent}
-use Rattle.node_steps.specs.Acts.{Act, all_changes, all_messages, all_requests, all_volatile, in_turn, pushed}
-use Rattle.node_steps.specs.Peers.{HasPeer}
+use Rattle.ocpi_text.specs.{key}
+use Rattle.ocpi_types.specs.{Change, Drop, Put, RowKey, Token}
+use Rattle.ocpi_types.specs.row
+use Rattle.ocpi_types.specs.keys
+use Rattle.ocpi_types.specs.push
+use Rattle.outbox.specs.{IsAbout, Outgoing, Subject, request_of, subject, subject_of, without}
+use Rattle.outbox.specs.Pushes.{Pushes}
+use Rattle.node_steps.specs.{Act, HasPeer, Sent, Volatile, all_changes, all_messages, all_requests, all_volatile}
+use Rattle.node_steps.specs.{in_turn, pushed}
 use Rattle.node_steps.proofs.Gathering.{changes_append, volatile_append, turns_ask_same, turns_send_same}
 use Rattle.provider_rows.specs.State.{State}
-use Rattle.provider_rows.specs.Sound.{IsConsistent, with_rows}
-use Rattle.provider_rows.specs.Stored.{change_key}
-use Rattle.provider_rows.specs.Steps.{number_of}
+use Rattle.provider_rows.specs.{IsConsistent, change_key, number_of, with_rows}
 use Rattle.provider_steps.specs.declared.pushing.Pushing.{Pushing}
 use Rattle.provider_steps.specs.Acts.{replaced, token_acts}
 use Rattle.provider_steps.proofs.Orderly.{AreOrderly, apart_joined, apart_kinds, in_later, of_cons, orderly_append, orderly_kinds, orderly_none, uncounted_kinds}

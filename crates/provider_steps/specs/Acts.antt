@@ -1,21 +1,14 @@
 -- What a provider does: its acts, beside those of every node (OCPI 2.2.1, Commands, Sessions, CDRs, Tokens).
 use Rattle.std.specs.Prelude.{ℕ, ◌+◌, ◌∷◌, ◌++◌, List, [], Option, Some, None, codes, decimal}
-use Rattle.ocpi_types.specs.declared.authorizations.Authorization.TheVariants as authorization
-use Rattle.ocpi_types.specs.declared.cdrs.Cdr.{Cdr}
-use Rattle.ocpi_types.specs.declared.replies.CommandResponse.{CommandResponse}
-use Rattle.ocpi_types.specs.declared.rows.Change.TheVariants.{Put, Drop}
-use Rattle.ocpi_types.specs.declared.rows.Counter.TheVariants.{Reference}
-use Rattle.ocpi_types.specs.declared.rows.Row.TheVariants as row
-use Rattle.ocpi_types.specs.declared.rows.RowKey.TheVariants as keys
-use Rattle.ocpi_types.specs.declared.sessions.Session.{Session}
-use Rattle.ocpi_types.specs.declared.stored.Push.TheVariants as push
-use Rattle.ocpi_types.specs.declared.stored.Reply.{Reply}
-use Rattle.ocpi_types.specs.declared.stored.Reply.TheVariants as reply
-use Rattle.ocpi_types.specs.declared.stored.SentCommand.{SentCommand}
-use Rattle.ocpi_types.specs.declared.token.Token.{Token}
-use Rattle.ocpi_types.specs.declared.words.AllowedType.TheVariants as allowed
-use Rattle.ocpi_types.specs.declared.words.CommandResultType.{CommandResultType}
-use Rattle.node_steps.specs.Acts.{Act, changed, pushed}
+use Rattle.ocpi_types.specs.authorization
+use Rattle.ocpi_types.specs.{Cdr, CommandResponse, CommandResultType, Drop, Put, Reference, Reply, SentCommand, Session}
+use Rattle.ocpi_types.specs.{Token}
+use Rattle.ocpi_types.specs.row
+use Rattle.ocpi_types.specs.keys
+use Rattle.ocpi_types.specs.push
+use Rattle.ocpi_types.specs.reply
+use Rattle.ocpi_types.specs.allowed
+use Rattle.node_steps.specs.{Act, changed, pushed}
 use Rattle.provider_steps.specs.declared.pushing.Pushing.{Pushing}
 
 -- what is handed over is acknowledged with a status

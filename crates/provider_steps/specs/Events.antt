@@ -1,12 +1,9 @@
 -- The events of a provider, each with what it may leave.
 use Rattle.std.specs.Prelude.{◌≡◌, ℕ, List}
-use Rattle.ocpi_types.specs.declared.events.Order.{Order}
-use Rattle.ocpi_types.specs.declared.packet.Packet.{Packet}
-use Rattle.ocpi_types.specs.declared.rows.Change.{Change}
-use Rattle.ocpi_types.specs.declared.token.Token.{Token}
-use Rattle.node_steps.specs.Acts.{Act}
+use Rattle.ocpi_types.specs.{Change, Order, Packet, Token}
+use Rattle.node_steps.specs.{Act}
 use Rattle.provider_rows.specs.State.{State}
-use Rattle.provider_rows.specs.Steps.{restarted}
+use Rattle.provider_rows.specs.{restarted}
 use Rattle.provider_steps.specs.Moves.{Out, StepBy, idle}
 use Rattle.provider_steps.specs.Orders.{OrderLine}
 use Rattle.provider_steps.specs.Packets.{Comes}

@@ -1,12 +1,9 @@
 -- What a provider does may always be carried out.
 use Rattle.std.specs.Prelude.{ℕ, List}
-use Rattle.ocpi_types.specs.declared.events.Order.{Order}
-use Rattle.ocpi_types.specs.declared.packet.Packet.{Packet}
-use Rattle.ocpi_types.specs.declared.token.Token.{Token}
-use Rattle.node_steps.specs.Acts.{Act}
+use Rattle.ocpi_types.specs.{Order, Packet, Token}
+use Rattle.node_steps.specs.{Act}
 use Rattle.provider_rows.specs.State.{State}
-use Rattle.provider_rows.specs.Sound.{IsConsistent}
-use Rattle.provider_rows.specs.Steps.{MayFollow}
+use Rattle.provider_rows.specs.{IsConsistent, MayFollow}
 use Rattle.provider_steps.specs.Moves.{AreInRange, step_of_acts}
 use Rattle.provider_steps.specs.Orders.{OrderLine}
 use Rattle.provider_steps.specs.Packets.{Comes}

@@ -1,14 +1,10 @@
 -- When a provider refuses an event.
 use Rattle.std.specs.Prelude.{◌≡◌, ◌≢◌, ℕ, List, ⊤}
-use Rattle.ocpi_text.specs.Text.{key}
-use Rattle.ocpi_types.specs.declared.events.Order.{Order}
-use Rattle.ocpi_types.specs.declared.packet.Packet.{Packet}
-use Rattle.ocpi_types.specs.declared.token.Token.{Token}
-use Rattle.token_desk.specs.Putting.{IsAtEnd}
-use Rattle.node_steps.specs.Acts.{Act}
-use Rattle.node_steps.specs.Peers.{IsPeer}
-use Rattle.node_steps.specs.declared.fault.NodeFault.{NodeFault}
-use Rattle.node_steps.specs.declared.fault.NodeFault.TheVariants.{NotForMe, UnknownOperator, UnknownToken, StampEnd, NumbersUsedUp, Memory}
+use Rattle.ocpi_text.specs.{key}
+use Rattle.ocpi_types.specs.{Order, Packet, Token}
+use Rattle.token_desk.specs.{IsAtEnd}
+use Rattle.node_steps.specs.{Act, IsPeer, Memory, NodeFault, NotForMe, NumbersUsedUp, StampEnd, UnknownOperator}
+use Rattle.node_steps.specs.{UnknownToken}
 use Rattle.provider_rows.specs.State.{State}
 use Rattle.provider_steps.specs.Moves.{AreInRange}
 use Rattle.provider_steps.specs.Orders.{LacksToken, OrderLine}

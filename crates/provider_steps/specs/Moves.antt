@@ -1,15 +1,11 @@
 -- What the acts of a step come to.
 use Rattle.std.specs.Prelude.{◌≡◌, ◌≤◌, ℕ, List, [], Contains}
-use Rattle.ocpi_text.specs.Whole.{max_whole}
-use Rattle.ocpi_types.specs.declared.packet.Packet.{Packet}
-use Rattle.ocpi_types.specs.declared.rows.Change.{Change}
-use Rattle.ocpi_types.specs.declared.rows.Change.TheVariants.{Put}
-use Rattle.ocpi_types.specs.declared.rows.Counter.TheVariants.{Reference}
-use Rattle.ocpi_types.specs.declared.rows.Row.TheVariants as row
-use Rattle.node_steps.specs.Acts.{Act, all_changes}
-use Rattle.node_steps.specs.Drafts.{Counters, IsInRange, Step, counted, step_by}
+use Rattle.ocpi_text.specs.{max_whole}
+use Rattle.ocpi_types.specs.{Change, Packet, Put, Reference}
+use Rattle.ocpi_types.specs.row
+use Rattle.node_steps.specs.{Act, Counters, IsInRange, Step, all_changes, counted, step_by}
 use Rattle.provider_rows.specs.State.{State}
-use Rattle.provider_rows.specs.Steps.{after}
+use Rattle.provider_rows.specs.{after}
 
 -- what a step leaves, the changes of rows that it makes, and the packets that it sends, in order
 pub record Out : Type 0 where

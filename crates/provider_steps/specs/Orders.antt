@@ -1,16 +1,12 @@
 -- What an order makes a provider do (OCPI 2.2.1, Commands).
 use Rattle.std.specs.Prelude.{◌≡◌, ℕ, ◌+◌, ◌++◌, List, [], ◌∷◌, Option, Some, None}
 use Rattle.std.specs.FinMap.{get}
-use Rattle.ocpi_text.specs.Text.{key}
-use Rattle.ocpi_types.specs.declared.events.Order.{Order}
-use Rattle.ocpi_types.specs.declared.events.Order.TheVariants as order
-use Rattle.ocpi_types.specs.declared.commands.Command.{Command}
-use Rattle.ocpi_types.specs.declared.commands.Command.TheVariants as command
-use Rattle.ocpi_types.specs.declared.token.Token.{Token}
-use Rattle.ocpi_types.specs.declared.words.TokenType.{TokenType}
-use Rattle.token_desk.specs.References.{reference_of}
-use Rattle.node_steps.specs.Acts.{Act, commanded}
-use Rattle.node_steps.specs.Peers.{IsPeer}
+use Rattle.ocpi_text.specs.{key}
+use Rattle.ocpi_types.specs.{Command, Order, Token, TokenType}
+use Rattle.ocpi_types.specs.order
+use Rattle.ocpi_types.specs.command
+use Rattle.token_desk.specs.{reference_of}
+use Rattle.node_steps.specs.{Act, IsPeer, commanded}
 use Rattle.provider_rows.specs.State.{State}
 use Rattle.provider_steps.specs.Acts.{own_url, referenced}
 use Rattle.provider_steps.specs.Moves.{Out, StepBy}

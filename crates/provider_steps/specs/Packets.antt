@@ -1,29 +1,16 @@
 -- What a packet makes a provider do (OCPI 2.2.1, Commands, Sessions, CDRs, Tokens).
 use Rattle.std.specs.Prelude.{◌≡◌, ◌⊎◌, ℕ, List, [], ◌∷◌, Some, None, true, false}
 use Rattle.std.specs.FinMap.{get}
-use Rattle.ocpi_text.specs.Text.{key}
-use Rattle.ocpi_types.specs.declared.authorizations.Authorize.{Authorize}
-use Rattle.ocpi_types.specs.declared.cdrs.Cdr.{Cdr}
-use Rattle.ocpi_types.specs.declared.packet.Packet.{Packet}
-use Rattle.ocpi_types.specs.declared.packet.Body.{Body}
-use Rattle.ocpi_types.specs.declared.packet.Body.TheVariants as body
-use Rattle.ocpi_types.specs.declared.replies.Ack.{Ack}
-use Rattle.ocpi_types.specs.declared.replies.CommandResponse.{CommandResponse}
-use Rattle.ocpi_types.specs.declared.replies.CommandResult.{CommandResult}
-use Rattle.ocpi_types.specs.declared.sessions.Session.{Session}
-use Rattle.ocpi_types.specs.declared.stored.Reply.{Reply}
-use Rattle.ocpi_types.specs.declared.stored.SentCommand.{SentCommand}
-use Rattle.ocpi_types.specs.declared.token.Token.{Token}
-use Rattle.ocpi_types.specs.declared.words.CommandResultType.{CommandResultType}
-use Rattle.handover.specs.Cdrs.{cdr_key}
-use Rattle.handover.specs.Inbox.{IsInConflict, IsNews, IsOfParties, session_key}
-use Rattle.outbox.specs.Outbox.{IsTo}
-use Rattle.token_desk.specs.Authorizing.{IsHeld, asked_type}
-use Rattle.token_desk.specs.References.{reference_of}
-use Rattle.node_steps.specs.Acts.{Act, acknowledged, answered, repeated}
-use Rattle.node_steps.specs.Peers.{IsPeer}
+use Rattle.ocpi_text.specs.{key}
+use Rattle.ocpi_types.specs.{Ack, Authorize, Body, Cdr, CommandResponse, CommandResult, CommandResultType, Packet}
+use Rattle.ocpi_types.specs.{Reply, SentCommand, Session, Token}
+use Rattle.ocpi_types.specs.body
+use Rattle.handover.specs.{IsInConflict, IsNews, IsOfParties, cdr_key, session_key}
+use Rattle.outbox.specs.{IsTo}
+use Rattle.token_desk.specs.{IsHeld, asked_type, reference_of}
+use Rattle.node_steps.specs.{Act, IsPeer, acknowledged, answered, repeated}
 use Rattle.provider_rows.specs.State.{State}
-use Rattle.provider_rows.specs.Urls.{Fits}
+use Rattle.provider_rows.specs.{Fits}
 use Rattle.provider_steps.specs.Acts.{acknowledgement, allowed_reply, billed, blocked_reply, held, kept, referenced, unknown_reply, with_answer, with_result}
 use Rattle.provider_steps.specs.Moves.{Out, StepBy}
 use Rattle.provider_steps.specs.Orders.{next_reference}

@@ -2,11 +2,9 @@
 use Rattle.std.specs.Prelude.{◌≡◌, ℕ, List, [], ◌∷◌, Option, Some, None}
 use Rattle.std.specs.List.{flat_map}
 use Rattle.std.specs.FinMap.{get}
-use Rattle.ocpi_types.specs.declared.stored.SentCommand.{SentCommand}
-use Rattle.outbox.specs.Due.{AreExactly, IsDue}
-use Rattle.outbox.specs.Outbox.{OutboxRows}
-use Rattle.outbox.specs.declared.push_book.Outgoing.{Outgoing}
-use Rattle.node_steps.specs.Acts.{Act, command_resent, resent}
+use Rattle.ocpi_types.specs.{SentCommand}
+use Rattle.outbox.specs.{AreExactly, IsDue, OutboxRows, Outgoing}
+use Rattle.node_steps.specs.{Act, command_resent, resent}
 use Rattle.provider_rows.specs.State.{State}
 use Rattle.provider_steps.specs.Moves.{Out, StepBy}
 

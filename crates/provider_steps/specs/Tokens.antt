@@ -1,11 +1,11 @@
 -- What a new version of a token makes a provider do (OCPI 2.2.1, Tokens: Receiver interface, PUT).
 use Rattle.std.specs.Prelude.{◌≡◌, ℕ, List, ◌∷◌, map, Contains}
-use Rattle.ocpi_text.specs.Text.{key}
-use Rattle.ocpi_types.specs.declared.stored.Push.TheVariants as push
-use Rattle.ocpi_types.specs.declared.token.Token.{Token}
-use Rattle.outbox.specs.Pushes.{IsReplaced, subject}
-use Rattle.token_desk.specs.Putting.{HasNext, next_version}
-use Rattle.node_steps.specs.Acts.{Act, in_turn}
+use Rattle.ocpi_text.specs.{key}
+use Rattle.ocpi_types.specs.push
+use Rattle.ocpi_types.specs.{Token}
+use Rattle.outbox.specs.{IsReplaced, subject}
+use Rattle.token_desk.specs.{HasNext, next_version}
+use Rattle.node_steps.specs.{Act, in_turn}
 use Rattle.provider_rows.specs.State.{State}
 use Rattle.provider_steps.specs.declared.pushing.Pushing.{Pushing}
 use Rattle.provider_steps.specs.Acts.{stored, token_acts}

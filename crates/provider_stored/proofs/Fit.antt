@@ -1,36 +1,23 @@
 -- Rows that may be put beside those that stand, kind by kind.
-use Rattle.std.proofs.Common.{◌≡◌, ◌≢◌, ℕ, ◌≤◌, List, inl, inr, sym, ap, subst, ◌∙◌, arith}
-use Rattle.std.specs.Prelude.{Option, Some, None, Ok}
+use Rattle.std.proofs.Common.{◌≡◌, ◌≢◌, ℕ, ◌≤◌, List, inl, inr, sym, ap, subst, ◌∙◌, arith, Option, Some, None, Ok}
 use Rattle.std.specs.Cmp.{nat_cmp_total}
 use Rattle.std.specs.FinMap.{get, insert, nat_cmp-IsAntisymmetric}
-use Rattle.ocpi_text.specs.Party.{party_at}
-use Rattle.ocpi_text.specs.Text.{key}
-use Rattle.tables.specs.Keys.{text_pair_total, text_pair_exact}
+use Rattle.ocpi_text.specs.{key, party_at}
+use Rattle.tables.specs.{text_pair_exact, text_pair_total}
 use Rattle.tables.proofs.Maps.{of_insert}
 use Rattle.tables.proofs.Options.{not_both}
-use Rattle.ocpi_types.specs.declared.cdrs.Cdr.{Cdr}
-use Rattle.ocpi_types.specs.declared.rows.Change.TheVariants.{Put}
-use Rattle.ocpi_types.specs.declared.rows.Counter.{Counter}
-use Rattle.ocpi_types.specs.declared.rows.Counter.TheVariants as counter
-use Rattle.ocpi_types.specs.declared.rows.Row.TheVariants as row
-use Rattle.ocpi_types.specs.declared.sessions.Session.{Session}
-use Rattle.ocpi_types.specs.declared.stored.Push.{Push}
-use Rattle.ocpi_types.specs.declared.stored.Reply.{Reply}
-use Rattle.ocpi_types.specs.declared.stored.SentCommand.{SentCommand}
-use Rattle.ocpi_types.specs.declared.token.Token.{Token}
-use Rattle.token_desk.specs.Tokens.{token_key}
-use Rattle.token_desk.specs.TypeOrder.{tokens_total, tokens_exact}
+use Rattle.ocpi_types.specs.{AreAlike, Cdr, Counter, Push, Put, Reply, SentCommand, Session, Token, is_credit}
+use Rattle.ocpi_types.specs.counter
+use Rattle.ocpi_types.specs.row
+use Rattle.token_desk.specs.{token_key, tokens_exact, tokens_total}
 use Rattle.outbox.specs.Outbox as outbox
-use Rattle.outbox.specs.Pushes.{IsAbout, IsReplaced, Pushes, subject}
-use Rattle.outbox.specs.declared.push_book.Subject.{Subject}
-use Rattle.ocpi_types.specs.Credits.{AreAlike, is_credit}
-use Rattle.handover.specs.Cdrs.{Cdrs, AreOwnCdrs, HasOnePerSession, cdr_key}
-use Rattle.handover.specs.Inbox.{IsInConflict, session_key}
-use Rattle.node_steps.specs.Peers.{HasPeer}
-use Rattle.provider_rows.specs.Rows.{HasCount, HasRow}
-use Rattle.provider_rows.specs.Sound.{IsGiven, MayPutCount}
-use Rattle.provider_rows.specs.State.{Rows, State, reference_of}
-use Rattle.provider_rows.specs.Steps.{after_change}
+use Rattle.outbox.specs.{IsAbout, IsReplaced, Subject, subject}
+use Rattle.outbox.specs.Pushes.{Pushes}
+use Rattle.handover.specs.{AreOwnCdrs, HasOnePerSession, IsInConflict, cdr_key, session_key}
+use Rattle.handover.specs.Cdrs.{Cdrs}
+use Rattle.node_steps.specs.{HasPeer}
+use Rattle.provider_rows.specs.{HasCount, HasRow, IsGiven, MayPutCount, after_change, reference_of}
+use Rattle.provider_rows.specs.State.{Rows, State}
 use Rattle.provider_stored.specs.Fitting.{HasOwnReference, IsFit, IsFree, IsNext, given_last}
 use Rattle.provider_stored.specs.Whole.{IsWhole}
 use Rattle.stored_rows.proofs.SameNumbers.{same_number}

@@ -1,9 +1,9 @@
 -- What a lookup tells.
-use Rattle.std.proofs.Common.{◌≡◌, ◌≢◌, ◌↔◌, ℕ, List, Bool, true, false, refl, sym, ap, subst, ◌∙◌, Bor}
-use Rattle.std.specs.Prelude.{Option, Some, None, is_some, option_copied, Result, IfErr, IfNone, IfSome, IsTrue}
+use Rattle.std.proofs.Common.{◌≡◌, ◌≢◌, ◌↔◌, ℕ, List, Bool, true, false, refl, sym, ap, subst, ◌∙◌, Bor, Option, Some}
+use Rattle.std.proofs.Common.{None, is_some, option_copied, Result, IfErr, IfNone, IfSome, IsTrue}
 use Rattle.std.specs.Result.{IsErrAnd}
 use Rattle.std.proofs.lemmas.Result.{err_from_is_err_and}
-use Rattle.ocpi_text.specs.Text.{key}
+use Rattle.ocpi_text.specs.{key}
 
 pub is_found : {X : Type 0} (o : Option X) → is_some o ≡ true → (x : X) × (o ≡ Some x)
 is_found None e = absurd (cc)

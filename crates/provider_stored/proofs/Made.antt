@@ -1,40 +1,27 @@
 -- A provider that is made of rows, row by row.
-use Rattle.std.proofs.Common.{◌≡◌, ℕ, List, [], ◌∷◌, ◌++◌, refl, sym, ap, subst, ◌∙◌}
-use Rattle.std.specs.Prelude.{Option, Some, None, Contains}
+use Rattle.std.proofs.Common.{◌≡◌, ℕ, List, [], ◌∷◌, ◌++◌, refl, sym, ap, subst, ◌∙◌, Option, Some, None, Contains}
 use Rattle.std.specs.Cmp.{nat_cmp_total}
 use Rattle.std.specs.FinMap.{empty, get-empty, nat_cmp-IsAntisymmetric}
 use Rattle.std.specs.List.Sorted.{IsNonDecreasingBy, IsPermutation}
 use Rattle.std.proofs.lemmas.List.Sorted.{Contains-permutation, IsPermutation-sym}
 use Rattle.tables.proofs.Maps.{remove_absent}
 use Rattle.tables.proofs.Options.{not_both}
-use Rattle.ocpi_types.specs.Rows.{key_of}
-use Rattle.ocpi_types.specs.declared.rows.Change.{Change}
-use Rattle.ocpi_types.specs.declared.rows.Change.TheVariants.{Put}
-use Rattle.ocpi_types.specs.declared.rows.Counter.{Counter}
-use Rattle.ocpi_types.specs.declared.rows.Counter.TheVariants as counter
-use Rattle.ocpi_types.specs.declared.rows.Row.{Row}
-use Rattle.ocpi_types.specs.declared.rows.Row.TheVariants as row
-use Rattle.ocpi_types.specs.declared.rows.RowKey.{RowKey}
-use Rattle.outbox.specs.Outbox.{request_of, without}
+use Rattle.ocpi_types.specs.{Change, Counter, Put, Row, RowKey, key_of}
+use Rattle.ocpi_types.specs.counter
+use Rattle.ocpi_types.specs.row
+use Rattle.outbox.specs.{request_of, without}
 use Rattle.outbox.specs.Resend.{Resend}
-use Rattle.node_steps.specs.Changes.{Each}
-use Rattle.provider_rows.specs.Rows.{HasRow}
-use Rattle.provider_rows.specs.State.{Peering, State, no_rows, opening}
-use Rattle.provider_rows.specs.Steps.{after_change}
-use Rattle.provider_rows.specs.Stored.{put_row}
+use Rattle.node_steps.specs.{Each}
+use Rattle.provider_rows.specs.{HasRow, Peering, after_change, no_rows, opening, put_row}
+use Rattle.provider_rows.specs.State.{State}
 use Rattle.provider_rows.proofs.RowChanges.{row_changes}
 use Rattle.provider_stored.specs.Bad.{IsBad}
 use Rattle.provider_stored.specs.Bad.IsBad.{Repeated, Foreign, NothingCounted, PushNotGiven, CommandNotGiven, ReferenceNotGiven, NumberShared}
 use Rattle.provider_stored.specs.Bad.IsBad.{OtherToken, OtherSession, OtherCdr, ReferenceNotOwn, PushToStranger, CommandToStranger, PushedTwice, BilledTwice, CreditedTwice}
 use Rattle.provider_stored.specs.Fitting.{IsFit, IsNext}
 use Rattle.provider_stored.specs.Making.{IsMadeOf}
-use Rattle.stored_rows.specs.Faults.{IfBadRows}
-use Rattle.stored_rows.specs.Given.{IsNotGiven, RepeatsKey}
-use Rattle.stored_rows.specs.Turns.{turn_of}
-use Rattle.stored_rows.specs.declared.fault.BadReason.{BadReason}
-use Rattle.stored_rows.specs.declared.fault.BadReason.TheVariants as reason
-use Rattle.stored_rows.specs.declared.fault.RowsFault.{RowsFault}
-use Rattle.stored_rows.specs.declared.fault.RowsFault.TheVariants.{BadRows, Memory}
+use Rattle.stored_rows.specs.{BadReason, BadRows, IfBadRows, IsNotGiven, Memory, RepeatsKey, RowsFault, turn_of}
+use Rattle.stored_rows.specs.reason
 use Rattle.stored_rows.proofs.Growing.{is_no_later, none_stand, one_more}
 use Rattle.stored_rows.proofs.Repeated.{apart_permuted, this_in_other_order}
 

@@ -1,16 +1,14 @@
 -- A command whose number and addressee are right: it fits just where its reference does.
-use Rattle.std.proofs.Common.{◌≡◌, ℕ, List, subst}
-use Rattle.std.specs.Prelude.{IfNone, IfSome, Ok, Option, Some, None}
-use Rattle.ocpi_text.specs.Party.{party_at}
-use Rattle.ocpi_text.specs.Text.{key}
-use Rattle.ocpi_types.specs.declared.rows.Row.TheVariants as row
-use Rattle.ocpi_types.specs.declared.stored.SentCommand.{SentCommand}
-use Rattle.node_steps.specs.Peers.{HasPeer}
+use Rattle.std.proofs.Common.{◌≡◌, ℕ, List, subst, IfNone, IfSome, Ok, Option, Some, None}
+use Rattle.ocpi_text.specs.{key, party_at}
+use Rattle.ocpi_types.specs.row
+use Rattle.ocpi_types.specs.{SentCommand}
+use Rattle.node_steps.specs.{HasPeer}
 use Rattle.provider_rows.specs.State.{State}
 use Rattle.provider_stored.specs.Fitting.{HasOwnReference, HasStrangeReference, IsFit, IsFree, Spoils}
 use Rattle.provider_stored.proofs.Fit.{command_fits}
 use Rattle.provider_stored.proofs.Spoiled.{strange_reference}
-use Rattle.stored_rows.specs.declared.fault.BadReason.{BadReason}
+use Rattle.stored_rows.specs.{BadReason}
 
 pub own_fits : (s : State) (n : ℕ) (c : SentCommand) (o : Option BadReason) (party : List ℕ) (last : ℕ) → party ≡ s.party → last ≡ s.rows.desk.references
     → party_at s.party ≡ Ok s.party → IsFree s.rows.outbox n → HasPeer s.operators (key c.to) → IfNone o (HasOwnReference party last c.command)

@@ -1,35 +1,22 @@
 -- Rows that no provider has beside those that stand, reason by reason.
-use Rattle.std.proofs.Common.{◌≡◌, ◌≢◌, ℕ, ◌<◌, List, ◌∷◌, ◌++◌, inl, inr, refl, sym, ap, subst, ◌∙◌, arith}
-use Rattle.std.specs.Prelude.{Option, Some, None, Contains}
+use Rattle.std.proofs.Common.{◌≡◌, ◌≢◌, ℕ, ◌<◌, List, ◌∷◌, ◌++◌, inl, inr, refl, sym, ap, subst, ◌∙◌, arith, Option}
+use Rattle.std.proofs.Common.{Some, None, Contains}
 use Rattle.std.specs.FinMap.{get}
 use Rattle.std.specs.List.Sorted.{IsNonDecreasingBy}
 use Rattle.std.proofs.lemmas.List.Elements.{Contains-append_left, Contains-append_right}
-use Rattle.ocpi_text.specs.Text.{key}
-use Rattle.ocpi_text.specs.declared.own_ids.OwnIdKind.TheVariants.{AuthorizationReference}
+use Rattle.ocpi_text.specs.{AuthorizationReference, key}
 use Rattle.tables.proofs.Elements.{in_front}
 use Rattle.tables.proofs.Options.{not_both}
-use Rattle.ocpi_types.specs.Credits.{AreAlike}
-use Rattle.ocpi_types.specs.Rows.{key_of}
-use Rattle.ocpi_types.specs.declared.cdrs.Cdr.{Cdr}
-use Rattle.ocpi_types.specs.declared.rows.Counter.{Counter}
-use Rattle.ocpi_types.specs.declared.rows.Counter.TheVariants as counter
-use Rattle.ocpi_types.specs.declared.rows.Row.{Row}
-use Rattle.ocpi_types.specs.declared.rows.Row.TheVariants as row
-use Rattle.ocpi_types.specs.declared.rows.RowKey.{RowKey}
-use Rattle.ocpi_types.specs.declared.rows.RowKey.TheVariants as keys
-use Rattle.ocpi_types.specs.declared.sessions.Session.{Session}
-use Rattle.ocpi_types.specs.declared.stored.Push.{Push}
-use Rattle.ocpi_types.specs.declared.stored.Reply.{Reply}
-use Rattle.ocpi_types.specs.declared.stored.SentCommand.{SentCommand}
-use Rattle.ocpi_types.specs.declared.token.Token.{Token}
-use Rattle.token_desk.specs.Tokens.{token_key}
-use Rattle.outbox.specs.Pushes.{IsReplaced, subject}
-use Rattle.outbox.specs.declared.push_book.Subject.{Subject}
-use Rattle.handover.specs.Cdrs.{cdr_key}
-use Rattle.handover.specs.Inbox.{IsInConflict, session_key}
-use Rattle.node_steps.specs.Peers.{HasPeer}
-use Rattle.provider_rows.specs.Rows.{AreKeyed, HasRow}
-use Rattle.provider_rows.specs.State.{Peering, Rows, State}
+use Rattle.ocpi_types.specs.{AreAlike, Cdr, Counter, Push, Reply, Row, RowKey, SentCommand, Session, Token, key_of}
+use Rattle.ocpi_types.specs.counter
+use Rattle.ocpi_types.specs.row
+use Rattle.ocpi_types.specs.keys
+use Rattle.token_desk.specs.{token_key}
+use Rattle.outbox.specs.{IsReplaced, Subject, subject}
+use Rattle.handover.specs.{IsInConflict, cdr_key, session_key}
+use Rattle.node_steps.specs.{HasPeer}
+use Rattle.provider_rows.specs.{AreKeyed, HasRow, Peering}
+use Rattle.provider_rows.specs.State.{Rows, State}
 use Rattle.provider_stored.specs.Bad.{IsForeign}
 use Rattle.provider_stored.specs.Bad.{IsBad}
 use Rattle.provider_stored.specs.Bad.IsBad.{Repeated, Foreign, NothingCounted, PushNotGiven, CommandNotGiven, ReferenceNotGiven, NumberShared}
@@ -39,10 +26,8 @@ use Rattle.provider_stored.specs.Fitting.HasStrangeReference.{OfOther, NotGivenY
 use Rattle.provider_stored.specs.Fitting.IsSaidTwice.{Bill, Credit}
 use Rattle.provider_stored.specs.Fitting.IsTaken.{NotCounted, HasPush, HasCommand}
 use Rattle.provider_stored.specs.Making.{IsMadeOf}
-use Rattle.stored_rows.specs.Given.{IsNotGiven, IsOwnId}
-use Rattle.stored_rows.specs.Turns.{turn_of}
-use Rattle.stored_rows.specs.declared.fault.BadReason.{BadReason}
-use Rattle.stored_rows.specs.declared.fault.BadReason.TheVariants as reason
+use Rattle.stored_rows.specs.{BadReason, IsNotGiven, IsOwnId, turn_of}
+use Rattle.stored_rows.specs.reason
 use Rattle.stored_rows.proofs.Repeated.{repeats_this}
 use Rattle.stored_rows.proofs.Growing.{stands_before}
 

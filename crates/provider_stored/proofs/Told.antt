@@ -1,38 +1,30 @@
 -- What rows tell of the provider that has them.
-use Rattle.std.proofs.Common.{◌≡◌, ◌≢◌, ◌↔◌, ℕ, ◌≤◌, ◌<◌, zero, suc, List, refl, sym, ap, subst, ◌∙◌, arith}
-use Rattle.std.specs.Prelude.{Some, is_some, Contains}
+use Rattle.std.proofs.Common.{◌≡◌, ◌≢◌, ◌↔◌, ℕ, ◌≤◌, ◌<◌, zero, suc, List, refl, sym, ap, subst, ◌∙◌, arith, Some}
+use Rattle.std.proofs.Common.{is_some, Contains}
 use Rattle.std.specs.Cmp.{IsTotalOrder}
 use Rattle.std.specs.declared.cmp.Ordering.{Ordering}
 use Rattle.std.specs.FinMap.{FinMap, IsAntisymmetric, get, same_map}
-use Rattle.ocpi_text.specs.Text.{key}
-use Rattle.ocpi_text.specs.declared.own_ids.OwnIdKind.TheVariants.{AuthorizationReference}
-use Rattle.tables.specs.Keys.{text_number_total, text_number_exact}
+use Rattle.ocpi_text.specs.{AuthorizationReference, key}
+use Rattle.tables.specs.{text_number_exact, text_number_total}
 use Rattle.tables.proofs.Options.{same_option}
-use Rattle.ocpi_types.specs.Credits.{AreAlike}
-use Rattle.ocpi_types.specs.declared.cdrs.Cdr.{Cdr}
-use Rattle.ocpi_types.specs.declared.rows.Counter.{Counter}
-use Rattle.ocpi_types.specs.declared.rows.Counter.TheVariants as counter
-use Rattle.ocpi_types.specs.declared.rows.Row.{Row}
-use Rattle.ocpi_types.specs.declared.rows.Row.TheVariants as row
-use Rattle.ocpi_types.specs.declared.rows.RowKey.{RowKey}
+use Rattle.ocpi_types.specs.{AreAlike, Cdr, Counter, Row, RowKey}
+use Rattle.ocpi_types.specs.counter
+use Rattle.ocpi_types.specs.row
 use Rattle.token_desk.specs.Tokens as tokens
-use Rattle.token_desk.specs.TypeOrder.{tokens_total, tokens_exact}
+use Rattle.token_desk.specs.{tokens_exact, tokens_total}
 use Rattle.outbox.specs.OutboxListing as outbox_rows
 use Rattle.outbox.proofs.OutboxRowChanges as outbox_laws
 use Rattle.handover.specs.InboxListing as inbox_rows
 use Rattle.handover.proofs.InboxListed.{rows_are_all}
-use Rattle.node_steps.specs.Peers.{HasPeer}
-use Rattle.provider_rows.specs.Rows.{AreKeyed, HasRow}
-use Rattle.provider_rows.specs.Sound.{IsConsistent, IsSound, with_rows}
-use Rattle.provider_rows.specs.State.{Peering, Rows, State, opening}
-use Rattle.provider_rows.specs.Steps.{restarted}
+use Rattle.node_steps.specs.{HasPeer}
+use Rattle.provider_rows.specs.{AreKeyed, HasRow, IsConsistent, IsSound, Peering, opening, restarted, with_rows}
+use Rattle.provider_rows.specs.State.{Rows, State}
 use Rattle.provider_stored.specs.Bad.{IsBad, IsForeign}
 use Rattle.provider_stored.specs.Bad.IsBad.{Repeated, Foreign, NothingCounted, PushNotGiven, CommandNotGiven, ReferenceNotGiven, NumberShared}
 use Rattle.provider_stored.specs.Bad.IsBad.{OtherToken, OtherSession, OtherCdr, ReferenceNotOwn, PushToStranger, CommandToStranger, PushedTwice, BilledTwice, CreditedTwice}
 use Rattle.provider_stored.specs.Fitting.{given_last}
 use Rattle.provider_stored.specs.Making.{BadRowsAreOfNone, IsMadeOf, RowsMakeAgain, RowsTellAll, StartsAgain}
-use Rattle.stored_rows.specs.Given.{IsNotGiven, IsOwnId}
-use Rattle.stored_rows.specs.declared.fault.BadReason.{BadReason}
+use Rattle.stored_rows.specs.{BadReason, IsNotGiven, IsOwnId}
 use Rattle.stored_rows.proofs.Repeated.{none_repeated}
 use Rattle.provider_stored.proofs.Spoiled.{has_count}
 

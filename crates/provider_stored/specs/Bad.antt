@@ -1,28 +1,17 @@
 -- Why rows are those of no provider with certain peers: which row of the list shows it, wherever it stands, and for
 -- what reason.
 use Rattle.std.specs.Prelude.{◌≡◌, ◌≢◌, ◌⊎◌, ℕ, List, Some, Contains, ⊤}
-use Rattle.ocpi_text.specs.Text.{key}
-use Rattle.ocpi_text.specs.declared.own_ids.OwnIdKind.TheVariants.{AuthorizationReference}
-use Rattle.ocpi_types.specs.Credits.{AreAlike, IsBill, IsCredit}
-use Rattle.ocpi_types.specs.Rows.{key_of}
-use Rattle.ocpi_types.specs.declared.cdrs.Cdr.{Cdr}
-use Rattle.ocpi_types.specs.declared.rows.Counter.{Counter}
-use Rattle.ocpi_types.specs.declared.rows.Counter.TheVariants as counter
-use Rattle.ocpi_types.specs.declared.rows.Row.{Row}
-use Rattle.ocpi_types.specs.declared.rows.Row.TheVariants as row
-use Rattle.ocpi_types.specs.declared.rows.RowKey.{RowKey}
-use Rattle.ocpi_types.specs.declared.rows.RowKey.TheVariants as keys
-use Rattle.ocpi_types.specs.declared.sessions.Session.{Session}
-use Rattle.ocpi_types.specs.declared.stored.Push.{Push}
-use Rattle.ocpi_types.specs.declared.stored.SentCommand.{SentCommand}
-use Rattle.ocpi_types.specs.declared.token.Token.{Token}
-use Rattle.outbox.specs.Pushes.{subject}
-use Rattle.outbox.specs.declared.push_book.Subject.{Subject}
-use Rattle.node_steps.specs.Peers.{HasPeer}
-use Rattle.provider_rows.specs.State.{Peering, reference_of}
-use Rattle.stored_rows.specs.Given.{IsNotGiven, IsOwnId, RepeatsKey}
-use Rattle.stored_rows.specs.declared.fault.BadReason.{BadReason}
-use Rattle.stored_rows.specs.declared.fault.BadReason.TheVariants as reason
+use Rattle.ocpi_text.specs.{AuthorizationReference, key}
+use Rattle.ocpi_types.specs.{AreAlike, Cdr, Counter, IsBill, IsCredit, Push, Row, RowKey, SentCommand, Session, Token}
+use Rattle.ocpi_types.specs.{key_of}
+use Rattle.ocpi_types.specs.counter
+use Rattle.ocpi_types.specs.row
+use Rattle.ocpi_types.specs.keys
+use Rattle.outbox.specs.{Subject, subject}
+use Rattle.node_steps.specs.{HasPeer}
+use Rattle.provider_rows.specs.{Peering, reference_of}
+use Rattle.stored_rows.specs.{BadReason, IsNotGiven, IsOwnId, RepeatsKey}
+use Rattle.stored_rows.specs.reason
 
 -- a provider stores no such row: it has no sessions and no charge points of its own
 abbrev pub IsForeign : Row → Type 0

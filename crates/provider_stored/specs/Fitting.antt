@@ -2,29 +2,17 @@
 use Rattle.std.specs.Prelude.{◌≡◌, ◌≢◌, ◌<◌, ◌≤◌, ℕ, List, ◌∷◌, ◌++◌, Option, Some, None}
 use Rattle.std.specs.List.Sorted.{IsNonDecreasingBy}
 use Rattle.std.specs.FinMap.{get}
-use Rattle.ocpi_text.specs.declared.own_ids.OwnIdKind.TheVariants.{AuthorizationReference}
-use Rattle.ocpi_types.specs.Credits.{IsBill, IsCredit}
-use Rattle.ocpi_types.specs.Rows.{key_of}
-use Rattle.ocpi_types.specs.declared.cdrs.Cdr.{Cdr}
-use Rattle.ocpi_types.specs.declared.rows.Change.TheVariants.{Put}
-use Rattle.ocpi_types.specs.declared.rows.Counter.{Counter}
-use Rattle.ocpi_types.specs.declared.rows.Counter.TheVariants as counter
-use Rattle.ocpi_types.specs.declared.rows.Row.{Row}
-use Rattle.ocpi_types.specs.declared.commands.Command.{Command}
-use Rattle.ocpi_types.specs.declared.stored.SentCommand.{SentCommand}
-use Rattle.outbox.specs.Outbox.{OutboxRows}
-use Rattle.outbox.specs.declared.push_book.Outgoing.{Outgoing}
-use Rattle.provider_rows.specs.Rows.{HasRow}
-use Rattle.provider_rows.specs.Sound.{MayPut}
-use Rattle.provider_rows.specs.State.{Peering, Rows, State, reference_of}
-use Rattle.provider_rows.specs.Steps.{after_change}
+use Rattle.ocpi_text.specs.{AuthorizationReference}
+use Rattle.ocpi_types.specs.{Cdr, Command, Counter, IsBill, IsCredit, Put, Row, SentCommand, key_of}
+use Rattle.ocpi_types.specs.counter
+use Rattle.outbox.specs.{OutboxRows, Outgoing}
+use Rattle.provider_rows.specs.{HasRow, MayPut, Peering, after_change, reference_of}
+use Rattle.provider_rows.specs.State.{Rows, State}
 use Rattle.provider_stored.specs.Bad.{IsBad}
 use Rattle.provider_stored.specs.Making.{IsMadeOf}
 use Rattle.provider_stored.specs.Whole.{IsWhole}
-use Rattle.stored_rows.specs.Given.{IsOwnId}
-use Rattle.stored_rows.specs.Turns.{turn_of}
-use Rattle.stored_rows.specs.declared.fault.BadReason.{BadReason}
-use Rattle.stored_rows.specs.declared.fault.BadReason.TheVariants as reason
+use Rattle.stored_rows.specs.{BadReason, IsOwnId, turn_of}
+use Rattle.stored_rows.specs.reason
 
 -- no row that stands is of a later turn
 abbrev pub IsNext : State → Row → Type 0

@@ -1,14 +1,12 @@
 -- The provider that is made of rows, and the laws of it.
 use Rattle.std.specs.Prelude.{◌≡◌, List}
-use Rattle.ocpi_types.specs.declared.rows.Row.{Row}
-use Rattle.ocpi_types.specs.declared.rows.RowKey.{RowKey}
-use Rattle.provider_rows.specs.Rows.{AreKeyed, AreRowsOf}
-use Rattle.provider_rows.specs.Sound.{IsConsistent, IsSound, with_rows}
-use Rattle.provider_rows.specs.State.{ArePeers, Peering, State, opening}
-use Rattle.provider_rows.specs.Steps.{restarted}
+use Rattle.ocpi_types.specs.{Row, RowKey}
+use Rattle.provider_rows.specs.{AreKeyed, ArePeers, AreRowsOf, IsConsistent, IsSound, Peering, opening, restarted}
+use Rattle.provider_rows.specs.{with_rows}
+use Rattle.provider_rows.specs.State.{State}
 use Rattle.provider_stored.specs.Bad.{IsBad}
 use Rattle.provider_stored.specs.Whole.{IsWhole}
-use Rattle.stored_rows.specs.declared.fault.BadReason.{BadReason}
+use Rattle.stored_rows.specs.{BadReason}
 
 -- a provider with these peers that has just these rows: each request that waits is due at once
 pub record IsMadeOf (peers : Peering) (rows : List Row) (s : State) : Type 0 where

@@ -1,11 +1,11 @@
 //! Which rows may be put beside those that stand, and what is wrong with the others.
 
 ghost use Rattle.std.specs.Prelude.{◌≡◌, ◌↔◌, IfNone, IfSome, IsTrue, option_copied};
-ghost use Rattle.ocpi_text.specs.Text.{key};
-ghost use Rattle.ocpi_types.specs.declared.rows.Row.TheVariants as row;
-ghost use Rattle.node_steps.specs.Peers.{HasPeer};
-ghost use Rattle.handover.specs.Inbox.{IsInConflict};
-ghost use Rattle.provider_rows.specs.State.{reference_of};
+ghost use Rattle.ocpi_text.specs.{key};
+ghost use Rattle.ocpi_types.specs.row;
+ghost use Rattle.node_steps.specs.{HasPeer};
+ghost use Rattle.handover.specs.{IsInConflict};
+ghost use Rattle.provider_rows.specs.{reference_of};
 ghost use Rattle.provider_stored.specs.Fitting.{
   HasOwnReference,
   HasStrangeReference,

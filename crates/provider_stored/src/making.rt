@@ -2,17 +2,14 @@
 
 ghost use Rattle.std.specs.Prelude.{◌≡◌, ◌∷◌, ◌++◌, [], List, IfErr, IfNone, IfOk, IfSome, OnOk};
 ghost use Rattle.std.specs.List.Sorted.{IsNonDecreasingBy};
-ghost use Rattle.ocpi_types.specs.Rows.{key_of};
+ghost use Rattle.ocpi_types.specs.{key_of};
 ghost use Rattle.ocpi_types.specs.declared.rows.Row as types;
-ghost use Rattle.provider_rows.specs.Rows.{AreKeyed};
-ghost use Rattle.provider_rows.specs.Sound.{IsConsistent};
-ghost use Rattle.provider_rows.specs.State.{Peering, State, opening};
-ghost use Rattle.provider_rows.specs.Steps.{restarted};
+ghost use Rattle.provider_rows.specs.{AreKeyed, IsConsistent, Peering, opening, restarted};
+ghost use Rattle.provider_rows.specs.State.{State};
 ghost use Rattle.provider_stored.specs.Bad.{IsBad};
 ghost use Rattle.provider_stored.specs.Fitting.{IsNext};
 ghost use Rattle.provider_stored.specs.Making.{IsMadeOf, StartsAgain};
-ghost use Rattle.stored_rows.specs.Faults.{IfBadRows};
-ghost use Rattle.stored_rows.specs.Turns.{turn_of};
+ghost use Rattle.stored_rows.specs.{IfBadRows, turn_of};
 
 use crate::fitting::row_fault;
 use ocpi_types::Row;

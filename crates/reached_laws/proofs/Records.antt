@@ -1,26 +1,24 @@
 -- The charge detail records of an operator of a reached world: for whom they are, what a credit has of its bill, and what
 -- an order comes to.
-use Rattle.std.proofs.Common.{◌≡◌, ◌<◌, ◌++◌, ℕ, true, false, List, [], ◌∷◌, inl, inr, refl, sym, ap, subst, ◌∙◌}
-use Rattle.std.specs.Prelude.{Bool, Option, Some, None, Contains, codes, is_some}
+use Rattle.std.proofs.Common.{◌≡◌, ◌<◌, ◌++◌, ℕ, true, false, List, [], ◌∷◌, inl, inr, refl, sym, ap, subst, ◌∙◌, Bool}
+use Rattle.std.proofs.Common.{Option, Some, None, Contains, codes, is_some}
 use Rattle.std.specs.Char.{to_ascii_uppercase}
 use Rattle.std.specs.FinMap.{get, get-empty}
 use Rattle.std.proofs.lemmas.List.{append_cancel_right, map-append}
-use Rattle.tables.specs.Keys.{text_cmp}
+use Rattle.tables.specs.{text_cmp}
 use Rattle.tables.proofs.Options.{none_some}
-use Rattle.ocpi_text.specs.Text.{key}
-use Rattle.ocpi_text.specs.declared.own_ids.OwnIdKind.TheVariants as own
-use Rattle.ocpi_types.specs.Credits.{IsBill, IsCredit, IsCreditOf}
-use Rattle.ocpi_types.specs.declared.cdrs.Cdr.{Cdr}
-use Rattle.ocpi_types.specs.declared.site.SiteLine.{SiteLine}
-use Rattle.ocpi_types.specs.declared.stored.Push.TheVariants as push
-use Rattle.stored_rows.specs.Records.{record_id_text}
+use Rattle.ocpi_text.specs.{key}
+use Rattle.ocpi_text.specs.own
+use Rattle.ocpi_types.specs.{Cdr, IsBill, IsCredit, IsCreditOf, SiteLine}
+use Rattle.ocpi_types.specs.push
+use Rattle.stored_rows.specs.{record_id_text}
 use Rattle.stored_rows.proofs.CreditIds.{no_credit_id}
 use Rattle.node_laws.proofs.Runs.{kept_runs}
-use Rattle.node_steps.specs.Peers.{HasPeer}
-use Rattle.operator_rows.specs.Sound.{IsConsistent}
-use Rattle.operator_rows.specs.State.{State, opening}
+use Rattle.node_steps.specs.{HasPeer}
+use Rattle.operator_rows.specs.{IsConsistent, opening}
+use Rattle.operator_rows.specs.State.{State}
 use Rattle.operator_rows.proofs.KeepingTimes.{opening_consistent}
-use Rattle.operator_steps.specs.Events.{Event, Happens}
+use Rattle.operator_steps.specs.{Event, Happens}
 use Rattle.operator_laws.specs.Laws.{IsOfParty, Run}
 use Rattle.operator_laws.specs.Sessions.{IsPushStanding, WasTaken}
 use Rattle.operator_laws.proofs.events.Doing.{does}
@@ -32,10 +30,10 @@ use Rattle.session_laws.proofs.Billing.{puts_records, record_from, records_stay}
 use Rattle.session_laws.proofs.Doing as session_events
 use Rattle.stored_laws.proofs.Operators.{operators_are_whole}
 use Rattle.credit_laws.proofs.Orders.{orders_take_bills_back}
-use Rattle.world_laws.specs.Laws.{IsReached}
-use Rattle.world_laws.specs.Nodes.{OperatorOf}
+use Rattle.world_laws.specs.{IsReached, OperatorOf}
 use Rattle.world_laws.proofs.NodeRuns.{line_of, operator_at}
-use Rattle.world_steps.specs.World.{Place, World}
+use Rattle.world_steps.specs.{Place}
+use Rattle.world_steps.specs.World.{World}
 use Rattle.world_steps.proofs.Tracing.{traced}
 use Rattle.reached_laws.specs.Records.{CreditIdsDiffer, CreditsAreOfBills, IsNumbered, OrdersTakeAnyBillBack, RecordsAreToPeers, bill_id, credit_id}
 

@@ -1,33 +1,29 @@
 -- What a world refuses for a reason is carried out in no way.
-use Rattle.std.proofs.Common.{◌≡◌, ◌+◌, ℕ, List, [], sym, ap, subst, ◌∙◌, arith}
-use Rattle.std.specs.Prelude.{◌≢◌, Some, Contains, slice_get}
-use Rattle.ocpi_text.specs.Text.{key}
-use Rattle.ocpi_types.specs.Locations.{AreLocations}
-use Rattle.ocpi_types.specs.declared.events.Event.{Event}
-use Rattle.ocpi_types.specs.declared.events.EventKind.{EventKind}
-use Rattle.ocpi_types.specs.declared.events.EventKind.TheVariants as kind
-use Rattle.ocpi_types.specs.declared.packet.Packet.{Packet}
-use Rattle.ocpi_types.specs.declared.setup.Node.{Node}
-use Rattle.ocpi_types.specs.declared.setup.Node.TheVariants as node
-use Rattle.ocpi_types.specs.declared.site.Site.{Site}
+use Rattle.std.proofs.Common.{◌≡◌, ◌+◌, ℕ, List, [], sym, ap, subst, ◌∙◌, arith, ◌≢◌, Some, Contains, slice_get}
+use Rattle.ocpi_text.specs.{key}
+use Rattle.ocpi_types.specs.{AreLocations, Event, EventKind, Node, Packet, Site}
+use Rattle.ocpi_types.specs.kind
+use Rattle.ocpi_types.specs.node
 use Rattle.node_laws.proofs.Runs.{kept_runs}
-use Rattle.node_steps.specs.declared.fault.NodeFault.{NodeFault}
-use Rattle.node_steps.specs.declared.fault.NodeFault.TheVariants.{Memory}
+use Rattle.node_steps.specs.{Memory, NodeFault}
 use Rattle.operator_rows.specs.State as operator_state
 use Rattle.operator_steps.specs.Events as operator
 use Rattle.operator_laws.proofs.events.Doing.{does}
 use Rattle.provider_steps.specs.Events as provider
 use Rattle.refusal_laws.specs.Refusals.{HasLocations}
 use Rattle.refusal_laws.proofs.Refusing.{refusals_exclude_steps}
-use Rattle.stored_laws.specs.Nodes.{CanStartAgain}
+use Rattle.stored_laws.specs.{CanStartAgain}
 use Rattle.stored_laws.proofs.Starting.{nodes_can_start_again, openings_can_start_again}
-use Rattle.world_laws.specs.Laws.{IsSetup}
+use Rattle.world_laws.specs.{IsSetup}
 use Rattle.world_laws.proofs.NodeRuns.{one_place}
-use Rattle.world_steps.specs.Network.{Input, OfOperator, OfProvider, OperatorInput, ProviderInput, Reaches, WasSent}
+use Rattle.world_steps.specs.{AtOperator, AtProvider, Does, Gives, Histories, Input, IsAt, IsForNone, Loses, NoNode}
+use Rattle.world_steps.specs.{NodeEvent, NodeRefuses, NodeState, NodeStep, NothingReaches, OfOperator, OfProvider}
+use Rattle.world_steps.specs.{Operates, OperatorDoes, OperatorInput, Outcome, Passes, Place, ProviderInput, Provides}
+use Rattle.world_steps.specs.{Reaches, Refused, Refuses, Skipped, Stepped, WasSent, WorldRun, changes_of, input_of}
+use Rattle.world_steps.specs.{opened, opening_of, packets_of, place_of}
 use Rattle.world_steps.specs.Steps as steps
-use Rattle.world_steps.specs.Steps.{AtOperator, AtProvider, Does, Gives, IsForNone, Loses, NoNode, NodeEvent, NodeRefuses, NodeStep, NothingReaches, OperatorDoes, Outcome, Passes, Refused, Refuses, Skipped, Stepped, WorldRun, changes_of, input_of, packets_of}
-use Rattle.world_steps.specs.Traces.{Histories, Traces}
-use Rattle.world_steps.specs.World.{IsAt, NodeState, Operates, Place, Provides, World, opened, opening_of, place_of}
+use Rattle.world_steps.specs.Traces.{Traces}
+use Rattle.world_steps.specs.World.{World}
 use Rattle.world_steps.proofs.Places.{got_within, is_in, of_mapped, some_same, stands}
 use Rattle.world_steps.proofs.Tracing.{traced}
 use Rattle.reached_laws.specs.Refused.{IsOfLocations, IsRefusal, RefusedIsNotCarriedOut}

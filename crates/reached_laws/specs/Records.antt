@@ -2,17 +2,17 @@
 -- and credit_reference_id). It is said of the members of the records themselves: a record that names another is a credit.
 use Rattle.std.specs.Prelude.{◌≡◌, ◌<◌, ◌≤◌, ◌++◌, ℕ, List, Some, None, codes, neg_ℤ}
 use Rattle.std.specs.FinMap.{get}
-use Rattle.ocpi_text.specs.OwnIds.{own_id_text}
-use Rattle.ocpi_text.specs.Text.{key}
-use Rattle.ocpi_text.specs.declared.own_ids.OwnIdKind.TheVariants as own
-use Rattle.ocpi_types.specs.declared.cdrs.Cdr.{Cdr}
-use Rattle.node_steps.specs.Peers.{HasPeer}
+use Rattle.ocpi_text.specs.{key, own_id_text}
+use Rattle.ocpi_text.specs.own
+use Rattle.ocpi_types.specs.{Cdr}
+use Rattle.node_steps.specs.{HasPeer}
 use Rattle.operator_rows.specs.State.{State}
-use Rattle.operator_steps.specs.Events.{Credits, Event}
+use Rattle.operator_steps.specs.{Event}
+use Rattle.operator_steps.specs.Events.{Credits}
 use Rattle.credit_laws.specs.Laws.{IsCarriedOut, IsUntaken, TakesBack}
-use Rattle.world_laws.specs.Laws.{IsReached}
-use Rattle.world_laws.specs.Nodes.{OperatorOf}
-use Rattle.world_steps.specs.World.{Place, World}
+use Rattle.world_laws.specs.{IsReached, OperatorOf}
+use Rattle.world_steps.specs.{Place}
+use Rattle.world_steps.specs.World.{World}
 
 -- it holds of each operator of each world that a run reaches
 abbrev pub OfOperators : (State → Type 0) → Type 0

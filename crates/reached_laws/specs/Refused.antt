@@ -1,13 +1,11 @@
 -- What a world refuses, it does not do: neither that world nor another that the event might lead to.
 use Rattle.std.specs.Prelude.{◌≡◌, List, Contains, ⊤}
-use Rattle.node_steps.specs.declared.fault.NodeFault.{NodeFault}
-use Rattle.ocpi_types.specs.Locations.{AreLocations}
-use Rattle.ocpi_types.specs.declared.events.Event.{Event}
-use Rattle.ocpi_types.specs.declared.setup.Node.{Node}
-use Rattle.ocpi_types.specs.declared.setup.Node.TheVariants as node
-use Rattle.world_laws.specs.Laws.{IsSetup}
-use Rattle.world_steps.specs.Steps.{Gives, Outcome, Refused, WorldRun}
-use Rattle.world_steps.specs.World.{World, opened}
+use Rattle.node_steps.specs.{NodeFault}
+use Rattle.ocpi_types.specs.{AreLocations, Event, Node}
+use Rattle.ocpi_types.specs.node
+use Rattle.world_laws.specs.{IsSetup}
+use Rattle.world_steps.specs.{Gives, Outcome, Refused, WorldRun, opened}
+use Rattle.world_steps.specs.World.{World}
 
 -- the locations of the node's site, if it is an operator, are what the type `Locations` keeps: no two have one id (OCPI
 -- 2.2.1, Locations: Location object)

@@ -1,8 +1,7 @@
 -- What an audit's fault is told of are no receipts of the history.
-use Rattle.std.proofs.Common.{arith, ◌≡◌, inl, inr, ℕ, ◌<◌, List, length, refl, sym, ◌∙◌, subst}
-use Rattle.std.specs.Prelude.{Some, slice_get}
+use Rattle.std.proofs.Common.{arith, ◌≡◌, inl, inr, ℕ, ◌<◌, List, length, refl, sym, ◌∙◌, subst, Some, slice_get}
 use Rattle.std.proofs.lemmas.Option.{slice_get_within}
-use Rattle.histories.specs.declared.entry.Entry.{Entry}
+use Rattle.histories.specs.{Entry}
 use Rattle.receipts.specs.declared.receipt.Receipt.{Receipt}
 use Rattle.receipts.specs.declared.fault.AuditFault.TheVariants.{Missing, Differs, Memory}
 use Rattle.receipts.specs.Audits.{AreReceiptsOf, FaultsExclude, IsReached, entry_of}

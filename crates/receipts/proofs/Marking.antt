@@ -1,8 +1,8 @@
 -- How an audit goes on from one receipt to the next.
-use Rattle.std.proofs.Common.{rules, arith, ◌≡◌, ◌≢◌, ◌⊎◌, inl, inr, ℕ, ◌+◌, ◌<◌, List, Bool, true, false, length, set, get_or, get_or-set_same, get_or-set_other, sym, ◌∙◌, ap, subst}
-use Rattle.std.specs.Prelude.{Some, slice_get}
+use Rattle.std.proofs.Common.{rules, arith, ◌≡◌, ◌≢◌, ◌⊎◌, inl, inr, ℕ, ◌+◌, ◌<◌, List, Bool, true, false, length, set}
+use Rattle.std.proofs.Common.{get_or, get_or-set_same, get_or-set_other, sym, ◌∙◌, ap, subst, Some, slice_get}
 use Rattle.std.proofs.lemmas.Bool.{cases_lt, cases_eq}
-use Rattle.histories.specs.declared.entry.Entry.{Entry}
+use Rattle.histories.specs.{Entry}
 use Rattle.receipts.specs.declared.receipt.Receipt.{Receipt}
 use Rattle.receipts.specs.Audits.{AreApart, AreEntered, IsEntered, IsTaken}
 

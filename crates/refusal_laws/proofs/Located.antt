@@ -1,10 +1,8 @@
 -- A location of a site is found by its id.
-use Rattle.std.proofs.Common.{◌≡◌, ℕ, List, [], sym, ap, ◌∙◌}
-use Rattle.std.specs.Prelude.{Some, slice_get}
-use Rattle.ocpi_text.specs.Text.{key}
-use Rattle.ocpi_types.specs.Locations.{AreLocations, location_keys}
-use Rattle.ocpi_types.specs.declared.site.Location.{Location}
-use Rattle.site_book.specs.Sites.{IsLocation}
+use Rattle.std.proofs.Common.{◌≡◌, ℕ, List, [], sym, ap, ◌∙◌, Some, slice_get}
+use Rattle.ocpi_text.specs.{key}
+use Rattle.ocpi_types.specs.{AreLocations, Location, location_keys}
+use Rattle.site_book.specs.{IsLocation}
 use Rattle.site_book.proofs.Apart.{at_id, one_place, place}
 
 -- two of one id are one

@@ -1,53 +1,34 @@
 -- What a packet takes of an operator's numbers is one thing.
-use Rattle.std.proofs.Common.{◌≡◌, ◌+◌, ◌++◌, ℕ, List, [], ◌∷◌, inl, inr, refl, sym, ap, subst, ◌∙◌}
-use Rattle.std.specs.Prelude.{◌⊎◌, Option, Some, None}
+use Rattle.std.proofs.Common.{◌≡◌, ◌+◌, ◌++◌, ℕ, List, [], ◌∷◌, inl, inr, refl, sym, ap, subst, ◌∙◌, ◌⊎◌, Option, Some}
+use Rattle.std.proofs.Common.{None}
 use Rattle.std.specs.FinMap.{get}
 use Rattle.tables.proofs.Options.{not_both}
-use Rattle.ocpi_text.specs.Text.{key}
-use Rattle.ocpi_types.specs.Locations.{AreLocations}
-use Rattle.ocpi_types.specs.declared.authorizations.Authorization.{Authorization}
-use Rattle.ocpi_types.specs.declared.commands.CancelReservation.{CancelReservation}
-use Rattle.ocpi_types.specs.declared.commands.Command.{Command}
-use Rattle.ocpi_types.specs.declared.commands.Command.TheVariants as command
-use Rattle.ocpi_types.specs.declared.commands.ReserveNow.{ReserveNow}
-use Rattle.ocpi_types.specs.declared.commands.StartSession.{StartSession}
-use Rattle.ocpi_types.specs.declared.commands.StopSession.{StopSession}
-use Rattle.ocpi_types.specs.declared.commands.UnlockConnector.{UnlockConnector}
-use Rattle.ocpi_types.specs.declared.packet.Body.TheVariants as body
-use Rattle.ocpi_types.specs.declared.packet.Packet.{Packet}
-use Rattle.ocpi_types.specs.declared.replies.Ack.{Ack}
-use Rattle.ocpi_types.specs.declared.rows.Counter.TheVariants as counter
-use Rattle.ocpi_types.specs.declared.site.Connector.{Connector}
-use Rattle.ocpi_types.specs.declared.site.Evse.{Evse}
-use Rattle.ocpi_types.specs.declared.site.Location.{Location}
-use Rattle.ocpi_types.specs.declared.stored.OpenCommand.{OpenCommand}
-use Rattle.ocpi_types.specs.declared.stored.Reply.{Reply}
-use Rattle.ocpi_types.specs.declared.token.Token.{Token}
-use Rattle.ocpi_types.specs.declared.words.CommandResultType.{CommandResultType}
-use Rattle.reservation_book.specs.Refusals.{IsHere, IsInTime}
-use Rattle.site_book.specs.Sites.{IsEvseFor}
-use Rattle.authorization_book.specs.declared.awaited.Awaited.{Awaited}
+use Rattle.ocpi_text.specs.{key}
+use Rattle.ocpi_types.specs.{Ack, AreLocations, Authorization, CancelReservation, Command, CommandResultType, Connector}
+use Rattle.ocpi_types.specs.{Evse, Location, OpenCommand, Packet, Reply, ReserveNow, Session, StartSession, StopSession}
+use Rattle.ocpi_types.specs.{Token, UnlockConnector}
+use Rattle.ocpi_types.specs.command
+use Rattle.ocpi_types.specs.body
+use Rattle.ocpi_types.specs.counter
+use Rattle.reservation_book.specs.{IsHere, IsInTime}
+use Rattle.site_book.specs.{IsEvseFor}
+use Rattle.authorization_book.specs.{Awaited}
 use Rattle.command_book.specs.Stored as book
-use Rattle.node_steps.specs.Acts.{Act, answered}
+use Rattle.node_steps.specs.{Act, answered}
 use Rattle.operator_rows.specs.State.{State}
 use Rattle.operator_tables.specs.Cancel as cancel
-use Rattle.operator_tables.specs.Decides.{Decides, result_of}
-use Rattle.operator_tables.specs.Places.{HasService}
+use Rattle.operator_tables.specs.{Decision, HasService, result_of}
+use Rattle.operator_tables.specs.Decides.{Decides}
 use Rattle.operator_tables.specs.Reserve as reserve
 use Rattle.operator_tables.specs.Start as start
 use Rattle.operator_tables.specs.Stop as stop
 use Rattle.operator_tables.specs.Unlock as unlock
-use Rattle.operator_tables.specs.declared.decision.Decision.{Decision}
-use Rattle.operator_tables.specs.declared.decision.Decision.TheVariants as decision
-use Rattle.operator_steps.specs.Acts.{deadline, decided_acts, opened, reference_of, reply_of, spent, used}
-use Rattle.operator_steps.specs.Asking.{AnswerActs, IsAwaited}
-use Rattle.operator_steps.specs.Moves.{Work}
-use Rattle.operator_steps.specs.Sessions.{IsBegun, IsVersioned, numbered_sessions, versioned}
+use Rattle.operator_tables.specs.decision
+use Rattle.operator_steps.specs.{AnswerActs, Comes, IsAwaited, IsBegun, IsTaken, IsVersioned, PacketLine, TokenLine}
+use Rattle.operator_steps.specs.{Work, deadline, decided_acts, numbered_sessions, opened, reference_of, reply_of, spent}
+use Rattle.operator_steps.specs.{used, versioned}
 use Rattle.operator_steps.specs.Steps as packets
-use Rattle.operator_steps.specs.Steps.{Comes, IsTaken, PacketLine, TokenLine}
-use Rattle.ocpi_types.specs.declared.sessions.Session.{Session}
-use Rattle.session_tables.specs.declared.beginning.Beginning.{Beginning}
-use Rattle.session_tables.specs.Answers.{BeginsByAnswer, Decided}
+use Rattle.session_tables.specs.{Beginning, BeginsByAnswer, Decided}
 use Rattle.refusal_laws.proofs.Located.{one_location}
 use Rattle.refusal_laws.proofs.Tallies.{Takes, Tally, both, nothing, one_way, takes, tally, tally_after, tally_both}
 

@@ -1,23 +1,14 @@
 -- What an operator refuses, it does not do.
-use Rattle.std.proofs.Common.{◌≡◌, ℕ, List, refl, sym, subst}
-use Rattle.std.specs.Prelude.{◌≢◌}
-use Rattle.ocpi_types.specs.Locations.{AreLocations}
-use Rattle.ocpi_types.specs.declared.events.ChargerEvent.{ChargerEvent}
-use Rattle.ocpi_types.specs.declared.packet.Packet.{Packet}
-use Rattle.node_steps.specs.Acts.{Act}
-use Rattle.node_steps.specs.Drafts.{IsInRange, later}
-use Rattle.node_steps.specs.declared.fault.NodeFault.{NodeFault}
-use Rattle.node_steps.specs.declared.fault.NodeFault.TheVariants.{NotForMe, UnknownOperator, UnknownToken, StampEnd, NumbersUsedUp, Memory}
+use Rattle.std.proofs.Common.{◌≡◌, ℕ, List, refl, sym, subst, ◌≢◌}
+use Rattle.ocpi_types.specs.{AreLocations, ChargerEvent, Packet}
+use Rattle.node_steps.specs.{Act, IsInRange, Memory, NodeFault, NotForMe, NumbersUsedUp, StampEnd, UnknownOperator}
+use Rattle.node_steps.specs.{UnknownToken, later}
 use Rattle.operator_rows.specs.State.{State}
-use Rattle.operator_rows.specs.Sound.{IsConsistent}
-use Rattle.operator_steps.specs.Charger.{ChargerLine}
-use Rattle.operator_steps.specs.Credits.{CreditLine}
-use Rattle.operator_steps.specs.Events.{Arrives, Asks, Credits, Input, Reports, Restarts, Serves, Ticks}
-use Rattle.operator_steps.specs.Faults.{PassesLast}
-use Rattle.operator_steps.specs.Moves.{AreInRange, Out, Quietly, StepBy, Work, counters_of}
-use Rattle.operator_steps.specs.Steps.{Comes}
-use Rattle.operator_steps.specs.Tick.{TickLine}
-use Rattle.world_steps.specs.Steps.{OperatorRefuses}
+use Rattle.operator_rows.specs.{IsConsistent}
+use Rattle.operator_steps.specs.{AreInRange, Arrives, Asks, ChargerLine, Comes, CreditLine, Input, Out, PassesLast}
+use Rattle.operator_steps.specs.{Quietly, Reports, Restarts, Serves, StepBy, TickLine, Ticks, Work, counters_of}
+use Rattle.operator_steps.specs.Events.{Credits}
+use Rattle.world_steps.specs.{OperatorRefuses}
 use Rattle.refusal_laws.proofs.OperatorPackets.{is_taken, one_packet}
 use Rattle.refusal_laws.proofs.OperatorReports.{no_credit_after, no_report_after, one_credit, one_report}
 use Rattle.refusal_laws.proofs.OperatorTicks.{one_moment}

@@ -1,56 +1,39 @@
 -- What a report, or an order to take a bill back, takes of an operator's numbers is one thing; and where it has no
 -- later moment, it is not carried out.
-use Rattle.std.proofs.Common.{◌≡◌, ◌<◌, ◌+◌, ◌++◌, ℕ, true, false, List, [], ◌∷◌, inl, inr, refl, sym, ap, subst, ◌∙◌, arith}
-use Rattle.std.specs.Prelude.{Option, Some, None, is_some}
+use Rattle.std.proofs.Common.{◌≡◌, ◌<◌, ◌+◌, ◌++◌, ℕ, true, false, List, [], ◌∷◌, inl, inr, refl, sym, ap, subst, ◌∙◌}
+use Rattle.std.proofs.Common.{arith, Option, Some, None, is_some}
 use Rattle.std.specs.FinMap.{get}
 use Rattle.std.specs.Ordering.{is_gt, ordering_reverse}
 use Rattle.std.specs.declared.cmp.Ordering.{Ordering}
 use Rattle.std.specs.declared.cmp.Ordering.TheVariants.{Less, Equal, Greater}
-use Rattle.tables.specs.Keys.{text_cmp, text_exact, text_total}
-use Rattle.ocpi_text.specs.Moment.{last_moment}
-use Rattle.ocpi_text.specs.Text.{key}
-use Rattle.ocpi_types.specs.declared.cdrs.Cdr.{Cdr}
-use Rattle.ocpi_types.specs.declared.commands.Command.{Command}
-use Rattle.ocpi_types.specs.declared.commands.Command.TheVariants as command
-use Rattle.ocpi_types.specs.declared.events.ChargerEvent.{ChargerEvent}
-use Rattle.ocpi_types.specs.declared.events.ChargerEvent.TheVariants as event
-use Rattle.ocpi_types.specs.declared.rows.Counter.TheVariants as counter
-use Rattle.ocpi_types.specs.declared.rows.Place.{Place}
-use Rattle.ocpi_types.specs.declared.sessions.Session.{Session}
-use Rattle.ocpi_types.specs.declared.site.Connector.{Connector}
-use Rattle.ocpi_types.specs.declared.site.Evse.{Evse}
-use Rattle.ocpi_types.specs.declared.site.Location.{Location}
-use Rattle.ocpi_types.specs.declared.stored.OpenCommand.{OpenCommand}
-use Rattle.ocpi_types.specs.declared.token.Token.{Token}
-use Rattle.ocpi_types.specs.declared.words.CommandResultType.{CommandResultType}
-use Rattle.ocpi_types.specs.declared.words.SessionStatus.TheVariants.{Completed}
-use Rattle.ocpi_types.specs.declared.words.TokenType.{TokenType}
-use Rattle.ocpi_types.specs.declared.words.WhitelistType.{WhitelistType}
-use Rattle.ocpi_types.specs.declared.words.WhitelistType.TheVariants.{Always, Allowed, AllowedOffline, Never}
-use Rattle.site_book.specs.declared.claim.Claim.{Claim}
-use Rattle.site_book.specs.declared.claim.Claim.TheVariants.{Live, OpenStart, Reserved}
+use Rattle.tables.specs.{text_cmp, text_exact, text_total}
+use Rattle.ocpi_text.specs.{key, last_moment}
+use Rattle.ocpi_types.specs.{AllowedOffline, Always, Cdr, ChargerEvent, Command, CommandResultType, Completed}
+use Rattle.ocpi_types.specs.{Connector, Evse, Location, Never, OpenCommand, Place, Session, Token, TokenType}
+use Rattle.ocpi_types.specs.{WhitelistType}
+use Rattle.ocpi_types.specs.command
+use Rattle.ocpi_types.specs.event
+use Rattle.ocpi_types.specs.counter
+use Rattle.ocpi_types.specs.declared.words.WhitelistType.TheVariants.{Allowed}
+use Rattle.site_book.specs.{Claim, Live, OpenStart, Reserved}
 use Rattle.token_desk.specs.Swipes as desk
 use Rattle.token_desk.specs.Tokens.{Tokens}
-use Rattle.token_desk.specs.declared.answers.Swipe.{Swipe}
-use Rattle.token_desk.specs.declared.answers.Swipe.TheVariants as told
-use Rattle.node_steps.specs.Acts.{Act}
-use Rattle.operator_rows.specs.State.{OneClaimEach, State}
-use Rattle.session_tables.specs.Moves.{IsSessionAt, Moves, MovesNone, charging_at}
+use Rattle.token_desk.specs.{Swipe}
+use Rattle.token_desk.specs.told
+use Rattle.node_steps.specs.{Act}
+use Rattle.operator_rows.specs.{OneClaimEach}
+use Rattle.operator_rows.specs.State.{State}
+use Rattle.session_tables.specs.{Asks, Beginning, Begins, IsOpenTo, IsSessionAt, MovesNone, Nothing, Shown, SwipeLine}
+use Rattle.session_tables.specs.{charging_at, id_of, provider_of, told_by}
+use Rattle.session_tables.specs.Moves.{Moves}
 use Rattle.session_tables.specs.Swipes as swipes
-use Rattle.session_tables.specs.Swipes.{IsOpenTo, SwipeLine, id_of, provider_of, told_by}
-use Rattle.session_tables.specs.declared.beginning.Beginning.{Beginning}
-use Rattle.session_tables.specs.declared.shown.Shown.{Shown}
-use Rattle.session_tables.specs.declared.shown.Shown.TheVariants.{Asks, Begins, Nothing}
 use Rattle.session_tables.proofs.Following.{are_one}
-use Rattle.operator_steps.specs.declared.ending.Ending.{Ending}
+use Rattle.operator_steps.specs.{ChargerLine, CreditLine, CreditsTo, Ending, EndsBy, HasNoCreditStamp, HasNoStamp}
+use Rattle.operator_steps.specs.{IsBilled, IsEnded, IsMoved, IsStarted, Quietly, Shows, Work, ends_acts}
+use Rattle.operator_steps.specs.{numbered_sessions}
 use Rattle.operator_steps.specs.Charger as charger
-use Rattle.operator_steps.specs.Charger.{ChargerLine, EndsBy, IsEnded, IsStarted, Shows}
 use Rattle.operator_steps.specs.Credits as credits
-use Rattle.operator_steps.specs.Credits.{CreditLine, CreditsTo, HasNoCreditStamp}
-use Rattle.operator_steps.specs.Ends.{ends_acts}
-use Rattle.operator_steps.specs.Moves.{Quietly, Work}
 use Rattle.operator_steps.specs.Sessions as sessions
-use Rattle.operator_steps.specs.Sessions.{HasNoStamp, IsBilled, IsMoved, numbered_sessions}
 use Rattle.refusal_laws.proofs.OperatorPackets.{begun_tally, numbered_tally, version_tally, work_tally}
 use Rattle.refusal_laws.proofs.Tallies.{Takes, Tally, both, nothing, one_way, takes, tally, tally_both}
 

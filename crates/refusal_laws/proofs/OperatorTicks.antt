@@ -1,38 +1,29 @@
 -- What a moment takes of an operator's numbers is one thing.
-use Rattle.std.proofs.Common.{◌≡◌, ◌<◌, ◌+◌, ◌++◌, ℕ, List, [], ◌∷◌, length, map, inl, inr, refl, sym, ap, subst, ◌∙◌, arith}
-use Rattle.std.specs.Prelude.{Option, Some, None, Contains}
+use Rattle.std.proofs.Common.{◌≡◌, ◌<◌, ◌+◌, ◌++◌, ℕ, List, [], ◌∷◌, length, map, inl, inr, refl, sym, ap, subst, ◌∙◌}
+use Rattle.std.proofs.Common.{arith, Option, Some, None, Contains}
 use Rattle.std.specs.Ordering.{ordering_reverse}
 use Rattle.std.specs.declared.cmp.Ordering.TheVariants.{Less, Greater}
 use Rattle.std.proofs.lemmas.List.{length-map}
-use Rattle.tables.specs.Keys.{text_number_cmp, text_number_total}
+use Rattle.tables.specs.{text_number_cmp, text_number_total}
 use Rattle.tables.proofs.Elements.{in_front, in_none, in_single, not_none}
-use Rattle.ocpi_text.specs.Text.{key}
-use Rattle.ocpi_types.specs.declared.rows.Change.{Change}
-use Rattle.ocpi_types.specs.declared.rows.Change.TheVariants.{Drop, Put}
-use Rattle.ocpi_types.specs.declared.rows.Counter.TheVariants as counter
-use Rattle.ocpi_types.specs.declared.rows.RowKey.TheVariants as keys
-use Rattle.ocpi_types.specs.declared.rows.Row.TheVariants as row
-use Rattle.ocpi_types.specs.declared.sessions.Session.{Session}
-use Rattle.ocpi_types.specs.declared.stored.Push.TheVariants as push
-use Rattle.authorization_book.specs.declared.awaited.Awaited.{Awaited}
+use Rattle.ocpi_text.specs.{key}
+use Rattle.ocpi_types.specs.{Change, Drop, Put, Session}
+use Rattle.ocpi_types.specs.counter
+use Rattle.ocpi_types.specs.keys
+use Rattle.ocpi_types.specs.row
+use Rattle.ocpi_types.specs.push
+use Rattle.authorization_book.specs.{Awaited}
 use Rattle.command_book.specs.Stored as book
-use Rattle.outbox.specs.Pushes.{IsAbout, IsReplaced}
-use Rattle.reservation_book.specs.declared.standing.Standing.{Standing}
-use Rattle.node_steps.specs.Acts.{Act, all_changes, changed}
-use Rattle.node_steps.specs.Drafts.{count_change}
+use Rattle.outbox.specs.{IsAbout, IsReplaced}
+use Rattle.reservation_book.specs.{Standing}
+use Rattle.node_steps.specs.{Act, all_changes, changed, count_change}
 use Rattle.operator_rows.specs.State.{State}
-use Rattle.operator_rows.specs.Sound.{IsConsistent}
-use Rattle.session_tables.specs.declared.beginning.Beginning.{Beginning}
-use Rattle.session_tables.specs.Answers.{BeginsWithoutAnswer}
-use Rattle.session_tables.specs.Places.{MayTakeAt}
-use Rattle.operator_steps.specs.declared.ending.Ending.{Ending}
-use Rattle.operator_steps.specs.Acts.{freed, used}
-use Rattle.operator_steps.specs.Ends.{all_resent, end_acts, ends_acts, expired_acts}
-use Rattle.operator_steps.specs.Moves.{Work}
-use Rattle.operator_steps.specs.Sessions.{IsBegun, first_of, versioned}
-use Rattle.operator_steps.specs.Tick.{TickLine, request_of}
+use Rattle.operator_rows.specs.{IsConsistent}
+use Rattle.session_tables.specs.{Beginning, BeginsWithoutAnswer, MayTakeAt}
+use Rattle.operator_steps.specs.{AreLeftUnanswered, Ending, IsBegun, IsLeftUnanswered, IsStillDue, IsTickOf, TickLine}
+use Rattle.operator_steps.specs.{Work, all_resent, end_acts, ends_acts, expired_acts, first_of, freed, request_of, used}
+use Rattle.operator_steps.specs.{versioned}
 use Rattle.operator_steps.specs.TickFacts as left
-use Rattle.operator_steps.specs.TickFacts.{AreLeftUnanswered, IsLeftUnanswered, IsStillDue, IsTickOf}
 use Rattle.operator_steps.proofs.Beginning.{replaced_only}
 use Rattle.operator_steps.proofs.BegunChanges.{session_subject}
 use Rattle.operator_steps.proofs.Orderly.{of_cons}

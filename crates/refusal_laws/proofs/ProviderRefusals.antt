@@ -1,42 +1,26 @@
 -- What a provider refuses, it does not do: what an event takes of its numbers is one thing.
-use Rattle.std.proofs.Common.{◌≡◌, ◌<◌, ◌+◌, ◌++◌, ℕ, true, false, List, [], ◌∷◌, length, inl, inr, refl, sym, ap, subst, ◌∙◌, arith}
-use Rattle.std.specs.Prelude.{◌≢◌, ◌⊎◌, Option, Some, None}
+use Rattle.std.proofs.Common.{◌≡◌, ◌<◌, ◌+◌, ◌++◌, ℕ, true, false, List, [], ◌∷◌, length, inl, inr, refl, sym, ap}
+use Rattle.std.proofs.Common.{subst, ◌∙◌, arith, ◌≢◌, ◌⊎◌, Option, Some, None}
 use Rattle.std.specs.FinMap.{get}
 use Rattle.std.proofs.lemmas.List.{length-map}
 use Rattle.tables.proofs.Options.{not_both}
-use Rattle.ocpi_text.specs.Text.{key}
-use Rattle.ocpi_types.specs.declared.authorizations.Authorize.{Authorize}
-use Rattle.ocpi_types.specs.declared.commands.Command.{Command}
-use Rattle.ocpi_types.specs.declared.events.Order.{Order}
-use Rattle.ocpi_types.specs.declared.events.Order.TheVariants as order
-use Rattle.ocpi_types.specs.declared.packet.Body.{Body}
-use Rattle.ocpi_types.specs.declared.packet.Body.TheVariants as body
-use Rattle.ocpi_types.specs.declared.packet.Packet.{Packet}
-use Rattle.ocpi_types.specs.declared.replies.Ack.{Ack}
-use Rattle.ocpi_types.specs.declared.replies.CommandResponse.{CommandResponse}
-use Rattle.ocpi_types.specs.declared.rows.Counter.TheVariants as counter
-use Rattle.ocpi_types.specs.declared.stored.Push.TheVariants as push
-use Rattle.ocpi_types.specs.declared.stored.Reply.{Reply}
-use Rattle.ocpi_types.specs.declared.token.Token.{Token}
-use Rattle.token_desk.specs.Authorizing.{IsHeld, asked_type}
-use Rattle.token_desk.specs.Putting.{IsAtEnd}
-use Rattle.node_steps.specs.Acts.{Act, all_requests, answered, commanded, in_turn, pushed}
-use Rattle.node_steps.specs.Drafts.{IsInRange, later}
-use Rattle.node_steps.specs.declared.fault.NodeFault.{NodeFault}
-use Rattle.node_steps.specs.declared.fault.NodeFault.TheVariants.{NotForMe, UnknownOperator, UnknownToken, StampEnd, NumbersUsedUp, Memory}
+use Rattle.ocpi_text.specs.{key}
+use Rattle.ocpi_types.specs.{Ack, Authorize, Body, Command, CommandResponse, Order, Packet, Reply, Token}
+use Rattle.ocpi_types.specs.order
+use Rattle.ocpi_types.specs.body
+use Rattle.ocpi_types.specs.counter
+use Rattle.ocpi_types.specs.push
+use Rattle.token_desk.specs.{IsAtEnd, IsHeld, asked_type}
+use Rattle.node_steps.specs.{Act, IsInRange, Memory, NodeFault, NotForMe, NumbersUsedUp, StampEnd, UnknownOperator}
+use Rattle.node_steps.specs.{UnknownToken, all_requests, answered, commanded, in_turn, later, pushed}
 use Rattle.provider_rows.specs.State.{State}
-use Rattle.provider_steps.specs.Acts.{replaced, stored, token_acts}
-use Rattle.provider_steps.specs.Events.{Arrives, Asks, Gives, Input, Restarts, Submits, Ticks}
-use Rattle.provider_steps.specs.Faults.{PassesLast}
-use Rattle.provider_steps.specs.Moves.{AreInRange, Out, StepBy, counters_of}
+use Rattle.provider_steps.specs.{Answers, AreInRange, Arrives, Asks, Comes, Gives, Input, IsRequest, IsTaken}
+use Rattle.provider_steps.specs.{LacksToken, Makes, OrderLine, Out, PacketLine, PassesLast, Pushing, Restarts, StepBy}
+use Rattle.provider_steps.specs.{Submits, TickLine, Ticks, TokenLine, all_resent, counters_of, next_reference}
+use Rattle.provider_steps.specs.{next_request, replaced, stored, token_acts}
 use Rattle.provider_steps.specs.Orders as orders
-use Rattle.provider_steps.specs.Orders.{LacksToken, Makes, OrderLine, next_reference, next_request}
 use Rattle.provider_steps.specs.Packets as packets
-use Rattle.provider_steps.specs.Packets.{Answers, Comes, IsRequest, IsTaken, PacketLine}
-use Rattle.provider_steps.specs.Tick.{TickLine, all_resent}
-use Rattle.provider_steps.specs.Tokens.{TokenLine}
-use Rattle.provider_steps.specs.declared.pushing.Pushing.{Pushing}
-use Rattle.world_steps.specs.Steps.{ProviderRefuses}
+use Rattle.world_steps.specs.{ProviderRefuses}
 use Rattle.refusal_laws.proofs.Listings.{one_listing}
 use Rattle.refusal_laws.proofs.Tallies.{Takes, Tally, both, nothing, one_way, same_counts, takes, tally, tally_both, tally_parts}
 

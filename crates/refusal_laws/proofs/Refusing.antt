@@ -1,17 +1,15 @@
 -- What a node refuses, it does not do.
-use Rattle.std.proofs.Common.{subst}
-use Rattle.std.specs.Prelude.{◌≢◌}
-use Rattle.node_steps.specs.declared.fault.NodeFault.{NodeFault}
-use Rattle.node_steps.specs.declared.fault.NodeFault.TheVariants.{Memory}
-use Rattle.ocpi_types.specs.Locations.{AreLocations}
-use Rattle.operator_rows.specs.Sound.{IsConsistent}
+use Rattle.std.proofs.Common.{subst, ◌≢◌}
+use Rattle.node_steps.specs.{Memory, NodeFault}
+use Rattle.ocpi_types.specs.{AreLocations}
+use Rattle.operator_rows.specs.{IsConsistent}
 use Rattle.operator_rows.specs.State as operator_state
 use Rattle.operator_steps.specs.Events as operator
 use Rattle.provider_rows.specs.State as provider_state
 use Rattle.provider_steps.specs.Events as provider
 use Rattle.world_steps.specs.Steps as steps
-use Rattle.world_steps.specs.Steps.{AtOperator, AtProvider, OperatorDoes, OperatorRefuses, ProviderDoes, ProviderRefuses}
-use Rattle.world_steps.specs.World.{Operates, Provides}
+use Rattle.world_steps.specs.{AtOperator, AtProvider, Operates, OperatorDoes, OperatorRefuses, ProviderDoes}
+use Rattle.world_steps.specs.{ProviderRefuses, Provides}
 use Rattle.refusal_laws.specs.Refusals.{RefusalsExcludeSteps}
 use Rattle.refusal_laws.proofs.OperatorRefusals.{operator_excludes}
 use Rattle.refusal_laws.proofs.ProviderRefusals.{provider_excludes}

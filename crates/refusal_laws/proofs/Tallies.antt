@@ -1,16 +1,13 @@
 -- How many packets and requests acts take, and which counters they store.
-use Rattle.std.proofs.Common.{◌≡◌, ◌+◌, ◌++◌, ℕ, List, [], ◌∷◌, length, inl, inr, sym, ap, subst, ◌∙◌, arith}
-use Rattle.std.specs.Prelude.{◌⊎◌, Contains}
+use Rattle.std.proofs.Common.{◌≡◌, ◌+◌, ◌++◌, ℕ, List, [], ◌∷◌, length, inl, inr, sym, ap, subst, ◌∙◌, arith, ◌⊎◌}
+use Rattle.std.proofs.Common.{Contains}
 use Rattle.std.specs.List.{flat_map}
 use Rattle.std.proofs.lemmas.List.Concat.{flat_map-append}
 use Rattle.std.proofs.lemmas.List.Elements.{Contains-append_cases, Contains-append_left, Contains-append_right}
 use Rattle.tables.proofs.Elements.{in_front, in_none, in_single}
-use Rattle.ocpi_types.specs.declared.rows.Change.{Change}
-use Rattle.ocpi_types.specs.declared.rows.Change.TheVariants.{Put, Drop}
-use Rattle.ocpi_types.specs.declared.rows.Counter.{Counter}
-use Rattle.ocpi_types.specs.declared.rows.Row.{Row}
-use Rattle.ocpi_types.specs.declared.rows.Row.TheVariants as row
-use Rattle.node_steps.specs.Acts.{Act, all_changes, all_messages, all_requests}
+use Rattle.ocpi_types.specs.{Change, Counter, Drop, Put, Row}
+use Rattle.ocpi_types.specs.row
+use Rattle.node_steps.specs.{Act, all_changes, all_messages, all_requests}
 use Rattle.node_steps.proofs.Gathering.{changes_append, messages_count, requests_append}
 use Rattle.operator_steps.proofs.Orderly.{of_cons}
 

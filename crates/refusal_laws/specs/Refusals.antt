@@ -1,11 +1,9 @@
 -- What a node refuses, it does not do. A refusal is no answer of OCPI's: nothing is changed, and nothing is sent.
 use Rattle.std.specs.Prelude.{◌≢◌, ⊤}
-use Rattle.node_steps.specs.declared.fault.NodeFault.{NodeFault}
-use Rattle.node_steps.specs.declared.fault.NodeFault.TheVariants.{Memory}
-use Rattle.ocpi_types.specs.Locations.{AreLocations}
-use Rattle.stored_laws.specs.Nodes.{IsSound}
-use Rattle.world_steps.specs.Steps.{NodeEvent, NodeRefuses, NodeStep, input_of}
-use Rattle.world_steps.specs.World.{NodeState, Operates, Provides}
+use Rattle.node_steps.specs.{Memory, NodeFault}
+use Rattle.ocpi_types.specs.{AreLocations}
+use Rattle.stored_laws.specs.{IsSound}
+use Rattle.world_steps.specs.{NodeEvent, NodeRefuses, NodeState, NodeStep, Operates, Provides, input_of}
 
 -- the locations of an operator's site are what the type `Locations` keeps: no two have one id (OCPI 2.2.1, Locations:
 -- Location object)

@@ -1,17 +1,15 @@
 -- A node has one answer to an event.
-use Rattle.std.proofs.Common.{◌≡◌, ◌↔◌, List, [], Bool, IsTrue, true, false, inl, inr, refl, sym, ap, subst, ◌∙◌}
-use Rattle.std.specs.Prelude.{◌≢◌}
-use Rattle.ocpi_types.specs.declared.node_events.NodeEventKind.{NodeEventKind}
+use Rattle.std.proofs.Common.{◌≡◌, ◌↔◌, List, [], Bool, IsTrue, true, false, inl, inr, refl, sym, ap, subst, ◌∙◌, ◌≢◌}
+use Rattle.ocpi_types.specs.{NodeEventKind, Packet}
 use Rattle.ocpi_types.specs.declared.node_events.NodeEventKind.TheVariants as event
-use Rattle.ocpi_types.specs.declared.packet.Packet.{Packet}
 use Rattle.answer_laws.proofs.OperatorReasons.{refusals_have_one_reason}
 use Rattle.answer_laws.proofs.OperatorSteps.{operators_have_one_step}
 use Rattle.answer_laws.proofs.ProviderSteps.{providers_have_one_step}
 use Rattle.answer_laws.specs.Nodes.{IsApart}
 use Rattle.answer_laws.specs.Picks.{LeavesOnePick}
-use Rattle.histories.specs.declared.entry.Entry.{Entry}
+use Rattle.histories.specs.{Entry}
 use Rattle.history_laws.specs.Replays.{Brings, Does, EntryStep, Idle, WasIdle}
-use Rattle.node_steps.specs.declared.fault.NodeFault.{NodeFault}
+use Rattle.node_steps.specs.{NodeFault}
 use Rattle.node_replay.specs.Replayed.{ChangesRows, Refuses}
 use Rattle.operator_rows.specs.State as operator
 use Rattle.operator_steps.specs.Events as operator_events
@@ -20,10 +18,9 @@ use Rattle.provider_steps.specs.Events as provider_events
 use Rattle.refusal_laws.proofs.Refusing.{refusals_exclude_steps}
 use Rattle.refusal_laws.specs.Refusals.{HasLocations}
 use Rattle.replay_laws.specs.Answers.{Declined, HasOneAnswer, IsSettled, NodesHaveOneAnswer, PassedOver, Stepped}
-use Rattle.stored_laws.specs.Nodes.{IsSound}
-use Rattle.world_steps.specs.Network.{Input, OfOperator, OfProvider}
-use Rattle.world_steps.specs.Steps.{AtOperator, AtProvider, NodeEvent, NodeRefuses, NodeStep, changes_of, input_of, packets_of}
-use Rattle.world_steps.specs.World.{NodeState, Operates, Provides}
+use Rattle.stored_laws.specs.{IsSound}
+use Rattle.world_steps.specs.{AtOperator, AtProvider, Input, NodeEvent, NodeRefuses, NodeState, NodeStep, OfOperator}
+use Rattle.world_steps.specs.{OfProvider, Operates, Provides, changes_of, input_of, packets_of}
 
 -- ---- what reaches a node by an event is one thing
 

@@ -1,16 +1,13 @@
 -- The places of a setup that is read have different ids.
-use Rattle.std.proofs.Common.{List, [], ◌∷◌, inl, inr, subst}
-use Rattle.std.specs.Prelude.{Contains}
+use Rattle.std.proofs.Common.{List, [], ◌∷◌, inl, inr, subst, Contains}
 use Rattle.std.proofs.lemmas.List.Elements.{Contains-append_cases}
-use Rattle.json_text.specs.Form.{AreItems, IsList, IsRecord, Required}
+use Rattle.json_text.specs.{AreItems, IsList, IsRecord, Required}
 use Rattle.ocpi_forms.specs.SiteForm.{IsEvse, IsLocation, IsSite}
 use Rattle.ocpi_json.proofs.SetupLemmas.{setup_found}
-use Rattle.ocpi_json.specs.SetupForms.{IsNode}
-use Rattle.ocpi_types.specs.declared.field.Field.{Field}
-use Rattle.ocpi_types.specs.declared.field.Field.TheVariants as field
-use Rattle.ocpi_types.specs.declared.setup.Node.{Node}
-use Rattle.ocpi_types.specs.declared.setup.Node.TheVariants as node
-use Rattle.ocpi_types.specs.declared.site.Site.{Site}
+use Rattle.ocpi_json.specs.{IsNode}
+use Rattle.ocpi_types.specs.{Field, Node, Site}
+use Rattle.ocpi_types.specs.field
+use Rattle.ocpi_types.specs.node
 use Rattle.serde_json.specs.Data.{Data, Items, item, no_items}
 use Rattle.tables.proofs.Elements.{in_none, in_single}
 use Rattle.answer_laws.specs.Nodes.{PlacesDiffer}

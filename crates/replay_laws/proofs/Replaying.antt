@@ -1,12 +1,9 @@
 -- A node of a setup has one answer to an event, whatever happened at it since it was opened.
-use Rattle.std.proofs.Common.{◌≡◌, ℕ, List, [], ◌∷◌, refl, sym, ap, subst}
-use Rattle.std.specs.Prelude.{Contains}
-use Rattle.ocpi_types.specs.Parties.{AreParties}
-use Rattle.ocpi_types.specs.declared.setup.Node.{Node}
-use Rattle.ocpi_types.specs.declared.setup.Node.TheVariants as node
-use Rattle.ocpi_types.specs.declared.site.Site.{Site}
+use Rattle.std.proofs.Common.{◌≡◌, ℕ, List, [], ◌∷◌, refl, sym, ap, subst, Contains}
+use Rattle.ocpi_types.specs.{AreParties, Node, Site}
+use Rattle.ocpi_types.specs.node
 use Rattle.answer_laws.specs.Nodes.{IsApart, PlacesDiffer, SiteDiffers, UrlsDiffer}
-use Rattle.histories.specs.declared.entry.Entry.{Entry}
+use Rattle.histories.specs.{Entry}
 use Rattle.history_laws.specs.Replays.{Does, Idle, Replays}
 use Rattle.node_core.proofs.OpeningSetups.{are_parties_of}
 use Rattle.operator_rows.specs.State as operator
@@ -17,11 +14,11 @@ use Rattle.provider_steps.specs.Events as events
 use Rattle.replay_laws.proofs.Answering.{nodes_have_one_answer}
 use Rattle.replay_laws.specs.Answers.{HasPlaces, ReplaysHaveOneAnswer}
 use Rattle.site_book.proofs.Apart.{place}
-use Rattle.stored_laws.specs.Nodes.{IsOfOpening}
-use Rattle.world_laws.specs.Laws.{IsSetup}
+use Rattle.stored_laws.specs.{IsOfOpening}
+use Rattle.world_laws.specs.{IsSetup}
 use Rattle.world_steps.specs.Steps as steps
-use Rattle.world_steps.specs.Steps.{AtOperator, AtProvider, ProviderDoes}
-use Rattle.world_steps.specs.World.{NodeState, Operates, Provides, opening_of, operators_of, providers_of}
+use Rattle.world_steps.specs.{AtOperator, AtProvider, NodeState, Operates, ProviderDoes, Provides, opening_of}
+use Rattle.world_steps.specs.{operators_of, providers_of}
 
 -- ---- providers
 

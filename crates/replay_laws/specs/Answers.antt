@@ -1,16 +1,14 @@
 -- What a node may answer to an event, and where that is one thing.
 use Rattle.std.specs.Prelude.{◌≡◌, List, Bool, ⊤}
-use Rattle.ocpi_types.specs.declared.node_events.NodeEventKind.{NodeEventKind}
+use Rattle.ocpi_types.specs.{Node, NodeEventKind, Packet}
 use Rattle.ocpi_types.specs.declared.node_events.NodeEventKind.TheVariants as event
-use Rattle.ocpi_types.specs.declared.packet.Packet.{Packet}
-use Rattle.ocpi_types.specs.declared.setup.Node.{Node}
-use Rattle.ocpi_types.specs.declared.setup.Node.TheVariants as node
+use Rattle.ocpi_types.specs.node
 use Rattle.answer_laws.specs.Nodes.{IsApart, PlacesDiffer}
 use Rattle.answer_laws.specs.Picks.{HasOnePick}
 use Rattle.node_replay.specs.Replayed.{IsReplay, Leads, Passes, Refuses, Replay}
-use Rattle.node_steps.specs.declared.fault.NodeFault.{NodeFault}
-use Rattle.stored_laws.specs.Nodes.{IsSound}
-use Rattle.world_steps.specs.World.{NodeState, Operates}
+use Rattle.node_steps.specs.{NodeFault}
+use Rattle.stored_laws.specs.{IsSound}
+use Rattle.world_steps.specs.{NodeState, Operates}
 
 -- an answer of a node to an event: packets, whether rows changed, and the node behind it; that the event is none of its
 -- role; or a refusal

@@ -1,7 +1,7 @@
 -- The places of setups that are read.
 use Rattle.std.specs.Prelude.{◌≡◌, ℕ, List, Ok, Contains}
-use Rattle.ocpi_json.specs.SetupForms.{setup_in}
-use Rattle.ocpi_types.specs.declared.setup.Node.{Node}
+use Rattle.ocpi_json.specs.{setup_in}
+use Rattle.ocpi_types.specs.{Node}
 use Rattle.replay_laws.specs.Answers.{HasPlaces}
 
 -- the places of each node of a setup that a line spells have different ids

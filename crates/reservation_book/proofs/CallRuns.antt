@@ -1,10 +1,9 @@
 -- What holds over any list of calls.
-use Rattle.std.proofs.Common.{◌≡◌, ℕ, [], ◌∷◌, inl, inr, refl, sym, ap, subst, ◌∙◌, arith}
-use Rattle.std.specs.Prelude.{Option, Some, None, Contains}
+use Rattle.std.proofs.Common.{◌≡◌, ℕ, [], ◌∷◌, inl, inr, refl, sym, ap, subst, ◌∙◌, arith, Option, Some, None, Contains}
 use Rattle.std.specs.FinMap.{get, insert, remove}
 use Rattle.std.proofs.lemmas.List.Elements.{Contains-append_right}
-use Rattle.ocpi_types.specs.declared.stored.Reservation.{Reservation}
-use Rattle.tables.specs.Keys.{text_pair_total, text_pair_exact}
+use Rattle.ocpi_types.specs.{Reservation}
+use Rattle.tables.specs.{text_pair_exact, text_pair_total}
 use Rattle.tables.proofs.Options.{not_both}
 use Rattle.tables.proofs.Elements.{in_front}
 use Rattle.tables.proofs.Maps.{told, of_insert, of_remove, get-insert_same, get-insert_other}

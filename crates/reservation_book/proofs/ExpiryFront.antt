@@ -1,6 +1,6 @@
 -- The front of the queue of expiries has those that have expired, in order.
-use Rattle.std.proofs.Common.{◌≡◌, ℕ, ◌<◌, ◌≤◌, ◌+◌, suc, take, length, get_or, List, [], ◌∷◌, ◌++◌, map, inl, inr, true, false, cond, refl, sym, ap, subst, ◌∙◌, arith}
-use Rattle.std.specs.Prelude.{Option, Some, None, Contains, nat_le}
+use Rattle.std.proofs.Common.{◌≡◌, ℕ, ◌<◌, ◌≤◌, ◌+◌, suc, take, length, get_or, List, [], ◌∷◌, ◌++◌, map, inl, inr}
+use Rattle.std.proofs.Common.{true, false, cond, refl, sym, ap, subst, ◌∙◌, arith, Option, Some, None, Contains, nat_le}
 use Rattle.std.specs.Ordering.{is_gt}
 use Rattle.std.specs.declared.cmp.Ordering.TheVariants.{Less}
 use Rattle.std.specs.List.Sorted.{IsStrictlySortedBy}
@@ -11,8 +11,8 @@ use Rattle.std.proofs.lemmas.List.Elements.{Contains-append_right, Contains-appe
 use Rattle.std.proofs.lemmas.Map.Keys.{le_from_not_gt}
 use Rattle.std.proofs.lemmas.Option.{same_Some}
 use Rattle.std.proofs.lemmas.Bool.{leb-true, le-leb}
-use Rattle.ocpi_types.specs.declared.stored.Reservation.{Reservation}
-use Rattle.tables.specs.Keys.{text_pair_total, text_pair_exact}
+use Rattle.ocpi_types.specs.{Reservation}
+use Rattle.tables.specs.{text_pair_exact, text_pair_total}
 use Rattle.tables.specs.Indexes.{Indexes}
 use Rattle.tables.proofs.Elements.{in_none, in_single, in_front, in_map, of_map, sorted_back, sorted_front, first_below}
 use Rattle.tables.proofs.Entries.{keys_in_order, listed, listed_only}
@@ -31,9 +31,6 @@ not_earlier : (a b : Expiry) → expiry_cmp a b ≡ Less → a.0 ≤ b.0
 not_earlier a b h = le_from_not_gt a.0 b.0 (first_part_le _ _ (first_part_le _ _ (ap is_gt h)))
 
 module _ (at : ℕ) (m : Reservations) (index : FinMap expiry_cmp (Unit {0})) (h : Indexes expiry_key expiry_of m index) where
-  pub front_empty : IsFront at m index [] (entries index)
-  front_empty = record { expired = λ x i. absurd (in_none x i); joined = refl }
-
   -- where an expiry is listed a reservation stands
   pub stands_at : (q : Expiry) → get index q ≡ Some tt → (r : Reservation) × (get m (q.1, q.2) ≡ Some r) × (r.expiry_date ≡ q.0)
   stands_at q has = let there = h.sound q has in (there.0, there.1, ap (λ (e : Expiry). e.0) there.2)

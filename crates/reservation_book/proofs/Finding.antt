@@ -1,13 +1,11 @@
 -- What is found by its place is a reservation for the token.
-use Rattle.std.proofs.Common.{◌≡◌, ℕ, List, true, sym, ap, subst, ◌∙◌}
-use Rattle.std.specs.Prelude.{Option, Some, None, IfNone, IsTrue, is_some}
+use Rattle.std.proofs.Common.{◌≡◌, ℕ, List, true, sym, ap, subst, ◌∙◌, Option, Some, None, IfNone, IsTrue, is_some}
 use Rattle.std.specs.Ordering.{is_gt}
 use Rattle.std.specs.BTreeMap.Range.{IsLeBy, IsLtBy}
 use Rattle.std.specs.FinMap.{FinMap, get, contains_key}
 use Rattle.std.proofs.lemmas.Option.{same_Some}
-use Rattle.ocpi_types.specs.TypePlaces.{type_place, one_type}
-use Rattle.tables.specs.Keys.{text_pair_cmp}
-use Rattle.tables.specs.Tables.{IsLeast, HasNone}
+use Rattle.ocpi_types.specs.{one_type, type_place}
+use Rattle.tables.specs.{HasNone, IsLeast, text_pair_cmp}
 use Rattle.tables.specs.Indexes.{Indexes}
 use Rattle.reservation_book.specs.declared.standing.Standing.{Standing}
 use Rattle.reservation_book.specs.declared.standing.TokenAt.{TokenAt}

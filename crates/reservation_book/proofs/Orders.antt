@@ -8,8 +8,8 @@ use Rattle.std.specs.Cmp.{IsTotalOrder, nat_cmp_total}
 use Rattle.std.specs.BTreeMap.Range.{IsLeBy, IsLtBy}
 use Rattle.std.specs.FinMap.{FinMap, IsAntisymmetric, nat_cmp-IsAntisymmetric, get}
 use Rattle.std.proofs.lemmas.Cmp.{on_total, then_total, tied_itself}
-use Rattle.tables.specs.Keys.{text_cmp, text_pair_cmp, text_total, text_exact, pair_exact, triple_exact, empty_text_least}
-use Rattle.tables.specs.Tables.{IsLeast, HasNone}
+use Rattle.tables.specs.{HasNone, IsLeast, empty_text_least, pair_exact, text_cmp, text_exact, text_pair_cmp}
+use Rattle.tables.specs.{text_total, triple_exact}
 use Rattle.tables.proofs.Options.{none_of}
 use Rattle.tables.proofs.Parts.{first_part_le, neither_above}
 use Rattle.reservation_book.specs.Places.{Place, triple_cmp, expiry_cmp, group_cmp, place_cmp}
@@ -30,9 +30,6 @@ group_total = triple_total text_total text_total text_total
 
 pub group_exact : IsAntisymmetric group_cmp
 group_exact = triple_exact text_cmp text_cmp text_cmp text_exact text_exact text_exact
-
-abbrev pub Rest : Type 0
-Rest = ℕ × List ℕ × List ℕ
 
 pub place_total : IsTotalOrder place_cmp
 place_total = then_total (on_total (λ (p : Place). p.0) group_total) (on_total (λ (p : Place). p.1) expiry_total)

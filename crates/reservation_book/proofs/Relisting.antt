@@ -1,10 +1,8 @@
 -- The lists of reservations stay right when a reservation is put or ends, and the room of others is kept.
-use Rattle.std.proofs.Common.{◌≡◌, refl, ap}
-use Rattle.std.specs.Prelude.{Some, None}
+use Rattle.std.proofs.Common.{◌≡◌, refl, ap, Some, None}
 use Rattle.std.specs.FinMap.{get, insert, remove, empty}
-use Rattle.ocpi_types.specs.declared.stored.Reservation.{Reservation}
-use Rattle.tables.specs.Keys.{text_pair_total, text_pair_exact}
-use Rattle.tables.specs.Tables.{shown_of}
+use Rattle.ocpi_types.specs.{Reservation}
+use Rattle.tables.specs.{shown_of, text_pair_exact, text_pair_total}
 use Rattle.reservation_book.specs.declared.listings.Listings.{Listings}
 use Rattle.reservation_book.specs.Places.{Key, expiry_cmp, place_cmp, expiry_key, place_key, expiry_of, place_of}
 use Rattle.reservation_book.specs.Rows.{Reservations}

@@ -1,21 +1,18 @@
 -- The room that is kept, and the room that is given back.
-use Rattle.std.proofs.Common.{◌≡◌, ◌≢◌, ℕ, List, [], ◌∷◌, true, false, inl, inr, refl, sym, ap, subst, ◌∙◌}
-use Rattle.std.specs.Prelude.{Option, Some, None, IsTrue, is_some}
+use Rattle.std.proofs.Common.{◌≡◌, ◌≢◌, ℕ, List, [], ◌∷◌, true, false, inl, inr, refl, sym, ap, subst, ◌∙◌, Option}
+use Rattle.std.proofs.Common.{Some, None, IsTrue, is_some}
 use Rattle.std.specs.declared.cmp.Ordering.{Ordering}
 use Rattle.std.specs.Cmp.{IsTotalOrder}
 use Rattle.std.specs.FinMap.{FinMap, IsAntisymmetric, get, contains_key, insert, remove}
 use Rattle.std.proofs.lemmas.Option.{same_Some}
 use Rattle.std.proofs.lemmas.List.Elements.{Contains-append_right, Contains-append_cases}
-use Rattle.tables.specs.Keys.{text_pair_total, text_pair_exact}
+use Rattle.tables.specs.{text_pair_exact, text_pair_total}
 use Rattle.tables.proofs.Options.{none_some}
 use Rattle.tables.proofs.Elements.{in_none, in_single, in_front}
 use Rattle.tables.proofs.Maps.{told, others_keep, key_gone, get-insert_same, get-insert_other, get-remove_same, get-remove_other}
-use Rattle.ocpi_types.specs.Rows.{key_of}
-use Rattle.ocpi_types.specs.declared.rows.Row.{Row}
-use Rattle.ocpi_types.specs.declared.rows.Row.TheVariants as row
-use Rattle.ocpi_types.specs.declared.rows.RowKey.{RowKey}
-use Rattle.ocpi_types.specs.declared.rows.RowKey.TheVariants as keys
-use Rattle.ocpi_types.specs.declared.stored.Reservation.{Reservation}
+use Rattle.ocpi_types.specs.{Reservation, Row, RowKey, key_of}
+use Rattle.ocpi_types.specs.row
+use Rattle.ocpi_types.specs.keys
 use Rattle.reservation_book.specs.declared.standing.Standing.{Standing}
 use Rattle.reservation_book.specs.Places.{Key, expiry_key, place_key}
 use Rattle.reservation_book.specs.Rows.{Rows, Reservations, Rooms, Held, HasPlaces, HasNoPlaces, HasRoomOf, KeepsRoom, KeepsOtherRoom, GivesBack, without}

@@ -1,18 +1,15 @@
 -- The rows of a reservation book as a list, and the reservation book of that list.
-use Rattle.std.proofs.Common.{◌≡◌, ◌≢◌, ℕ, List, [], ◌∷◌, ◌++◌, map, inl, inr, refl, ap, subst, ◌∙◌}
-use Rattle.std.specs.Prelude.{Contains}
+use Rattle.std.proofs.Common.{◌≡◌, ◌≢◌, ℕ, List, [], ◌∷◌, ◌++◌, map, inl, inr, refl, ap, subst, ◌∙◌, Contains}
 use Rattle.std.specs.List.{AllPairs}
 use Rattle.std.specs.FinMap.{get, entries, same_map}
 use Rattle.std.proofs.lemmas.List.Elements.{Contains-append_left, Contains-append_right, Contains-append_cases}
-use Rattle.tables.specs.Keys.{text_pair_total, text_pair_exact}
+use Rattle.tables.specs.{text_pair_exact, text_pair_total}
 use Rattle.tables.proofs.Options.{same_option}
 use Rattle.tables.proofs.Elements.{of_map, joined}
 use Rattle.tables.proofs.Entries.{insert_all, found_in, each_in, all_apart, all_entries}
 use Rattle.tables.proofs.Nothing.{no_entries}
-use Rattle.ocpi_types.specs.Rows.{key_of}
-use Rattle.ocpi_types.specs.declared.rows.Row.{Row}
-use Rattle.ocpi_types.specs.declared.rows.Row.TheVariants as row
-use Rattle.ocpi_types.specs.declared.stored.Reservation.{Reservation}
+use Rattle.ocpi_types.specs.{Reservation, Row, key_of}
+use Rattle.ocpi_types.specs.row
 use Rattle.reservation_book.specs.Places.{Key}
 use Rattle.reservation_book.specs.Rows.{Rows, HasRow, RowsAreAll, AreRowsOf, no_rows, put_row, put_rows, rows_of, mark_row, reservation_row}
 

@@ -2,12 +2,9 @@
 use Rattle.std.specs.Prelude.{◌≡◌, ◌≢◌, ◌↔◌, ℕ, ◌≤◌, nat_le, if◌then◌else◌, List, [], ◌∷◌, ◌++◌, Option, Some, None, Contains, map}
 use Rattle.std.specs.List.Sorted.{IsStrictlySortedBy}
 use Rattle.std.specs.FinMap.{FinMap, get, insert, remove, entries}
-use Rattle.ocpi_text.specs.Text.{key}
-use Rattle.ocpi_types.specs.Rows.{key_of}
-use Rattle.ocpi_types.specs.declared.rows.Row.{Row}
-use Rattle.ocpi_types.specs.declared.rows.RowKey.{RowKey}
-use Rattle.ocpi_types.specs.declared.rows.RowKey.TheVariants as keys
-use Rattle.ocpi_types.specs.declared.stored.Reservation.{Reservation}
+use Rattle.ocpi_text.specs.{key}
+use Rattle.ocpi_types.specs.{Reservation, Row, RowKey, key_of}
+use Rattle.ocpi_types.specs.keys
 use Rattle.reservation_book.specs.declared.standing.Standing.{Standing}
 use Rattle.reservation_book.specs.declared.standing.CancelOutcome.{CancelOutcome}
 use Rattle.reservation_book.specs.declared.standing.CancelOutcome.TheVariants.{Ended, Unknown}

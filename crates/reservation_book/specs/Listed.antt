@@ -2,11 +2,9 @@
 use Rattle.std.specs.Prelude.{◌≡◌, ◌≢◌, ℕ, List, Option, Some, None, IsTrue, false}
 use Rattle.std.specs.FinMap.{contains_key, remove}
 use Rattle.std.specs.BTreeMap.Range.{IsLtBy}
-use Rattle.tables.specs.Keys.{text_pair_cmp}
-use Rattle.tables.specs.Tables.{shown_of, rooms_of}
+use Rattle.tables.specs.{rooms_of, shown_of, text_pair_cmp}
 use Rattle.tables.specs.Indexes.{Indexes}
-use Rattle.ocpi_types.specs.TypePlaces.{type_place}
-use Rattle.ocpi_types.specs.declared.stored.Reservation.{Reservation}
+use Rattle.ocpi_types.specs.{Reservation, type_place}
 use Rattle.reservation_book.specs.Places.{Key, Expiry, Place, expiry_cmp, place_cmp, expiry_key, place_key, expiry_of, place_of}
 use Rattle.reservation_book.specs.declared.standing.TokenAt.{TokenAt}
 use Rattle.reservation_book.specs.Rows.{Reservations}

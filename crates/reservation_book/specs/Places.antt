@@ -3,10 +3,9 @@
 use Rattle.std.specs.Prelude.{ℕ, List}
 use Rattle.std.specs.declared.cmp.Ordering.{Ordering}
 use Rattle.std.specs.Ordering.{nat_cmp, ordering_then}
-use Rattle.ocpi_text.specs.Text.{key}
-use Rattle.ocpi_types.specs.declared.stored.Reservation.{Reservation}
-use Rattle.ocpi_types.specs.TypePlaces.{type_place}
-use Rattle.tables.specs.Keys.{text_cmp, pair_cmp}
+use Rattle.ocpi_text.specs.{key}
+use Rattle.ocpi_types.specs.{Reservation, type_place}
+use Rattle.tables.specs.{pair_cmp, text_cmp}
 
 -- a provider and the id of a reservation
 abbrev pub Key : Type 0

@@ -1,8 +1,8 @@
 -- When a request about a reservation is refused.
 use Rattle.std.specs.Prelude.{◌≡◌, ◌≢◌, ℕ, ◌<◌, ◌≤◌, List, Some}
 use Rattle.std.specs.FinMap.{get}
-use Rattle.ocpi_text.specs.Text.{key}
-use Rattle.ocpi_types.specs.declared.stored.Reservation.{Reservation}
+use Rattle.ocpi_text.specs.{key}
+use Rattle.ocpi_types.specs.{Reservation}
 use Rattle.reservation_book.specs.declared.fault.ReservationFault.{ReservationFault}
 use Rattle.reservation_book.specs.declared.fault.ReservationFault.TheVariants.{Stale, OtherLocation, Memory}
 use Rattle.reservation_book.specs.Places.{Key}

@@ -4,13 +4,10 @@
 use Rattle.std.specs.Prelude.{◌≡◌, ◌≢◌, ◌↔◌, ℕ, List, [], ◌∷◌, ◌++◌, map, Option, Some, None, false, IsTrue, Contains, ⊤}
 use Rattle.std.specs.List.{AllPairs}
 use Rattle.std.specs.FinMap.{FinMap, get, insert, remove, contains_key, empty, entries}
-use Rattle.tables.specs.Keys.{text_pair_cmp}
-use Rattle.ocpi_types.specs.declared.rows.Row.{Row}
-use Rattle.ocpi_types.specs.declared.rows.Row.TheVariants as row
-use Rattle.ocpi_types.specs.declared.rows.RowKey.{RowKey}
-use Rattle.ocpi_types.specs.declared.rows.RowKey.TheVariants as keys
-use Rattle.ocpi_types.specs.declared.stored.Reservation.{Reservation}
-use Rattle.ocpi_types.specs.Rows.{key_of}
+use Rattle.tables.specs.{text_pair_cmp}
+use Rattle.ocpi_types.specs.{Reservation, Row, RowKey, key_of}
+use Rattle.ocpi_types.specs.row
+use Rattle.ocpi_types.specs.keys
 use Rattle.reservation_book.specs.Places.{Key, expiry_cmp, place_cmp, expiry_key, place_key}
 
 abbrev pub Reservations : Type 0

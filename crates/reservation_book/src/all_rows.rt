@@ -2,9 +2,8 @@
 
 ghost use Rattle.std.specs.Prelude.{◌≡◌, ◌++◌, [], IfOk, IsOk, OnErr, OnOk, map};
 ghost use Rattle.std.specs.FinMap.{entries};
-ghost use Rattle.tables.specs.Keys.{text_pair_cmp};
-ghost use Rattle.tables.specs.Tables.{shown_of};
-ghost use Rattle.ocpi_types.specs.Rows.{key_of};
+ghost use Rattle.tables.specs.{shown_of, text_pair_cmp};
+ghost use Rattle.ocpi_types.specs.{key_of};
 ghost use Rattle.reservation_book.specs.Rows.{
   AreRowsOf,
   GivesBackReplaced,

@@ -3,10 +3,9 @@
 ghost use Rattle.std.specs.Prelude.{◌≡◌, IfErr, IfNone, IfSome, IsOk, IsSome, IsTrue, OnOk, Err, Some, false};
 ghost use Rattle.std.specs.FinMap as map;
 ghost use Rattle.std.specs.BTreeMap.Range.{IsLtBy};
-ghost use Rattle.ocpi_text.specs.Text.{key};
-ghost use Rattle.tables.specs.Keys.{text_pair_cmp};
-ghost use Rattle.tables.specs.Tables.{shown_of};
-ghost use Rattle.ocpi_types.specs.declared.stored.Reservation.{Reservation};
+ghost use Rattle.ocpi_text.specs.{key};
+ghost use Rattle.tables.specs.{shown_of, text_pair_cmp};
+ghost use Rattle.ocpi_types.specs.{Reservation, key_of};
 ghost use Rattle.reservation_book.specs.declared.fault.ReservationFault.TheVariants.{Memory};
 ghost use Rattle.reservation_book.specs.declared.standing.Standing.{Standing};
 ghost use Rattle.reservation_book.specs.Places.{Key};
@@ -26,7 +25,6 @@ ghost use Rattle.reservation_book.specs.Rows.{
 ghost use Rattle.reservation_book.specs.Tokens.{IsToken, IsFor, IsOn, IsFirstFor, IsNextFor, spot};
 ghost use Rattle.reservation_book.specs.Refusals.{IsInTime, IsHere, RefusesNumber, RefusesReservation};
 ghost use Rattle.reservation_book.specs.Calls.{marked, reserved, ended};
-ghost use Rattle.ocpi_types.specs.Rows.{key_of};
 
 use crate::fault::ReservationFault;
 use crate::listings::{Listings, ReservationKey, is_token};
@@ -69,8 +67,7 @@ pub struct ReservationBook {
 impl Model for ReservationBook {
     ghost use Rattle.std.specs.FinMap as map;
     ghost use Rattle.std.specs.Coded.{codes};
-    ghost use Rattle.tables.specs.Keys.{text_pair_cmp};
-    ghost use Rattle.tables.specs.Tables.{shown_of, rooms_of};
+    ghost use Rattle.tables.specs.{rooms_of, shown_of, text_pair_cmp};
     ghost use Rattle.reservation_book.specs.Places.{expiry_cmp, place_cmp};
     ghost use Rattle.reservation_book.specs.Rows.{Held};
 

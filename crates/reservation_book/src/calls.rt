@@ -2,11 +2,11 @@
 
 ghost use Rattle.std.specs.Prelude.{◌≡◌, Err, IfErr, IfNone, IfOk, IfSome, IsOk, IsTrue, OnErr, OnOk};
 ghost use Rattle.std.specs.FinMap as map;
-ghost use Rattle.ocpi_text.specs.Text.{key};
+ghost use Rattle.ocpi_text.specs.{key};
 ghost use Rattle.reservation_book.specs.declared.fault.ReservationFault.TheVariants.{Memory};
 ghost use Rattle.reservation_book.specs.declared.standing.Standing.{Standing};
-ghost use Rattle.ocpi_types.specs.declared.rows.Row.TheVariants as row;
-ghost use Rattle.ocpi_types.specs.declared.rows.RowKey.TheVariants as keys;
+ghost use Rattle.ocpi_types.specs.row;
+ghost use Rattle.ocpi_types.specs.keys;
 ghost use Rattle.reservation_book.specs.Rows.{
   HasPlaces,
   HasRoomOf,

@@ -1,8 +1,7 @@
 //! The reservations that have expired (OCPI 2.2.1, Commands: ReserveNow, expiry_date).
 
 ghost use Rattle.std.specs.Prelude.{◌≡◌, ◌<◌, ◌≤◌, [], IfOk, IsOk, IsTrue, OnOk, false};
-ghost use Rattle.tables.specs.Keys.{text_pair_cmp};
-ghost use Rattle.tables.specs.Tables.{shown_of};
+ghost use Rattle.tables.specs.{shown_of, text_pair_cmp};
 ghost use Rattle.reservation_book.specs.declared.standing.Standing.{Standing};
 ghost use Rattle.reservation_book.specs.Listed.{AreListed};
 ghost use Rattle.reservation_book.specs.Calls.{HasExpired, AreExpired, held_without_each};

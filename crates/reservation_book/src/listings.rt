@@ -2,7 +2,7 @@
 
 ghost use Rattle.std.specs.Prelude.{◌≡◌, IfNone, IfSome, IsOk, IsTrue, OnOk, Some, false};
 ghost use Rattle.std.specs.FinMap as map;
-ghost use Rattle.tables.specs.Tables.{shown_of, rooms_of, IsLeast, HasNone};
+ghost use Rattle.tables.specs.{HasNone, IsLeast, rooms_of, shown_of};
 ghost use Rattle.reservation_book.specs.Places.{Key, Expiry, Place, expiry_cmp, place_cmp, expiry_key, place_key};
 ghost use Rattle.reservation_book.specs.Listed.{
   ShowSame,
@@ -18,7 +18,7 @@ ghost use Rattle.reservation_book.specs.Listed.{
 };
 ghost use Rattle.reservation_book.specs.Tokens.{IsToken};
 ghost use Rattle.reservation_book.specs.Rows.{Reservations};
-ghost use Rattle.ocpi_types.specs.declared.stored.Reservation.{Reservation};
+ghost use Rattle.ocpi_types.specs.{Reservation};
 
 use crate::standing::TokenAt;
 use ocpi_text::{CiKey, Moment, PartyKey};

@@ -28,9 +28,6 @@ pub record IsChecked (done : List Row) (last : Option ℤ) : Type 0 where
   pub whole : AreWhole done
   pub up : (r : Row) (id : ℤ) → Has done r → column r 0 ≡ Int id → IsUpTo last id
 
-pub none_checked : IsChecked [] None
-none_checked = record { whole = record { each = λ r h. absurd h; once = λ a b h i e. absurd h }; up = λ r id h e. absurd h }
-
 pushed : (done : List Row) (last : Option ℤ) (row : Row) (id : ℤ) → IsTextRow row → column row 0 ≡ Int id → IsAbove last id → IsChecked done last → IsChecked (done ++ row ∷ []) (Some id)
 pushed done last row id is has above was = record {
   whole = record {

@@ -19,9 +19,6 @@ pub record GoesOn (old new : State) (count : ℕ) (texts : Texts) : Type 0 where
   pub tables : HadTables new
   pub holds : content_of new.now.trees ≡ with_texts (content_of old.now.trees) texts
 
-pub none_made : (s : State) → HadTables s → GoesOn s s 0 (texts_of s.now.trees)
-none_made s has = record { shown = λ low. absurd (omega arith); tables = has; holds = refl }
-
 pub one_more : (old mid new : State) (edits : List Edit) (i : ℕ) (e : Edit) → i < length edits → e ≡ get_or edits i e → GoesOn old mid i (set_all (texts_of old.now.trees) (take i edits))
     → HasMade mid new (with_texts (content_of mid.now.trees) (set (texts_of mid.now.trees) e)) → (i ≡ 0 → mid ≡ old) → GoesOn old new (i + 1) (set_all (texts_of old.now.trees) (take (i + 1) edits))
 one_more old mid new edits i e low is before made first = record {

@@ -6,7 +6,7 @@ use Rattle.sqlite.specs.Order.{Row}
 use Rattle.sqlite.specs.Store.{Ghosts}
 use Rattle.sqlite.specs.declared.error.Error.{Error}
 use Rattle.sqlite.specs.Held.{Held, state}
-use Rattle.tables.specs.Keys.{text_pair_cmp}
+use Rattle.tables.specs.{text_pair_cmp}
 use Rattle.row_table.specs.Texts.{Place, texts_of}
 use Rattle.row_table.specs.Effects.{HadTables}
 use Rattle.row_table.specs.Reading.{IsAnswered, entry_shown}

@@ -1,7 +1,7 @@
 -- What the queries at an open show.
-use Rattle.std.proofs.Common.{◌≡◌, ◌≢◌, ◌⊎◌, inl, inr, ℕ, pos, List, [], ◌∷◌, map, Bool, true, false, IsTrue, IfOk, IfSome, Option, Some, None, Ok, Err, Result, refl, sym, ap, subst, ◌∙◌}
+use Rattle.std.proofs.Common.{◌≡◌, ◌≢◌, inl, inr, ℕ, pos, List, [], ◌∷◌, map, Bool, true, false, IsTrue, IfOk, IfSome}
+use Rattle.std.proofs.Common.{Option, Some, None, Ok, Err, Result, refl, sym, ap, subst, ◌∙◌, flat_map}
 use Rattle.std.specs.List.Sorted.{IsPermutation}
-use Rattle.std.specs.Prelude.{flat_map}
 use Rattle.std.proofs.lemmas.List.Sorted.{IsPermutation-sym, IsPermutation-map}
 use Rattle.sqlite.specs.declared.types.Value.{Value}
 use Rattle.sqlite.specs.declared.types.Value.TheVariants.{Null, Int}
@@ -17,11 +17,11 @@ use Rattle.sqlite.specs.Held.{Held, state}
 use Rattle.sqlite.proofs.Callers.{reads_as, one_permutation}
 use Rattle.row_table.specs.Layout.{both_tables, no_schema}
 use Rattle.row_table.specs.Texts.{AreTexts}
-use Rattle.row_table.specs.Contents.{HasVersion, IsNewStore, IsNumbered, IsOfOthers, IsWhole, content_of, versions}
+use Rattle.row_table.specs.Contents.{HasVersion, IsNumbered, IsOfOthers, IsWhole, content_of, versions}
 use Rattle.row_table.specs.Effects.{HasTables, HasUndone}
 use Rattle.row_table.specs.Reading.{IsAnswered}
 use Rattle.row_table.specs.Checking.{AreWhole}
-use Rattle.row_table.specs.Opening.{HoldsAsOpened, IsMade, IsOfVersion, IsSpared, ShowsTheSame}
+use Rattle.row_table.specs.Opening.{HoldsAsOpened, IsMade, IsOfVersion, ShowsTheSame}
 use Rattle.row_table.proofs.Meanings.{layout_select, whole_select, version_query, version_is, version_plain}
 use Rattle.row_table.proofs.StatementLemmas.{every, listed_as, selects_whole}
 use Rattle.row_table.proofs.KeptLemmas.{LeavesCommit}
@@ -146,7 +146,3 @@ module _ {S : Type 0} (g : Ghosts S) (version : ℕ) (old new : Held S) where
       left trees may = law one.is_open trees (before trees may) ∙ sym (ap (λ (d : Database). d.trees) (settled one.is_open))
 
 -- ---- an opening that was refused
-
-pub spared : (version : ℕ) (old new : State) → (IsTrue old.is_open → old.now ≡ old.committed) → HasUndone old new
-    → ((trees : Trees) → new.may_leave trees → old.may_leave trees ⊎ ((old.now.schema ≡ no_schema) × IsNewStore version trees)) → IsSpared version old new
-spared version old new settled undone stops = record { shown = shown_still old new settled undone; stops = stops }

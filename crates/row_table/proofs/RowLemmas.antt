@@ -1,6 +1,6 @@
 -- What taking rows away and putting a row in does to the texts.
-use Rattle.std.proofs.Common.{◌≡◌, ◌⊎◌, inl, inr, ℕ, ℤ, List, [], ◌∷◌, map, Bool, true, false, cond, not, None, Some, Option, refl, sym, ap, subst, ◌∙◌}
-use Rattle.std.specs.Prelude.{◌&&◌, ◌||◌, filter}
+use Rattle.std.proofs.Common.{◌≡◌, ◌⊎◌, inl, inr, ℕ, ℤ, List, [], ◌∷◌, map, Bool, true, false, cond, not, None, Some}
+use Rattle.std.proofs.Common.{Option, refl, sym, ap, subst, ◌∙◌, ◌&&◌, ◌||◌, filter}
 use Rattle.std.specs.List.{list_any}
 use Rattle.std.specs.Ordering.{eq_by_cmp, is_eq, match_ordering, int_cmp}
 use Rattle.std.specs.declared.cmp.Ordering.TheVariants.{Less, Equal, Greater}
@@ -14,7 +14,7 @@ use Rattle.sqlite.specs.Edit.{without_all, is_taken}
 use Rattle.sqlite_value.proofs.OrderLemmas.{value_cmp-Int}
 use Rattle.sqlite_rules.specs.Lists.{Has}
 use Rattle.sqlite_rules.proofs.ListLemmas.{has_filtered, some_from, some_has}
-use Rattle.tables.specs.Keys.{text_pair_cmp, text_pair_total, text_pair_exact}
+use Rattle.tables.specs.{text_pair_cmp, text_pair_exact, text_pair_total}
 use Rattle.tables.proofs.Maps.{equal_of_is_eq}
 use Rattle.row_table.specs.Texts.{Place, place_in, entry_in, texts_in, IsTextRow, AreTexts}
 
@@ -26,9 +26,6 @@ found q rows = find text_pair_cmp q (map entry_in rows)
 
 same_place : (p q : Place) → eq_by_cmp text_pair_cmp p q ≡ true → p ≡ q
 same_place p q h = text_pair_exact p q (equal_of_is_eq (text_pair_cmp p q) h)
-
-tied : (p : Place) → eq_by_cmp text_pair_cmp p p ≡ true
-tied = (eq_by_cmp_equiv text_pair_total).refl
 
 -- ---- rows are taken away
 
@@ -66,13 +63,6 @@ are_rest p rows h = record {
   each = λ r i. h.each r (has_filtered _ rows r i).0;
   keyed = λ a b i j same. h.keyed a b (has_filtered _ rows a i).0 (has_filtered _ rows b j).0 same;
 }
-
-pub none_at : (p : Place) (rows : List Row) (r : Row) → Has (rest p rows) r → is_at p r ≡ false
-none_at p rows r i = turned (is_at p r) (has_filtered _ rows r i).1
-  where
-    turned : (b : Bool) → not b ≡ true → b ≡ false
-    turned true e = cc
-    turned false e = refl
 
 -- ---- rows are taken away by their rowids
 

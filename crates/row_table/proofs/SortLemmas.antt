@@ -1,6 +1,6 @@
 -- Entries in order, and the map that they are of.
-use Rattle.std.proofs.Common.{◌≡◌, inl, inr, ℕ, suc, ◌-◌, List, [], ◌∷◌, ◌++◌, length, map, slice_get, true, false, cond, T, Option, Some, None, refl, sym, ap, subst, ◌∙◌, arith}
-use Rattle.std.specs.Prelude.{Contains}
+use Rattle.std.proofs.Common.{◌≡◌, inl, inr, ℕ, suc, ◌-◌, List, [], ◌∷◌, ◌++◌, length, map, slice_get, true, false}
+use Rattle.std.proofs.Common.{cond, T, Option, Some, None, refl, sym, ap, subst, ◌∙◌, arith, Contains}
 use Rattle.std.specs.Ordering.{is_eq, is_lt}
 use Rattle.std.specs.List.Sorted.{IsPermutation}
 use Rattle.std.specs.declared.cmp.Ordering.{Ordering}
@@ -12,7 +12,7 @@ use Rattle.std.proofs.lemmas.List.Sorted.{IsPermutation-sym, IsPermutation-map}
 use Rattle.sqlite.specs.Order.{Row}
 use Rattle.sqlite_rules.specs.Lists.{Has}
 use Rattle.sqlite_rules.proofs.ListLemmas.{has_contained, contains_had}
-use Rattle.tables.specs.Keys.{text_pair_cmp, text_pair_total, text_pair_exact}
+use Rattle.tables.specs.{text_pair_cmp, text_pair_exact, text_pair_total}
 use Rattle.tables.proofs.Maps.{equal_of_is_eq}
 use Rattle.tables.proofs.Ordered.{both, former, latter, less}
 use Rattle.tables.proofs.Entries.{listed, listed_only}

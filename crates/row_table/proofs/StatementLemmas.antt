@@ -1,6 +1,6 @@
 -- What the statements on `row_text` do to its rows.
-use Rattle.std.proofs.Common.{◌≡◌, ◌⊎◌, inl, inr, ℕ, List, [], ◌∷◌, map, Bool, true, false, cond, not, None, Some, Ok, Err, Result, OnOk, refl, sym, ap, subst, ◌∙◌, arith}
-use Rattle.std.specs.Prelude.{◌&&◌, flat_map, ◌++◌}
+use Rattle.std.proofs.Common.{◌≡◌, ◌⊎◌, inl, inr, ℕ, List, [], ◌∷◌, map, Bool, true, false, cond, not, None, Some, Ok}
+use Rattle.std.proofs.Common.{Err, Result, OnOk, refl, sym, ap, subst, ◌∙◌, arith, ◌&&◌, flat_map, ◌++◌}
 use Rattle.std.specs.List.Sorted.{IsPermutation}
 use Rattle.std.specs.List.{list_all}
 use Rattle.std.specs.Ordering.{is_eq, ordering_then}
@@ -40,7 +40,7 @@ use Rattle.std.proofs.lemmas.List.Sorted.{Contains-permutation}
 use Rattle.std.specs.Cmp.{eq_by_cmp_equiv}
 use Rattle.sqlite_value.proofs.OrderLemmas.{value_cmp-Text}
 use Rattle.sqlite_catalog.specs.Listing.{IsSound}
-use Rattle.tables.specs.Keys.{text_cmp, text_total}
+use Rattle.tables.specs.{text_cmp, text_total}
 use Rattle.row_table.specs.Layout.{both_tables, row_table}
 use Rattle.row_table.specs.Texts.{text_row, IsTextRow, AreTexts}
 use Rattle.row_table.proofs.Meanings.{insert_text, delete_text, select_text, whole_select, insert_terms, delete_tests, delete_query, select_query, whole_query, insert_is, insert_plain, delete_is, delete_plain, select_is, select_plain, whole_is, whole_plain}

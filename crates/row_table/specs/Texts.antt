@@ -5,7 +5,7 @@ use Rattle.sqlite.specs.declared.types.Value.TheVariants.{Int, Text}
 use Rattle.sqlite.specs.Order.{Row, bytes, column}
 use Rattle.sqlite.specs.Tree.{Trees, rowid}
 use Rattle.sqlite_rules.specs.Lists.{Has}
-use Rattle.tables.specs.Keys.{text_pair_cmp}
+use Rattle.tables.specs.{text_pair_cmp}
 
 -- a kind and a name
 abbrev pub Place : Type 0

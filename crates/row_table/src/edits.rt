@@ -5,15 +5,7 @@ ghost use Rattle.sqlite.specs.State.{HasCleanDisk, KeepsCommit, Survives};
 ghost use Rattle.sqlite.specs.Held.{state};
 ghost use Rattle.row_table.specs.Texts.{texts_of};
 ghost use Rattle.row_table.specs.Contents.{at_version, content_of, with_texts};
-ghost use Rattle.row_table.specs.Effects.{
-  HadTables,
-  HasMade,
-  HasCommitted,
-  HasUndone,
-  MayCommit,
-  set,
-  set_all,
-};
+ghost use Rattle.row_table.specs.Effects.{HadTables, HasMade, HasCommitted, HasUndone, MayCommit, set, set_all};
 
 use crate::statements::{clear, put, put_version};
 use sqlite::{Alter, Connection, Error, Transaction};

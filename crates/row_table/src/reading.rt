@@ -5,7 +5,7 @@ ghost use Rattle.std.specs.FinMap.{entries, is_sorted};
 ghost use Rattle.std.specs.declared.cmp.Ordering.TheVariants.{Less};
 ghost use Rattle.sqlite.specs.State.{HasCleanDisk, Survives};
 ghost use Rattle.sqlite.specs.Held.{state};
-ghost use Rattle.tables.specs.Keys.{text_pair_cmp};
+ghost use Rattle.tables.specs.{text_pair_cmp};
 ghost use Rattle.row_table.specs.Texts.{texts_of};
 ghost use Rattle.row_table.specs.Effects.{HadTables, HasUndone};
 ghost use Rattle.row_table.specs.Reading.{IsAnswered, entry_shown};

@@ -3,14 +3,13 @@ use Rattle.std.proofs.Common.{◌≡◌, List, [], Ok, refl, sym, ap, subst, ◌
 use Rattle.std.specs.Str.{IsUtf8}
 use Rattle.json.specs.Lex.{tokens}
 use Rattle.json.specs.Print.{print}
-use Rattle.ocpi_types.specs.Rows.{key_of}
-use Rattle.ocpi_types.specs.declared.rows.Row.{Row}
-use Rattle.ocpi_types.specs.declared.rows.Row.TheVariants as row
-use Rattle.json_text.specs.Members.{object_of, said}
+use Rattle.ocpi_types.specs.{Row, key_of}
+use Rattle.ocpi_types.specs.row
+use Rattle.json_text.specs.{object_of, said}
 use Rattle.json_text.proofs.Said.{said_is}
 use Rattle.ocpi_forms.specs.declared.credits.CdrForm.TheVariants as form
-use Rattle.ocpi_json.specs.RowForms.{RowTextFits, cdr_of_row_members, count_members, mark_members, result_members, row_in, row_members, row_text}
-use Rattle.ocpi_json.specs.RowKeys.{KeyFits, key_text, kind_of_key, row_kind_word}
+use Rattle.ocpi_json.specs.{KeyFits, RowTextFits, cdr_of_row_members, count_members, key_text, kind_of_key}
+use Rattle.ocpi_json.specs.{mark_members, result_members, row_in, row_kind_word, row_members, row_text}
 use Rattle.ocpi_json.specs.declared.rows.RowLayout.TheVariants as layout
 use Rattle.ocpi_json.proofs.RowLemmas.{row_well}
 use Rattle.ocpi_json.proofs.WrittenNumbers.{tokens_again}

@@ -1,6 +1,6 @@
 -- Texts of ASCII, as the numbers, the moments and the words of a row are, are UTF-8.
-use Rattle.std.proofs.Common.{◌≡◌, ℕ, ◌<◌, ◌≤◌, true, List, [], ◌∷◌, ◌++◌, Ok, refl, subst, sym, arith, inl, inr}
-use Rattle.std.specs.Prelude.{◌⊎◌, ◌+◌, ◌/◌, ◌%◌, pos, codes}
+use Rattle.std.proofs.Common.{◌≡◌, ℕ, ◌<◌, ◌≤◌, true, List, [], ◌∷◌, ◌++◌, Ok, refl, subst, sym, arith, inl, inr, ◌⊎◌}
+use Rattle.std.proofs.Common.{◌+◌, ◌/◌, ◌%◌, pos, codes}
 use Rattle.std.specs.Char.{is_ascii_digit}
 use Rattle.std.specs.List.{list_all}
 use Rattle.std.specs.Str.{IsUtf8}
@@ -10,16 +10,15 @@ use Rattle.std.proofs.lemmas.Str.{IsUtf8-append, IsUtf8-from_ascii, IsUtf8-nil}
 use Rattle.json.proofs.Printed.Utf8.{IsUtf8-are_ascii, are_ascii}
 use Rattle.jiff_core.specs.Calendar.{IsCivilDate}
 use Rattle.jiff_core.proofs.CalendarLemmas.{days_in_month_bounds}
-use Rattle.ocpi_text.specs.Digits.{IsFraction, two_digits, four_digits}
-use Rattle.ocpi_text.specs.Moment.{IsZone, SpellsMoment, last_moment, moment_text}
-use Rattle.ocpi_text.specs.Party.{party_at, country_of, party_id_of}
+use Rattle.ocpi_text.specs.{IsFraction, IsZone, SpellsMoment, country_of, four_digits, last_moment, moment_text}
+use Rattle.ocpi_text.specs.{party_at, party_id_of, two_digits}
 use Rattle.ocpi_text.proofs.Days.{is_date_from}
 use Rattle.ocpi_text.proofs.Moments.{text_spells}
 use Rattle.ocpi_text.proofs.Parties.{party_parts, exact_parts, country_passes, party_id_passes}
 use Rattle.ocpi_text.proofs.Text.{printable_is_ascii}
-use Rattle.json_text.specs.Fits.{FitsCi}
-use Rattle.json_text.specs.Numbers.{AreDigits, IsDigits, IsMinus, no_minus, minus, IsInt, zero_int, other_int, IsFraction as IsNumberFraction, no_fraction, fraction, IsSign, no_sign, sign, IsExponent, no_exponent, exponent, IsJsonNumber}
-use Rattle.json_text.specs.Quote.{is_digit, is_mark, is_sign}
+use Rattle.json_text.specs.{AreDigits, FitsCi, IsDigits, IsExponent, IsFraction as IsNumberFraction, IsInt}
+use Rattle.json_text.specs.{IsJsonNumber, IsMinus, IsSign, exponent, fraction, is_digit, is_mark, is_sign, minus}
+use Rattle.json_text.specs.{no_exponent, no_fraction, no_minus, no_sign, other_int, sign, zero_int}
 
 pub byte_then : (c : ℕ) (cs : List ℕ) → c < 128 → IsUtf8 cs → IsUtf8 (c ∷ cs)
 byte_then c cs small u = IsUtf8-append (c ∷ []) cs (IsUtf8-are_ascii (c ∷ []) (rw (lt-ltb c 128 small) refl)) u

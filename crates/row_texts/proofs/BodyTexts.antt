@@ -1,45 +1,24 @@
 -- Commands, replies, pushes and what is stored of them have texts of UTF-8.
-use Rattle.std.proofs.Common.{◌≡◌, ℕ, true, List, [], ◌∷◌, Option, Some, None, Ok, option_map, refl, subst}
-use Rattle.std.specs.Prelude.{IfSome}
+use Rattle.std.proofs.Common.{◌≡◌, ℕ, true, List, [], ◌∷◌, Option, Some, None, Ok, option_map, refl, subst, IfSome}
 use Rattle.std.specs.Str.{IsUtf8}
 use Rattle.json.proofs.Printed.Utf8.{IsUtf8-are_ascii, are_ascii}
-use Rattle.ocpi_text.specs.Party.{party_at}
-use Rattle.ocpi_types.specs.Kinds.{kind_of}
-use Rattle.ocpi_types.specs.Stored.{body_of_reply, body_of_push}
-use Rattle.ocpi_types.specs.Words.{allowed_word, kind_word, response_word, result_word}
-use Rattle.ocpi_types.specs.declared.authorizations.Authorization.{Authorization}
-use Rattle.ocpi_types.specs.declared.authorizations.Authorization.TheVariants as authorization
-use Rattle.ocpi_types.specs.declared.authorizations.AuthorizationInfo.{AuthorizationInfo}
-use Rattle.ocpi_types.specs.declared.commands.CancelReservation.{CancelReservation}
-use Rattle.ocpi_types.specs.declared.commands.Command.{Command}
-use Rattle.ocpi_types.specs.declared.commands.Command.TheVariants as command
-use Rattle.ocpi_types.specs.declared.commands.ReserveNow.{ReserveNow}
-use Rattle.ocpi_types.specs.declared.commands.StartSession.{StartSession}
-use Rattle.ocpi_types.specs.declared.commands.StopSession.{StopSession}
-use Rattle.ocpi_types.specs.declared.commands.UnlockConnector.{UnlockConnector}
-use Rattle.ocpi_types.specs.declared.packet.Body.{Body}
-use Rattle.ocpi_types.specs.declared.packet.Body.TheVariants as body
-use Rattle.ocpi_types.specs.declared.replies.Ack.{Ack}
-use Rattle.ocpi_types.specs.declared.replies.CommandResponse.{CommandResponse}
+use Rattle.ocpi_text.specs.{party_at}
+use Rattle.ocpi_types.specs.{Ack, AllowedType, Authorization, AuthorizationInfo, Body, CancelReservation, Command}
+use Rattle.ocpi_types.specs.{CommandResponse, CommandResponseType, CommandResult, CommandResultType, OpenCommand}
+use Rattle.ocpi_types.specs.{PacketKind, Push, Reply, Reservation, ReserveNow, ResponseData, SentCommand, StartSession}
+use Rattle.ocpi_types.specs.{StopSession, UnlockConnector, allowed_word, body_of_push, body_of_reply, kind_of}
+use Rattle.ocpi_types.specs.{kind_word, response_word, result_word}
+use Rattle.ocpi_types.specs.authorization
+use Rattle.ocpi_types.specs.command
+use Rattle.ocpi_types.specs.body
 use Rattle.ocpi_types.specs.declared.replies.CommandResponse.TheVariants as response
-use Rattle.ocpi_types.specs.declared.replies.CommandResult.{CommandResult}
-use Rattle.ocpi_types.specs.declared.replies.ResponseData.{ResponseData}
-use Rattle.ocpi_types.specs.declared.stored.OpenCommand.{OpenCommand}
-use Rattle.ocpi_types.specs.declared.stored.Push.{Push}
-use Rattle.ocpi_types.specs.declared.stored.Push.TheVariants as push
-use Rattle.ocpi_types.specs.declared.stored.Reply.{Reply}
-use Rattle.ocpi_types.specs.declared.stored.Reply.TheVariants as reply
-use Rattle.ocpi_types.specs.declared.stored.Reservation.{Reservation}
-use Rattle.ocpi_types.specs.declared.stored.SentCommand.{SentCommand}
-use Rattle.ocpi_types.specs.declared.words.AllowedType.{AllowedType}
-use Rattle.ocpi_types.specs.declared.words.AllowedType.TheVariants as allowed
-use Rattle.ocpi_types.specs.declared.words.CommandResponseType.{CommandResponseType}
-use Rattle.ocpi_types.specs.declared.words.CommandResponseType.TheVariants as answer
-use Rattle.ocpi_types.specs.declared.words.CommandResultType.{CommandResultType}
-use Rattle.ocpi_types.specs.declared.words.CommandResultType.TheVariants as result
-use Rattle.ocpi_types.specs.declared.words.PacketKind.{PacketKind}
+use Rattle.ocpi_types.specs.push
+use Rattle.ocpi_types.specs.reply
+use Rattle.ocpi_types.specs.allowed
+use Rattle.ocpi_types.specs.response as answer
+use Rattle.ocpi_types.specs.result
 use Rattle.ocpi_types.specs.declared.words.PacketKind.TheVariants as kind
-use Rattle.json_text.specs.Members.{object_of}
+use Rattle.json_text.specs.{object_of}
 use Rattle.json_text.proofs.WellFormed.{◌and◌}
 use Rattle.ocpi_forms.specs.AnyCommand.{command_members}
 use Rattle.ocpi_forms.specs.AuthorizationForms.{AuthorizationFits, AuthorizationInfoFits, authorization_info_members, authorization_members}
@@ -47,7 +26,8 @@ use Rattle.ocpi_forms.specs.Bodies.{BodyFits, body_members}
 use Rattle.ocpi_forms.specs.CommandForms.{CancelReservationFits, ReserveNowFits, StartSessionFits, StopSessionFits, UnlockConnectorFits, cancel_reservation_members, reserve_now_members, start_session_members, stop_session_members, unlock_connector_members}
 use Rattle.ocpi_forms.specs.ReplyForms.{AckFits, CommandResponseFits, ack_members, command_response_members, command_result_members, response_data_members}
 use Rattle.ocpi_forms.specs.declared.credits.CdrForm.TheVariants as form
-use Rattle.ocpi_json.specs.StoredForms.{OpenCommandFits, ReservationFits, SentCommandFits, open_command_members, push_members, reply_members, reservation_members, sent_command_members}
+use Rattle.ocpi_json.specs.{OpenCommandFits, ReservationFits, SentCommandFits, open_command_members, push_members}
+use Rattle.ocpi_json.specs.{reply_members, reservation_members, sent_command_members}
 use Rattle.row_texts.specs.Utf8.{AuthorizationIsUtf8, BodyIsUtf8, CommandIsUtf8, ReserveNowIsUtf8, StartSessionIsUtf8}
 use Rattle.row_texts.proofs.Ascii.{ci_utf8, moment_utf8, party_utf8}
 use Rattle.row_texts.proofs.Printed.{HasUtf8, optional_ci_utf8, optional_inner_utf8, optional_word_utf8, record_utf8}

@@ -8,12 +8,10 @@ use Rattle.json.specs.Print.{print, print_from, separator, token_text, ends}
 use Rattle.json.specs.Token.{Token}
 use Rattle.json.specs.Tree.{json_tokens, items_tokens, members_tokens}
 use Rattle.json.proofs.Printed.Utf8.{IsUtf8-are_ascii, IsUtf8-boolean, IsUtf8-key, IsUtf8-quoted, IsUtf8-separator, are_ascii}
-use Rattle.ocpi_text.specs.Moment.{moment_text}
-use Rattle.ocpi_types.specs.declared.field.Field.{Field}
-use Rattle.ocpi_types.specs.declared.field.Field.TheVariants.{Line}
-use Rattle.ocpi_types.specs.Fields.{name_of}
-use Rattle.json_text.specs.Fits.{FitsOption, FitsOptionalMoment}
-use Rattle.json_text.specs.Members.{Member, and_before, items_of, json_text, members_of, object_of, objects}
+use Rattle.ocpi_text.specs.{moment_text}
+use Rattle.ocpi_types.specs.{Field, Line, name_of}
+use Rattle.json_text.specs.{FitsOption, FitsOptionalMoment, Member, and_before, items_of, json_text, members_of}
+use Rattle.json_text.specs.{object_of, objects}
 use Rattle.json_text.proofs.WellFormed.{IsSound, AreSound, AreSoundMembers}
 use Rattle.row_texts.proofs.Ascii.{ci_utf8, moment_utf8, number_utf8}
 

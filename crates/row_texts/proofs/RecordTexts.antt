@@ -2,25 +2,14 @@
 use Rattle.std.proofs.Common.{◌≡◌, ℕ, true, List, [], ◌∷◌, Option, Some, None, refl, subst}
 use Rattle.std.specs.Str.{IsUtf8}
 use Rattle.json.proofs.Printed.Utf8.{IsUtf8-are_ascii, are_ascii}
-use Rattle.ocpi_types.specs.Words.{method_word, status_word, token_type_word, whitelist_word}
-use Rattle.ocpi_types.specs.declared.cdrs.Cdr.{Cdr}
-use Rattle.ocpi_types.specs.declared.cdrs.CdrDimension.{CdrDimension}
-use Rattle.ocpi_types.specs.declared.cdrs.CdrLocation.{CdrLocation}
-use Rattle.ocpi_types.specs.declared.cdrs.ChargingPeriod.{ChargingPeriod}
-use Rattle.ocpi_types.specs.declared.cdrs.GeoLocation.{GeoLocation}
-use Rattle.ocpi_types.specs.declared.sessions.Price.{Price}
-use Rattle.ocpi_types.specs.declared.sessions.Session.{Session}
-use Rattle.ocpi_types.specs.declared.token.CdrToken.{CdrToken}
-use Rattle.ocpi_types.specs.declared.token.Token.{Token}
-use Rattle.ocpi_types.specs.declared.words.AuthMethod.{AuthMethod}
-use Rattle.ocpi_types.specs.declared.words.AuthMethod.TheVariants as method
-use Rattle.ocpi_types.specs.declared.words.SessionStatus.{SessionStatus}
-use Rattle.ocpi_types.specs.declared.words.SessionStatus.TheVariants as status
-use Rattle.ocpi_types.specs.declared.words.TokenType.{TokenType}
-use Rattle.ocpi_types.specs.declared.words.TokenType.TheVariants as type
-use Rattle.ocpi_types.specs.declared.words.WhitelistType.{WhitelistType}
+use Rattle.ocpi_types.specs.{AuthMethod, Cdr, CdrDimension, CdrLocation, CdrToken, ChargingPeriod, GeoLocation, Price}
+use Rattle.ocpi_types.specs.{Session, SessionStatus, Token, TokenType, WhitelistType, method_word, status_word}
+use Rattle.ocpi_types.specs.{token_type_word, whitelist_word}
+use Rattle.ocpi_types.specs.how as method
+use Rattle.ocpi_types.specs.status
+use Rattle.ocpi_types.specs.type
 use Rattle.ocpi_types.specs.declared.words.WhitelistType.TheVariants as list
-use Rattle.json_text.specs.Members.{object_of}
+use Rattle.json_text.specs.{object_of}
 use Rattle.json_text.proofs.WellFormed.{◌and◌}
 use Rattle.ocpi_forms.specs.CdrForms.{CdrFits, cdr_members_in}
 use Rattle.ocpi_forms.specs.CdrLocationForms.{CdrLocationFits, GeoLocationFits, cdr_location_members, geo_location_members}

@@ -1,8 +1,8 @@
 //! What the types of commands, replies and pushes keep.
 
 ghost use Rattle.std.specs.Prelude.{IfSome, IsUtf8};
-ghost use Rattle.ocpi_types.specs.Stored.{body_of_reply, body_of_push};
-ghost use Rattle.ocpi_types.specs.declared.packet.Body.TheVariants as body;
+ghost use Rattle.ocpi_types.specs.{body_of_push, body_of_reply};
+ghost use Rattle.ocpi_types.specs.body;
 ghost use Rattle.ocpi_forms.specs.AuthorizationForms.{AuthorizationFits, AuthorizationInfoFits};
 ghost use Rattle.ocpi_forms.specs.Bodies.{BodyFits};
 ghost use Rattle.ocpi_forms.specs.CommandForms.{
@@ -13,7 +13,7 @@ ghost use Rattle.ocpi_forms.specs.CommandForms.{
   UnlockConnectorFits,
 };
 ghost use Rattle.ocpi_forms.specs.ReplyForms.{AckFits, CommandResponseFits, CommandResultFits, ResponseDataFits};
-ghost use Rattle.ocpi_json.specs.StoredForms.{OpenCommandFits, ReservationFits, SentCommandFits};
+ghost use Rattle.ocpi_json.specs.{OpenCommandFits, ReservationFits, SentCommandFits};
 ghost use Rattle.row_texts.specs.Utf8.{AuthorizationIsUtf8, BodyIsUtf8, CommandIsUtf8, ReserveNowIsUtf8, StartSessionIsUtf8};
 
 use crate::records::{kept_cdr, kept_session, kept_token};

@@ -18,9 +18,7 @@ use crate::values::{
     kept_ci, kept_e4, kept_free, kept_moment, kept_optional_ci, kept_optional_moment, kept_party,
     kept_quantity, kept_short,
 };
-use ocpi_types::{
-    Cdr, CdrDimension, CdrLocation, CdrToken, ChargingPeriod, GeoLocation, Price, Session, Token,
-};
+use ocpi_types::{Cdr, CdrDimension, CdrLocation, CdrToken, ChargingPeriod, GeoLocation, Price, Session, Token};
 
 pub(crate) fn kept_token(token: &Token)
     ensures fits { TokenFits token.now }

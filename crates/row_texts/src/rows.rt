@@ -1,9 +1,8 @@
 //! What the type of a row keeps, and that the row's text is read again.
 
 ghost use Rattle.std.specs.Prelude.{◌≡◌, Ok};
-ghost use Rattle.ocpi_types.specs.Rows.{key_of};
-ghost use Rattle.ocpi_json.specs.RowForms.{RowTextFits, row_in, row_text};
-ghost use Rattle.ocpi_json.specs.RowKeys.{KeyFits, key_text, kind_of_key, row_kind_word};
+ghost use Rattle.ocpi_types.specs.{key_of};
+ghost use Rattle.ocpi_json.specs.{KeyFits, RowTextFits, key_text, kind_of_key, row_in, row_kind_word, row_text};
 ghost use Rattle.row_texts.specs.Utf8.{RowIsUtf8};
 
 use crate::bodies::{kept_open, kept_push, kept_reply, kept_reservation, kept_sent};

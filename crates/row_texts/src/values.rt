@@ -1,11 +1,8 @@
 //! What the types of single values keep.
 
 ghost use Rattle.std.specs.Prelude.{◌≡◌, ◌≤◌, ◌<◌, IsUtf8, Ok, unsigned_abs};
-ghost use Rattle.ocpi_text.specs.Decimal.{e4_limit};
-ghost use Rattle.ocpi_text.specs.Moment.{last_moment};
-ghost use Rattle.ocpi_text.specs.Party.{party_at};
-ghost use Rattle.ocpi_text.specs.Whole.{max_whole};
-ghost use Rattle.json_text.specs.Fits.{FitsCi, FitsFree, FitsOption, FitsOptionalMoment, FitsQuantity};
+ghost use Rattle.ocpi_text.specs.{e4_limit, last_moment, max_whole, party_at};
+ghost use Rattle.json_text.specs.{FitsCi, FitsFree, FitsOption, FitsOptionalMoment, FitsQuantity};
 
 use ocpi_text::{CiText, E4, FreeText, Moment, Party, Quantity, ShortText, Whole};
 

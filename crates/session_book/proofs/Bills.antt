@@ -1,6 +1,6 @@
 -- The bills and the credits of a session, by the entries of the records.
-use Rattle.std.proofs.Common.{rules, ◌≡◌, ◌≢◌, ◌↔◌, ℕ, Bool, true, false, List, inl, inr, refl, sym, ap, subst, ◌∙◌, Bor, option_copied}
-use Rattle.std.specs.Prelude.{None, Option, Some, IfNone, IfSome, IsTrue}
+use Rattle.std.proofs.Common.{rules, ◌≡◌, ◌≢◌, ◌↔◌, ℕ, Bool, true, false, List, inl, inr, refl, sym, ap, subst, ◌∙◌}
+use Rattle.std.proofs.Common.{Bor, option_copied, None, Option, Some, IfNone, IfSome, IsTrue}
 use Rattle.std.specs.BTreeMap.Range.{IsLtBy}
 use Rattle.std.specs.FinMap.{FinMap, contains_key, get}
 use Rattle.std.specs.Ordering.{is_eq, is_gt, ordering_then}
@@ -8,15 +8,13 @@ use Rattle.std.specs.declared.cmp.Ordering.{Ordering}
 use Rattle.std.specs.declared.cmp.Ordering.TheVariants.{Less, Equal, Greater}
 use Rattle.std.proofs.lemmas.Cmp.{tied_itself}
 use Rattle.std.proofs.lemmas.Option.{same_Some}
-use Rattle.ocpi_text.specs.Text.{key}
-use Rattle.tables.specs.Keys.{text_cmp, text_total, text_exact}
-use Rattle.tables.specs.Tables.{HasNone, IsLeast}
+use Rattle.ocpi_text.specs.{key}
+use Rattle.tables.specs.{HasNone, IsLeast, text_cmp, text_exact, text_total}
 use Rattle.tables.proofs.Entries.{apart_of_less}
 use Rattle.tables.proofs.Maps.{equal_of_is_eq, told}
 use Rattle.tables.proofs.Options.{not_both}
 use Rattle.tables.proofs.Parts.{first_part_le, neither_above}
-use Rattle.ocpi_types.specs.Credits.{IsBill, is_credit}
-use Rattle.ocpi_types.specs.declared.cdrs.Cdr.{Cdr}
+use Rattle.ocpi_types.specs.{Cdr, IsBill, is_credit}
 use Rattle.session_book.specs.Stored.{Cdrs, Rows, SessionKey, session_cmp, session_entry}
 use Rattle.session_book.specs.Records.{HasCredit, HasRecord, IsSoleBill}
 use Rattle.session_book.specs.Kept.{HasLaterBill, IsBillAt, IsKept, rows_of}

@@ -1,16 +1,16 @@
 -- What stands beside the records is kept by each change of them.
-use Rattle.std.proofs.Common.{◌≡◌, ◌≢◌, ℕ, List, true, false, inl, inr, refl, sym, ap, subst, ◌∙◌}
-use Rattle.std.specs.Prelude.{None, Option, Some, IsTrue, is_some}
+use Rattle.std.proofs.Common.{◌≡◌, ◌≢◌, ℕ, List, true, false, inl, inr, refl, sym, ap, subst, ◌∙◌, None, Option, Some}
+use Rattle.std.proofs.Common.{IsTrue, is_some}
 use Rattle.std.specs.Cmp.{IsTotalOrder}
 use Rattle.std.specs.declared.cmp.Ordering.{Ordering}
 use Rattle.std.specs.FinMap.{FinMap, IsAntisymmetric, get, insert, remove, empty, contains_key, get-empty, same_map}
-use Rattle.ocpi_text.specs.Text.{key}
+use Rattle.ocpi_text.specs.{key}
 use Rattle.tables.specs.Indexes.{Indexes}
-use Rattle.tables.specs.Keys.{text_cmp, text_total, text_exact}
+use Rattle.tables.specs.{text_cmp, text_exact, text_total}
 use Rattle.tables.proofs.Indexing.{listed, none_unlisted, nothing_listed, unlisted}
 use Rattle.tables.proofs.Maps.{get-insert_other, get-remove_other, get-remove_same, insert_present, of_insert, of_remove, told}
 use Rattle.tables.proofs.Options.{is_none, not_both}
-use Rattle.ocpi_types.specs.declared.cdrs.Cdr.{Cdr}
+use Rattle.ocpi_types.specs.{Cdr}
 use Rattle.session_book.specs.Stored.{Cdrs, SessionKey, session_cmp, session_entry, without_entry}
 use Rattle.session_book.specs.Kept.{HeldRecords, IsKept, KeepsRooms, RecordRooms, record_key, rooms_for}
 use Rattle.session_book.proofs.Keyed.{cdr_id, own_empty, own_insert, own_remove}

@@ -1,16 +1,15 @@
 -- Each session and each charge detail record stands under its own id, whatever is put and dropped.
-use Rattle.std.proofs.Common.{◌≡◌, ◌≢◌, ℕ, List, inl, inr, sym, ap, subst, ◌∙◌}
-use Rattle.std.specs.Prelude.{Err, IsTrue, None, Ok, OnOk, Option, Result, Some}
+use Rattle.std.proofs.Common.{◌≡◌, ◌≢◌, ℕ, List, inl, inr, sym, ap, subst, ◌∙◌, Err, IsTrue, None, Ok, OnOk, Option}
+use Rattle.std.proofs.Common.{Result, Some}
 use Rattle.std.specs.FinMap.{FinMap, get, insert, remove, empty, contains_key, get-empty}
-use Rattle.ocpi_text.specs.Text.{key}
-use Rattle.tables.specs.Keys.{text_cmp, text_total, text_exact}
+use Rattle.ocpi_text.specs.{key}
+use Rattle.tables.specs.{text_cmp, text_exact, text_total}
 use Rattle.tables.proofs.Options.{not_both}
 use Rattle.tables.proofs.Maps.{others_keep, of_insert, of_remove}
 use Rattle.tables.proofs.Slots.{taken}
-use Rattle.ocpi_types.specs.declared.cdrs.Cdr.{Cdr}
-use Rattle.ocpi_types.specs.declared.sessions.Session.{Session}
-use Rattle.ocpi_types.specs.declared.rows.Row.TheVariants as row
-use Rattle.ocpi_types.specs.declared.rows.RowKey.TheVariants as keys
+use Rattle.ocpi_types.specs.{Cdr, Session}
+use Rattle.ocpi_types.specs.row
+use Rattle.ocpi_types.specs.keys
 use Rattle.session_book.specs.Stored.{Rows, Rooms, AreKeyed, HasRoomOfCdr, KeepsOtherRoom, rooms_with, session_cmp, session_entry, with_session, with_cdr, without_entry}
 use Rattle.session_book.specs.Kept.{record_key}
 use Rattle.session_book.proofs.Orders.{session_total, session_exact}

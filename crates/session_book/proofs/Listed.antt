@@ -1,20 +1,17 @@
 -- The rows of a book as a list.
 use Rattle.std.proofs.Common.{◌≡◌, ◌≢◌, ℕ, zero, suc, List, [], ◌++◌, map, inl, inr, refl, sym, ap, subst, ◌∙◌, arith}
-use Rattle.std.specs.Prelude.{Some, Contains, AllPairs}
+use Rattle.std.proofs.Common.{Some, Contains, AllPairs}
 use Rattle.std.specs.FinMap.{get, entries}
 use Rattle.std.proofs.lemmas.List.Kept.{AllPairs-cons}
 use Rattle.std.proofs.lemmas.List.Elements.{All-nil, Contains-append_left, Contains-append_right, Contains-append_cases}
-use Rattle.ocpi_text.specs.Text.{key}
-use Rattle.tables.specs.Keys.{text_total, text_exact}
+use Rattle.ocpi_text.specs.{key}
+use Rattle.tables.specs.{text_exact, text_total}
 use Rattle.tables.proofs.Elements.{in_none, in_single, in_front, of_map, joined, no_pairs}
 use Rattle.tables.proofs.Entries.{found_in, each_in, all_apart}
-use Rattle.ocpi_types.specs.Rows.{key_of}
-use Rattle.ocpi_types.specs.declared.rows.Row.{Row}
-use Rattle.ocpi_types.specs.declared.rows.Row.TheVariants as row
-use Rattle.ocpi_types.specs.declared.rows.RowKey.{RowKey}
-use Rattle.ocpi_types.specs.declared.rows.RowKey.TheVariants as keys
-use Rattle.ocpi_types.specs.declared.rows.Counter.{Counter}
-use Rattle.ocpi_types.specs.declared.rows.Counter.TheVariants as counter
+use Rattle.ocpi_types.specs.{Counter, Row, RowKey, key_of}
+use Rattle.ocpi_types.specs.row
+use Rattle.ocpi_types.specs.keys
+use Rattle.ocpi_types.specs.counter
 use Rattle.session_book.specs.Stored.{Rows, AreKeyed, AreRowsOf, HasRow, ListingsAreRows, cdr_row, count_rows, listing, session_row}
 
 abbrev Apart : Row → Row → Type 0

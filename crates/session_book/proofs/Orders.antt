@@ -5,7 +5,7 @@ use Rattle.std.specs.FinMap.{IsAntisymmetric}
 use Rattle.std.specs.Ordering.{bool_cmp}
 use Rattle.std.specs.declared.cmp.Ordering.{Ordering}
 use Rattle.std.proofs.lemmas.Cmp.{on_total, then_total}
-use Rattle.tables.specs.Keys.{text_cmp, text_total, text_exact, pair_cmp, pair_exact, bool_exact}
+use Rattle.tables.specs.{bool_exact, pair_cmp, pair_exact, text_cmp, text_exact, text_total}
 use Rattle.session_book.specs.Stored.{SessionKey, session_cmp}
 
 -- the bills of a session, or its credits

@@ -1,16 +1,14 @@
 -- Ids that an operator makes: they fit in a longer text, and those of different numbers differ by more than the case
 -- of their letters.
-use Rattle.std.proofs.Common.{◌≡◌, ◌<◌, ◌≤◌, true, false, zero, suc, ℕ, List, [], ◌∷◌, ◌++◌, map, length, Ok, refl, sym, ap, ◌∙◌, arith}
+use Rattle.std.proofs.Common.{◌≡◌, ◌<◌, ◌≤◌, true, false, zero, suc, ℕ, List, [], ◌∷◌, ◌++◌, map, length, Ok, refl, sym}
+use Rattle.std.proofs.Common.{ap, ◌∙◌, arith, nat_lt}
 use Rattle.std.specs.Char.{to_ascii_uppercase, to_ascii_lowercase}
 use Rattle.std.proofs.lemmas.List.{map-append}
 use Rattle.std.proofs.lemmas.Bool.{cond_both, le-ltb}
 use Rattle.std.proofs.lemmas.Bool.Decides.{nat_tests}
 use Rattle.uuid.specs.Text.{lower, by_index, digit_place, hex_digit, hyphen, hyphenated_text, is_hyphen_place, nibble}
 use Rattle.uuid.proofs.TextLemmas.{nibble_small}
-use Rattle.ocpi_text.specs.declared.own_ids.OwnIdKind.{OwnIdKind}
-use Rattle.ocpi_text.specs.OwnIds.{own_id_bytes, own_id_text}
-use Rattle.ocpi_text.specs.Text.{key, ci_text, is_ascii_text}
-use Rattle.std.specs.Prelude.{nat_lt}
+use Rattle.ocpi_text.specs.{OwnIdKind, ci_text, is_ascii_text, key, own_id_bytes, own_id_text}
 use Rattle.std.specs.Str.{chars}
 use Rattle.ocpi_text.proofs.Text.{printable_length}
 use Rattle.ocpi_text.proofs.OwnIds.{own_ids_are_apart}

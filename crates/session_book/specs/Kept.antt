@@ -2,11 +2,10 @@
 use Rattle.std.specs.Prelude.{◌≡◌, ℕ, IsTrue, List, Some}
 use Rattle.std.specs.FinMap.{FinMap, contains_key, get, insert, remove}
 use Rattle.std.specs.declared.cmp.Ordering.TheVariants.{Less}
-use Rattle.ocpi_text.specs.Text.{key}
+use Rattle.ocpi_text.specs.{key}
 use Rattle.tables.specs.Indexes.{Indexes}
-use Rattle.tables.specs.Keys.{text_cmp}
-use Rattle.ocpi_types.specs.Credits.{IsBill}
-use Rattle.ocpi_types.specs.declared.cdrs.Cdr.{Cdr}
+use Rattle.tables.specs.{text_cmp}
+use Rattle.ocpi_types.specs.{Cdr, IsBill}
 use Rattle.session_book.specs.Stored.{Cdrs, Rows, SessionKey, no_rows, session_cmp, session_entry, without_entry}
 
 -- each record stands under the key of its id

@@ -1,12 +1,7 @@
 -- The ids that an operator makes of the numbers of its sessions and of its charge detail records.
 use Rattle.std.specs.Prelude.{◌≡◌, ◌≢◌, ◌≤◌, ◌+◌, ℕ, List, None, Ok, IsTrue}
 use Rattle.std.specs.FinMap.{get, contains_key}
-use Rattle.ocpi_text.specs.OwnIds.{own_id_text}
-use Rattle.ocpi_text.specs.Party.{party_at}
-use Rattle.ocpi_text.specs.Text.{key}
-use Rattle.ocpi_text.specs.Whole.{max_whole}
-use Rattle.ocpi_text.specs.declared.own_ids.OwnIdKind.{OwnIdKind}
-use Rattle.ocpi_text.specs.declared.own_ids.OwnIdKind.TheVariants.{Session, Cdr}
+use Rattle.ocpi_text.specs.{Cdr, OwnIdKind, Session, key, max_whole, own_id_text, party_at}
 use Rattle.session_book.specs.Stored.{Rows}
 
 -- the id of that number of a party, in the form by which ids are compared

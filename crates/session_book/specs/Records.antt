@@ -2,9 +2,8 @@
 -- credit_reference_id).
 use Rattle.std.specs.Prelude.{◌≡◌, ℕ, List, Some}
 use Rattle.std.specs.FinMap.{get}
-use Rattle.ocpi_text.specs.Text.{key}
-use Rattle.ocpi_types.specs.Credits.{IsBill, IsCredit}
-use Rattle.ocpi_types.specs.declared.cdrs.Cdr.{Cdr}
+use Rattle.ocpi_text.specs.{key}
+use Rattle.ocpi_types.specs.{Cdr, IsBill, IsCredit}
 use Rattle.session_book.specs.Stored.{Rows}
 
 -- a charge detail record of the session of that id, in key form, is stored

@@ -4,18 +4,12 @@ use Rattle.std.specs.Prelude.{◌≡◌, ◌≢◌, ◌↔◌, ℕ, zero, suc, B
 use Rattle.std.specs.Ordering.{bool_cmp}
 use Rattle.std.specs.FinMap.{FinMap, get, insert, remove, contains_key, empty, entries}
 use Rattle.std.specs.declared.cmp.Ordering.{Ordering}
-use Rattle.ocpi_text.specs.Text.{key}
-use Rattle.tables.specs.Keys.{pair_cmp, text_cmp}
-use Rattle.ocpi_types.specs.Credits.{is_credit}
-use Rattle.ocpi_types.specs.declared.cdrs.Cdr.{Cdr}
-use Rattle.ocpi_types.specs.declared.sessions.Session.{Session}
-use Rattle.ocpi_types.specs.declared.rows.Row.{Row}
-use Rattle.ocpi_types.specs.declared.rows.Row.TheVariants as row
-use Rattle.ocpi_types.specs.declared.rows.RowKey.{RowKey}
-use Rattle.ocpi_types.specs.declared.rows.RowKey.TheVariants as keys
-use Rattle.ocpi_types.specs.declared.rows.Counter.{Counter}
-use Rattle.ocpi_types.specs.declared.rows.Counter.TheVariants as counter
-use Rattle.ocpi_types.specs.Rows.{key_of}
+use Rattle.ocpi_text.specs.{key}
+use Rattle.tables.specs.{pair_cmp, text_cmp}
+use Rattle.ocpi_types.specs.{Cdr, Counter, Row, RowKey, Session, is_credit, key_of}
+use Rattle.ocpi_types.specs.row
+use Rattle.ocpi_types.specs.keys
+use Rattle.ocpi_types.specs.counter
 
 -- by id, in the form by which ids are compared
 abbrev pub Sessions : Type 0

@@ -1,22 +1,10 @@
 //! The sessions and the charge detail records of an operator.
 
-ghost use Rattle.std.specs.Prelude.{
-  ◌≡◌,
-  ◌↔◌,
-  OnOk,
-  OnErr,
-  IfSome,
-  IfNone,
-  IsOk,
-  IsTrue,
-  ℕ,
-  List,
-  option_copied,
-};
+ghost use Rattle.std.specs.Prelude.{◌≡◌, ◌↔◌, OnOk, OnErr, IfSome, IfNone, IsOk, IsTrue, ℕ, List, option_copied};
 ghost use Rattle.std.specs.FinMap as map;
-ghost use Rattle.ocpi_text.specs.Text.{key};
-ghost use Rattle.ocpi_types.specs.declared.cdrs.Cdr.{Cdr};
-ghost use Rattle.ocpi_types.specs.declared.rows.Row.TheVariants as row;
+ghost use Rattle.ocpi_text.specs.{key};
+ghost use Rattle.ocpi_types.specs.{Cdr};
+ghost use Rattle.ocpi_types.specs.row;
 ghost use Rattle.session_book.specs.Records.{HasCredit, IsSoleBill};
 ghost use Rattle.session_book.specs.Stored.{
   AreKeyed,
@@ -51,8 +39,7 @@ pub struct SessionBook {
 impl Model for SessionBook {
     ghost use Rattle.std.specs.FinMap as map;
     ghost use Rattle.std.specs.Coded.{codes};
-    ghost use Rattle.tables.specs.Keys.{text_cmp};
-    ghost use Rattle.tables.specs.Tables.{shown_of, rooms_of};
+    ghost use Rattle.tables.specs.{rooms_of, shown_of, text_cmp};
     ghost use Rattle.session_book.specs.Stored.{AreKeyed, Held};
 
     ghost Value = { Held };

@@ -1,8 +1,8 @@
 //! The ids that an operator makes.
 
 ghost use Rattle.std.specs.Prelude.{◌≡◌};
-ghost use Rattle.ocpi_text.specs.OwnIds.{own_id_text};
-ghost use Rattle.ocpi_text.specs.declared.own_ids.OwnIdKind.TheVariants as own;
+ghost use Rattle.ocpi_text.specs.{own_id_text};
+ghost use Rattle.ocpi_text.specs.own;
 
 use ocpi_text::{CiText, OwnIdKind, Party, Whole, own_id};
 

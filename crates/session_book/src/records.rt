@@ -1,27 +1,10 @@
 //! The charge detail records of an operator, with what finds them by their sessions.
 
-ghost use Rattle.std.specs.Prelude.{
-  ◌≡◌,
-  ◌↔◌,
-  IfSome,
-  IfNone,
-  IsOk,
-  IsTrue,
-  None,
-  OnErr,
-  OnOk,
-  option_copied,
-};
+ghost use Rattle.std.specs.Prelude.{◌≡◌, ◌↔◌, IfSome, IfNone, IsOk, IsTrue, None, OnErr, OnOk, option_copied};
 ghost use Rattle.std.specs.FinMap as map;
-ghost use Rattle.ocpi_text.specs.Text.{key};
-ghost use Rattle.ocpi_types.specs.declared.cdrs.Cdr.{Cdr};
-ghost use Rattle.session_book.specs.Kept.{
-  HasLaterBill,
-  KeepsRooms,
-  rooms_for,
-  rooms_without,
-  rows_of,
-};
+ghost use Rattle.ocpi_text.specs.{key};
+ghost use Rattle.ocpi_types.specs.{Cdr};
+ghost use Rattle.session_book.specs.Kept.{HasLaterBill, KeepsRooms, rooms_for, rooms_without, rows_of};
 ghost use Rattle.session_book.specs.Records.{HasCredit, IsSoleBill};
 ghost use Rattle.session_book.specs.Stored.{session_entry};
 
@@ -45,8 +28,7 @@ pub(crate) struct Records {
 impl Model for Records {
     ghost use Rattle.std.specs.FinMap as map;
     ghost use Rattle.std.specs.Coded.{codes};
-    ghost use Rattle.tables.specs.Keys.{text_cmp};
-    ghost use Rattle.tables.specs.Tables.{shown_of, rooms_of};
+    ghost use Rattle.tables.specs.{rooms_of, shown_of, text_cmp};
     ghost use Rattle.session_book.specs.Kept.{HeldRecords, IsKept};
     ghost use Rattle.session_book.specs.Stored.{session_cmp};
 

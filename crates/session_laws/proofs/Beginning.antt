@@ -1,41 +1,27 @@
 -- Sessions begin as was asked.
-use Rattle.std.proofs.Common.{◌≡◌, ◌≤◌, ℕ, true, List, [], ◌∷◌, inl, inr, refl, sym, ap, subst, ◌∙◌}
-use Rattle.std.specs.Prelude.{Option, Some, None, Contains}
+use Rattle.std.proofs.Common.{◌≡◌, ◌≤◌, ℕ, true, List, [], ◌∷◌, inl, inr, refl, sym, ap, subst, ◌∙◌, Option, Some, None}
+use Rattle.std.proofs.Common.{Contains}
 use Rattle.std.specs.FinMap.{get, get-empty}
-use Rattle.tables.specs.Keys.{text_cmp}
+use Rattle.tables.specs.{text_cmp}
 use Rattle.tables.proofs.Options.{known, not_both}
-use Rattle.ocpi_text.specs.Text.{key}
-use Rattle.ocpi_types.specs.declared.events.ChargerEvent.{ChargerEvent}
-use Rattle.ocpi_types.specs.declared.events.ChargerEvent.TheVariants as event
-use Rattle.ocpi_types.specs.declared.rows.Change.TheVariants.{Put}
-use Rattle.ocpi_types.specs.declared.rows.Row.TheVariants as row
-use Rattle.ocpi_types.specs.declared.sessions.Session.{Session}
-use Rattle.ocpi_types.specs.declared.site.Connector.{Connector}
-use Rattle.ocpi_types.specs.declared.site.Evse.{Evse}
-use Rattle.ocpi_types.specs.declared.site.Location.{Location}
-use Rattle.ocpi_types.specs.declared.token.Token.{Token}
-use Rattle.ocpi_types.specs.declared.words.AuthMethod.{AuthMethod}
-use Rattle.ocpi_types.specs.declared.words.AuthMethod.TheVariants as how
-use Rattle.ocpi_types.specs.declared.words.SessionStatus.TheVariants.{Pending}
-use Rattle.ocpi_types.specs.declared.words.TokenType.{TokenType}
-use Rattle.authorization_book.specs.declared.awaited.Awaited.{Awaited}
+use Rattle.ocpi_text.specs.{key}
+use Rattle.ocpi_types.specs.{AuthMethod, ChargerEvent, Connector, Evse, Location, Pending, Put, Session, Token}
+use Rattle.ocpi_types.specs.{TokenType}
+use Rattle.ocpi_types.specs.event
+use Rattle.ocpi_types.specs.row
+use Rattle.ocpi_types.specs.how
+use Rattle.authorization_book.specs.{Awaited}
 use Rattle.token_desk.specs.Swipes as desk
-use Rattle.token_desk.specs.declared.answers.Swipe.{Swipe}
-use Rattle.token_desk.specs.declared.answers.Swipe.TheVariants as swipe
-use Rattle.operator_rows.specs.State.{State, opening}
-use Rattle.operator_rows.specs.Sound.{IsConsistent}
+use Rattle.token_desk.specs.{Swipe}
+use Rattle.token_desk.specs.told as swipe
+use Rattle.operator_rows.specs.{IsConsistent, opening}
+use Rattle.operator_rows.specs.State.{State}
 use Rattle.operator_rows.proofs.KeepingTimes.{opening_consistent}
-use Rattle.operator_steps.specs.Charger.{Shows}
-use Rattle.operator_steps.specs.Events.{Event, Happens, Reports}
-use Rattle.operator_steps.specs.Sessions.{first_of}
+use Rattle.operator_steps.specs.{Event, Happens, Reports, Shows, first_of}
 use Rattle.operator_steps.proofs.MovedSteps.{follows}
-use Rattle.session_tables.specs.declared.beginning.Beginning.{Beginning}
-use Rattle.session_tables.specs.declared.shown.Shown.{Shown}
-use Rattle.session_tables.specs.declared.shown.Shown.TheVariants as shown
-use Rattle.session_tables.specs.Beginnings.{begins}
-use Rattle.session_tables.specs.Places.{IsConnectorAt}
+use Rattle.session_tables.specs.{Beginning, IsConnectorAt, Shown, begins, id_of, provider_of, told_by}
+use Rattle.session_tables.specs.shown
 use Rattle.session_tables.specs.Swipes as swipes
-use Rattle.session_tables.specs.Swipes.{id_of, provider_of, told_by}
 use Rattle.session_laws.specs.Begun.{BeganIn, BeginsAsAsked, ByStart, ByToken, ByAnswer, ByDeadline, IsFor, SessionsBeginAsAsked, SessionsBegan}
 use Rattle.session_laws.specs.Pasts.{stored}
 use Rattle.operator_laws.specs.Laws.{Run}

@@ -1,47 +1,32 @@
 -- Charge detail records: each bill is of a COMPLETED version, which has one, and each credit takes back a bill that had
 -- none.
-use Rattle.std.proofs.Common.{◌≡◌, ◌≢◌, ◌⊎◌, ◌+◌, ℕ, ℤ, true, false, pos, List, map, inl, inr, refl, sym, ap, subst, ◌∙◌, arith}
-use Rattle.std.specs.Prelude.{Option, Some, None, Contains, unwrap_or}
+use Rattle.std.proofs.Common.{◌≡◌, ◌≢◌, ◌⊎◌, ◌+◌, ℕ, ℤ, true, false, pos, List, map, inl, inr, refl, sym, ap, subst}
+use Rattle.std.proofs.Common.{◌∙◌, arith, Option, Some, None, Contains}
+use Rattle.std.specs.Prelude.{unwrap_or}
 use Rattle.std.specs.FinMap.{get, get-empty}
 use Rattle.std.proofs.lemmas.Bool.{cases_Bool}
-use Rattle.tables.specs.Keys.{text_cmp}
+use Rattle.tables.specs.{text_cmp}
 use Rattle.tables.proofs.Elements.{of_map}
 use Rattle.tables.proofs.Options.{none_some, not_both}
-use Rattle.ocpi_text.specs.Text.{key}
-use Rattle.ocpi_text.specs.OwnIds.{own_id_text}
-use Rattle.ocpi_text.specs.declared.own_ids.OwnIdKind.TheVariants as own
-use Rattle.ocpi_types.specs.Credits.{AreAlike, IsBill, IsCredit, credit_id, is_credit}
-use Rattle.ocpi_types.specs.Rows.{key_of}
-use Rattle.ocpi_types.specs.declared.site.SiteLine.{SiteLine}
-use Rattle.ocpi_types.specs.declared.cdrs.Cdr.{Cdr}
-use Rattle.ocpi_types.specs.declared.events.ChargerEvent.{ChargerEvent}
-use Rattle.ocpi_types.specs.declared.site.Connector.{Connector}
-use Rattle.ocpi_types.specs.declared.site.Evse.{Evse}
-use Rattle.ocpi_types.specs.declared.site.Location.{Location}
-use Rattle.session_tables.specs.Places.{IsConnectorAt}
-use Rattle.ocpi_types.specs.declared.rows.Change.{Change}
-use Rattle.ocpi_types.specs.declared.rows.Change.TheVariants.{Put, Drop}
-use Rattle.ocpi_types.specs.declared.rows.Row.TheVariants as row
-use Rattle.ocpi_types.specs.declared.rows.RowKey.TheVariants as keys
-use Rattle.ocpi_types.specs.declared.sessions.Price.{Price}
-use Rattle.ocpi_types.specs.declared.sessions.Session.{Session}
-use Rattle.ocpi_types.specs.declared.words.SessionStatus.{SessionStatus}
-use Rattle.ocpi_types.specs.declared.words.SessionStatus.TheVariants.{Completed, Pending}
-use Rattle.session_state.specs.Pasts.{IsFinal, MayFollow}
-use Rattle.session_state.specs.Versions.{HasCost}
+use Rattle.ocpi_text.specs.{key, own_id_text}
+use Rattle.ocpi_text.specs.own
+use Rattle.ocpi_types.specs.{AreAlike, Cdr, Change, ChargerEvent, Completed, Connector, Drop, Evse, IsBill, IsCredit}
+use Rattle.ocpi_types.specs.{Location, Pending, Price, Put, Session, SessionStatus, SiteLine, credit_id, is_credit}
+use Rattle.ocpi_types.specs.{key_of}
+use Rattle.session_tables.specs.{IsConnectorAt}
+use Rattle.ocpi_types.specs.row
+use Rattle.ocpi_types.specs.keys
+use Rattle.session_state.specs.{HasCost, IsFinal, MayFollow}
 use Rattle.node_laws.proofs.Runs.{kept_runs}
-use Rattle.node_steps.specs.Acts.{all_changes}
+use Rattle.node_steps.specs.{all_changes}
 use Rattle.node_steps.proofs.Gathering.{changes_append}
 use Rattle.std.proofs.lemmas.List.Elements.{Contains-append_left, Contains-append_right}
-use Rattle.operator_rows.specs.State.{State, opening}
-use Rattle.operator_rows.specs.Stored.{change_key}
-use Rattle.operator_rows.specs.Sound.{IsConsistent, MayChange}
-use Rattle.operator_rows.specs.Steps.{IsNextOf}
+use Rattle.operator_rows.specs.{IsConsistent, IsNextOf, MayChange, change_key, opening}
+use Rattle.operator_rows.specs.State.{State}
 use Rattle.operator_rows.proofs.KeepingTimes.{opening_consistent}
-use Rattle.operator_steps.specs.Credits.{CreditsTo, next_credit}
-use Rattle.operator_steps.specs.Events.{Credits, Event, Happens}
+use Rattle.operator_steps.specs.{CreditsTo, Event, Happens, IsBilled, IsMoved, first_of, next_cdr, next_credit}
+use Rattle.operator_steps.specs.Events.{Credits}
 use Rattle.operator_steps.specs.Sessions as acts_of
-use Rattle.operator_steps.specs.Sessions.{IsBilled, IsMoved, first_of, next_cdr}
 use Rattle.session_laws.specs.Pasts.{stored}
 use Rattle.session_laws.specs.Bills.{AreBilledOnce, IsFirstCredit, IsRecordOf, PutsRecords, RecordsAreOfCompletedSessions, RecordsStay, SessionsAreBilledOnce}
 use Rattle.session_laws.proofs.Causes.{CdrCause, Billed, Credited, SessionCause, Begun, Moved}

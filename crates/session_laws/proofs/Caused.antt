@@ -1,55 +1,37 @@
 -- Each version and each charge detail record that an event puts has a cause.
-use Rattle.std.proofs.Common.{◌≡◌, ◌≢◌, ◌<◌, ◌≤◌, ◌+◌, ◌++◌, ℕ, Bool, true, false, cond, nat_eq, eqb-true, List, [], ◌∷◌, length, map, inl, inr, refl, sym, ap, subst, arith}
-use Rattle.std.specs.Prelude.{Option, Some, None, Contains}
+use Rattle.std.proofs.Common.{◌≡◌, ◌≢◌, ◌<◌, ◌≤◌, ◌+◌, ◌++◌, ℕ, Bool, true, false, cond, nat_eq, eqb-true, List, []}
+use Rattle.std.proofs.Common.{◌∷◌, length, map, inl, inr, refl, sym, ap, subst, arith, Option, Some, None, Contains}
 use Rattle.std.proofs.lemmas.List.Elements.{Contains-append_right, Contains-append_left}
 use Rattle.tables.proofs.Elements.{in_front}
-use Rattle.ocpi_text.specs.Text.{key}
-use Rattle.ocpi_text.specs.Whole.{max_whole}
-use Rattle.ocpi_types.specs.declared.authorizations.Authorization.{Authorization}
-use Rattle.ocpi_types.specs.declared.cdrs.Cdr.{Cdr}
-use Rattle.ocpi_types.specs.declared.events.ChargerEvent.{ChargerEvent}
-use Rattle.ocpi_types.specs.declared.packet.Body.TheVariants as body
-use Rattle.ocpi_types.specs.declared.packet.Packet.{Packet}
-use Rattle.ocpi_types.specs.declared.rows.Change.{Change}
-use Rattle.ocpi_types.specs.declared.rows.Change.TheVariants.{Put, Drop}
-use Rattle.ocpi_types.specs.declared.rows.Counter.TheVariants as counter
-use Rattle.ocpi_types.specs.declared.rows.Row.TheVariants as row
-use Rattle.ocpi_types.specs.declared.rows.RowKey.{RowKey}
-use Rattle.ocpi_types.specs.declared.rows.RowKey.TheVariants as keys
-use Rattle.ocpi_types.specs.declared.sessions.Session.{Session}
-use Rattle.ocpi_types.specs.declared.commands.Command.{Command}
-use Rattle.ocpi_types.specs.declared.stored.OpenCommand.{OpenCommand}
-use Rattle.ocpi_types.specs.declared.stored.Push.TheVariants as push
-use Rattle.ocpi_types.specs.declared.stored.Reply.{Reply}
-use Rattle.ocpi_types.specs.declared.token.Token.{Token}
+use Rattle.ocpi_text.specs.{key, max_whole}
+use Rattle.ocpi_types.specs.{Authorization, Cdr, Change, ChargerEvent, Command, Drop, OpenCommand, Packet, Put, Reply}
+use Rattle.ocpi_types.specs.{RowKey, Session, Token}
+use Rattle.ocpi_types.specs.body
+use Rattle.ocpi_types.specs.counter
+use Rattle.ocpi_types.specs.row
+use Rattle.ocpi_types.specs.keys
+use Rattle.ocpi_types.specs.push
 use Rattle.command_book.specs.Stored as book
-use Rattle.reservation_book.specs.declared.standing.Standing.{Standing}
+use Rattle.reservation_book.specs.{Standing}
 use Rattle.authorization_book.specs.Waits as waits
-use Rattle.node_steps.specs.Acts.{Act, all_changes, changed}
-use Rattle.node_steps.specs.Drafts.{count_change}
+use Rattle.node_steps.specs.{Act, all_changes, answered, changed, count_change}
 use Rattle.node_steps.proofs.Gathering.{changes_append}
 use Rattle.operator_rows.specs.State.{State}
-use Rattle.operator_rows.specs.Sound.{IsConsistent}
-use Rattle.operator_tables.specs.declared.decision.Decision.{Decision}
-use Rattle.operator_tables.specs.declared.decision.Decision.TheVariants as decision
-use Rattle.operator_steps.specs.Acts.{deadline, decided_acts, opened, reference_of, reply_of, spent, used}
-use Rattle.node_steps.specs.Acts.{answered}
-use Rattle.operator_steps.specs.declared.ending.Ending.{Ending}
-use Rattle.operator_steps.specs.Asking.{AnswerActs, IsAnswered}
-use Rattle.operator_steps.specs.Ends.{all_resent, ends_acts, expired_acts}
+use Rattle.operator_rows.specs.{IsConsistent}
+use Rattle.operator_tables.specs.{Decision}
+use Rattle.operator_tables.specs.decision
+use Rattle.operator_steps.specs.{AnswerActs, AreInRange, AreLeftUnanswered, Arrives, Asks, Begins_session, ChargerLine}
+use Rattle.operator_steps.specs.{Comes, CreditLine, Ending, Event, Input, IsAnswered, IsBegun, IsBilled, IsMoved}
+use Rattle.operator_steps.specs.{IsTickOf, None_left, Nothing_begins, PacketLine, Quietly, Reports, Restarts, Serves}
+use Rattle.operator_steps.specs.{ServiceLine, Ticks, TokenLine, Work, all_resent, deadline, decided_acts, ends_acts}
+use Rattle.operator_steps.specs.{expired_acts, first_of, next_cdr, next_credit, numbered_cdrs, numbered_sessions}
+use Rattle.operator_steps.specs.{opened, quiet, reference_of, reply_of, spent, tick_acts, used, versioned}
 use Rattle.operator_steps.specs.Charger as charger
-use Rattle.operator_steps.specs.Charger.{ChargerLine}
 use Rattle.operator_steps.specs.Credits as credits
-use Rattle.operator_steps.specs.Credits.{CreditLine, next_credit}
-use Rattle.operator_steps.specs.Events.{Event, Input, Arrives, Serves, Reports, Credits, Ticks, Restarts, Asks}
-use Rattle.operator_steps.specs.Moves.{AreInRange, Quietly, Work, quiet}
+use Rattle.operator_steps.specs.Events.{Credits}
 use Rattle.operator_steps.specs.Service as service
-use Rattle.operator_steps.specs.Service.{ServiceLine}
 use Rattle.operator_steps.specs.Sessions as acts_of
-use Rattle.operator_steps.specs.Sessions.{IsBegun, IsBilled, IsMoved, first_of, next_cdr, numbered_cdrs, numbered_sessions, versioned}
 use Rattle.operator_steps.specs.Steps as steps
-use Rattle.operator_steps.specs.Steps.{Comes, PacketLine, TokenLine}
-use Rattle.operator_steps.specs.TickFacts.{AreLeftUnanswered, IsTickOf, None_left, Nothing_begins, Begins_session, tick_acts}
 use Rattle.operator_steps.proofs.Ends.{IsOfEnd, Opened, Pushed, Ended, of_ends}
 use Rattle.operator_steps.proofs.Expiring.{of_expired}
 use Rattle.operator_steps.proofs.Resending.{resent_changes}
@@ -57,9 +39,8 @@ use Rattle.operator_steps.proofs.TickStages.{stages_see}
 use Rattle.operator_steps.proofs.BegunChanges.{late_counts}
 use Rattle.operator_steps.proofs.BegunSteps.{begun_is}
 use Rattle.operator_steps.proofs.Orderly.{in_later}
-use Rattle.session_tables.specs.declared.beginning.Beginning.{Beginning}
-use Rattle.session_tables.specs.declared.shown.Shown.TheVariants as shown
-use Rattle.session_tables.specs.Answers.{BeginsByAnswer, Decided}
+use Rattle.session_tables.specs.{Beginning, BeginsByAnswer, Decided}
+use Rattle.session_tables.specs.shown
 use Rattle.session_laws.proofs.Doing.{Does, IsAsked, Nothing, Asked}
 use Rattle.session_laws.proofs.Covering.{Covers, covers_acts, covers_append, covers_kinds, covers_record, covers_version}
 use Rattle.session_laws.proofs.Causes.{CdrCause, Billed, Credited, HowBegun, Started, Shown, Answered, Unanswered, SessionCause, Begun, Moved}

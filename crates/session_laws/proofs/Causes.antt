@@ -1,35 +1,20 @@
 -- Why an event puts a version of a session, or a charge detail record.
 use Rattle.std.specs.Prelude.{◌≡◌, ◌<◌, ◌≤◌, ◌+◌, ◌⊎◌, ℕ, List, Some, None, Contains}
 use Rattle.std.specs.FinMap.{get}
-use Rattle.ocpi_text.specs.Text.{key}
-use Rattle.ocpi_text.specs.Whole.{max_whole}
-use Rattle.ocpi_types.specs.declared.authorizations.Authorization.{Authorization}
-use Rattle.ocpi_types.specs.declared.cdrs.Cdr.{Cdr}
-use Rattle.ocpi_types.specs.declared.events.ChargerEvent.{ChargerEvent}
-use Rattle.ocpi_types.specs.declared.packet.Body.TheVariants as body
-use Rattle.ocpi_types.specs.declared.packet.Packet.{Packet}
-use Rattle.ocpi_types.specs.declared.rows.Change.TheVariants.{Put, Drop}
-use Rattle.ocpi_types.specs.declared.rows.Row.TheVariants as row
-use Rattle.ocpi_types.specs.declared.rows.RowKey.TheVariants as keys
-use Rattle.ocpi_types.specs.declared.sessions.Session.{Session}
-use Rattle.ocpi_types.specs.declared.site.Connector.{Connector}
-use Rattle.ocpi_types.specs.declared.site.Evse.{Evse}
-use Rattle.ocpi_types.specs.declared.site.Location.{Location}
-use Rattle.ocpi_types.specs.declared.words.SessionStatus.TheVariants.{Completed}
-use Rattle.authorization_book.specs.declared.awaited.Awaited.{Awaited}
-use Rattle.authorization_book.specs.Waits.{IsDue}
-use Rattle.node_steps.specs.Acts.{Act, all_changes}
+use Rattle.ocpi_text.specs.{key, max_whole}
+use Rattle.ocpi_types.specs.{Authorization, Cdr, ChargerEvent, Completed, Connector, Drop, Evse, Location, Packet, Put}
+use Rattle.ocpi_types.specs.{Session}
+use Rattle.ocpi_types.specs.body
+use Rattle.ocpi_types.specs.row
+use Rattle.ocpi_types.specs.keys
+use Rattle.authorization_book.specs.{Awaited, IsDue}
+use Rattle.node_steps.specs.{Act, all_changes}
 use Rattle.operator_rows.specs.State.{State}
-use Rattle.operator_steps.specs.declared.ending.Ending.{Ending}
-use Rattle.operator_steps.specs.Asking.{IsAwaited}
-use Rattle.operator_steps.specs.Charger.{IsStarted, Shows}
-use Rattle.operator_steps.specs.Credits.{CreditsTo, next_credit}
-use Rattle.operator_steps.specs.Events.{Input, Arrives, Credits, Reports, Ticks}
-use Rattle.operator_steps.specs.Sessions.{IsMoved, first_of, next_cdr}
-use Rattle.session_tables.specs.declared.beginning.Beginning.{Beginning}
-use Rattle.session_tables.specs.declared.shown.Shown.TheVariants as shown
-use Rattle.session_tables.specs.Answers.{BeginsByAnswer, BeginsWithoutAnswer}
-use Rattle.session_tables.specs.Places.{IsConnectorAt, MayTakeAt}
+use Rattle.operator_steps.specs.{Arrives, CreditsTo, Ending, Input, IsAwaited, IsMoved, IsStarted, Reports, Shows}
+use Rattle.operator_steps.specs.{Ticks, first_of, next_cdr, next_credit}
+use Rattle.operator_steps.specs.Events.{Credits}
+use Rattle.session_tables.specs.{Beginning, BeginsByAnswer, BeginsWithoutAnswer, IsConnectorAt, MayTakeAt}
+use Rattle.session_tables.specs.shown
 
 -- what makes a session begin: an open start is carried out, a token is shown, its provider allows it, or its provider
 -- did not answer in time

@@ -1,14 +1,10 @@
 -- What changes put of sessions and of charge detail records.
-use Rattle.std.proofs.Common.{◌≡◌, List, [], ◌∷◌, ◌++◌, inl, inr, refl, sym, subst}
-use Rattle.std.specs.Prelude.{IsTrue, Contains}
+use Rattle.std.proofs.Common.{◌≡◌, List, [], ◌∷◌, ◌++◌, inl, inr, refl, sym, subst, IsTrue, Contains}
 use Rattle.std.proofs.lemmas.List.Elements.{Contains-append_cases}
 use Rattle.tables.proofs.Elements.{in_single}
-use Rattle.ocpi_types.specs.declared.cdrs.Cdr.{Cdr}
-use Rattle.ocpi_types.specs.declared.rows.Change.{Change}
-use Rattle.ocpi_types.specs.declared.rows.Change.TheVariants.{Put}
-use Rattle.ocpi_types.specs.declared.rows.Row.TheVariants as row
-use Rattle.ocpi_types.specs.declared.sessions.Session.{Session}
-use Rattle.node_steps.specs.Acts.{Act, all_changes}
+use Rattle.ocpi_types.specs.{Cdr, Change, Put, Session}
+use Rattle.ocpi_types.specs.row
+use Rattle.node_steps.specs.{Act, all_changes}
 use Rattle.node_steps.proofs.Gathering.{changes_append}
 use Rattle.operator_steps.proofs.Charging.{of_no_kind}
 use Rattle.operator_steps.proofs.Orderly.{is_without}

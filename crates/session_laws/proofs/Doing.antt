@@ -1,29 +1,22 @@
 -- What an event does: the acts that it comes to, and what its changes make of the rows.
-use Rattle.std.proofs.Common.{◌≡◌, ◌⊎◌, List, [], refl, inl, inr, sym, ap, subst, ◌∙◌}
-use Rattle.std.specs.Prelude.{None, Contains}
+use Rattle.std.proofs.Common.{◌≡◌, ◌⊎◌, List, [], refl, inl, inr, sym, ap, subst, ◌∙◌, None, Contains}
 use Rattle.std.specs.FinMap.{get}
 use Rattle.std.proofs.lemmas.List.Elements.{Contains-append_cases, Contains-append_right}
 use Rattle.tables.proofs.Elements.{in_none}
-use Rattle.ocpi_text.specs.Text.{key}
-use Rattle.ocpi_types.specs.declared.cdrs.Cdr.{Cdr}
-use Rattle.ocpi_types.specs.declared.rows.Row.TheVariants as row
-use Rattle.ocpi_types.specs.declared.rows.RowKey.TheVariants as keys
-use Rattle.ocpi_types.specs.declared.rows.Change.{Change}
-use Rattle.ocpi_types.specs.declared.rows.Change.TheVariants.{Put}
-use Rattle.ocpi_types.specs.declared.rows.Counter.{Counter}
-use Rattle.ocpi_types.specs.declared.sessions.Session.{Session}
-use Rattle.node_steps.specs.Acts.{Act, all_changes, all_messages}
-use Rattle.node_steps.specs.Messages.{numbered}
-use Rattle.node_steps.specs.Drafts.{count_changes, counted}
+use Rattle.ocpi_text.specs.{key}
+use Rattle.ocpi_types.specs.{Cdr, Change, Counter, Put, Session}
+use Rattle.ocpi_types.specs.row
+use Rattle.ocpi_types.specs.keys
+use Rattle.node_steps.specs.{Act, all_changes, all_messages, count_changes, counted, numbered}
 use Rattle.operator_rows.specs.State.{State}
-use Rattle.operator_rows.specs.Stored.{AreApart, change_key}
-use Rattle.operator_rows.specs.Rows.{AreChanges}
-use Rattle.operator_rows.specs.Sound.{IsConsistent, MayChangeAll}
-use Rattle.operator_rows.specs.Steps.{IsNext, MayFollowFull, after_full, restarted}
+use Rattle.operator_rows.specs.{AreApart, AreChanges, IsConsistent, IsNext, MayChangeAll, MayFollowFull, after_full}
+use Rattle.operator_rows.specs.{change_key, restarted}
 use Rattle.operator_rows.proofs.KeepingTimes.{follow_full_consistent, restarted_consistent}
 use Rattle.operator_rows.proofs.RowChanges.{row_changes}
-use Rattle.operator_steps.specs.Events.{Event, Happens, Done, Restarted, Refused, Input, Arrives, Serves, Reports, Credits, Ticks, Restarts, Asks, event_out}
-use Rattle.operator_steps.specs.Moves.{AreInRange, Out, StepBy, Work, counters_of, idle, step_of_acts, step_of_work}
+use Rattle.operator_steps.specs.{AreInRange, Arrives, Asks, Done, Event, Happens, Input, Out, Refused, Reports}
+use Rattle.operator_steps.specs.{Restarted, Restarts, Serves, StepBy, Ticks, Work, counters_of, event_out, idle}
+use Rattle.operator_steps.specs.{step_of_acts, step_of_work}
+use Rattle.operator_steps.specs.Events.{Credits}
 use Rattle.operator_steps.proofs.PacketSteps.{packets}
 use Rattle.operator_steps.proofs.ServiceSteps.{services}
 use Rattle.operator_steps.proofs.ReportSteps.{reports}

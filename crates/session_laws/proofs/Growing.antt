@@ -1,18 +1,15 @@
 -- The pasts of sessions grow by what may follow.
-use Rattle.std.proofs.Common.{◌≡◌, ℕ, ℤ, List, [], ◌∷◌, ◌++◌, refl, sym, ap, subst, ◌∙◌}
-use Rattle.std.specs.Prelude.{Option, Some, None}
+use Rattle.std.proofs.Common.{◌≡◌, ℕ, ℤ, List, [], ◌∷◌, ◌++◌, refl, sym, ap, subst, ◌∙◌, Option, Some, None}
 use Rattle.std.specs.List.{last_or}
 use Rattle.std.specs.FinMap.{get, get-empty}
-use Rattle.tables.specs.Keys.{text_cmp}
-use Rattle.ocpi_types.specs.declared.sessions.Session.{Session}
-use Rattle.ocpi_types.specs.declared.words.SessionStatus.{SessionStatus}
-use Rattle.ocpi_types.specs.declared.words.SessionStatus.TheVariants.{Active, Completed, Invalid, Pending, Reservation}
-use Rattle.session_state.specs.Pasts.{Follow, IsFinal, IsOrderly, IsTurn}
-use Rattle.operator_rows.specs.State.{State, opening}
-use Rattle.operator_rows.specs.Sound.{IsConsistent}
-use Rattle.operator_rows.specs.Steps.{IsNextOf}
+use Rattle.tables.specs.{text_cmp}
+use Rattle.ocpi_types.specs.{Active, Completed, Invalid, Pending, Session, SessionStatus}
+use Rattle.ocpi_types.specs.declared.words.SessionStatus.TheVariants.{Reservation}
+use Rattle.session_state.specs.{Follow, IsFinal, IsOrderly, IsTurn}
+use Rattle.operator_rows.specs.{IsConsistent, IsNextOf, opening}
+use Rattle.operator_rows.specs.State.{State}
 use Rattle.operator_rows.proofs.KeepingTimes.{opening_consistent}
-use Rattle.operator_steps.specs.Events.{Event}
+use Rattle.operator_steps.specs.{Event}
 use Rattle.operator_laws.specs.Laws.{Run}
 use Rattle.session_laws.specs.Pasts.{FinalVersionsAreLast, MayComeNext, PastsAreOrderly, PastsGoOn, past, stored, versions_put}
 use Rattle.session_laws.proofs.Doing.{Does, does}

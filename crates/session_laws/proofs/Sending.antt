@@ -1,18 +1,15 @@
 -- What is sent of sessions is of their pasts, since events put it.
-use Rattle.std.proofs.Common.{◌≡◌, Bool, true, false, cond, List, [], ◌∷◌, inl, inr, refl, sym, subst, ◌∙◌}
-use Rattle.std.specs.Prelude.{Contains}
+use Rattle.std.proofs.Common.{◌≡◌, Bool, true, false, cond, List, [], ◌∷◌, inl, inr, refl, sym, subst, ◌∙◌, Contains}
 use Rattle.std.specs.Str.{bytes_eq}
 use Rattle.std.proofs.lemmas.Slice.Eq.{bytes_eq-Decides}
 use Rattle.std.proofs.lemmas.List.Elements.{Contains-append_left, Contains-append_right}
 use Rattle.tables.proofs.Elements.{in_none, in_front}
-use Rattle.ocpi_text.specs.Text.{key}
-use Rattle.ocpi_types.specs.declared.rows.Change.{Change}
-use Rattle.ocpi_types.specs.declared.rows.Change.TheVariants.{Put}
-use Rattle.ocpi_types.specs.declared.rows.Row.TheVariants as row
-use Rattle.ocpi_types.specs.declared.sessions.Session.{Session}
-use Rattle.ocpi_types.specs.declared.stored.Push.TheVariants as push
+use Rattle.ocpi_text.specs.{key}
+use Rattle.ocpi_types.specs.{Change, Put, Session}
+use Rattle.ocpi_types.specs.row
+use Rattle.ocpi_types.specs.push
 use Rattle.operator_rows.proofs.RowChanges.{of_cons}
-use Rattle.operator_steps.specs.Events.{Event}
+use Rattle.operator_steps.specs.{Event}
 use Rattle.operator_laws.specs.Sessions.{IsOfRun, PutIn, Puts}
 use Rattle.operator_laws.proofs.sessions.Bodies.{session_bodies_are_past}
 use Rattle.session_laws.specs.Pasts.{past, version_put, versions_put}

@@ -1,23 +1,19 @@
 -- The versions of a session that the changes of one event put: one at most, which is stored then.
-use Rattle.std.proofs.Common.{◌≡◌, ◌≢◌, ℕ, Bool, true, false, cond, List, [], ◌∷◌, ◌++◌, map, inl, inr, refl, sym, ap, subst, ◌∙◌}
-use Rattle.std.specs.Prelude.{Some, Contains}
+use Rattle.std.proofs.Common.{◌≡◌, ◌≢◌, ℕ, Bool, true, false, cond, List, [], ◌∷◌, ◌++◌, map, inl, inr, refl, sym, ap}
+use Rattle.std.proofs.Common.{subst, ◌∙◌, Some, Contains}
 use Rattle.std.specs.Str.{bytes_eq}
 use Rattle.std.specs.FinMap.{get}
 use Rattle.std.proofs.lemmas.Slice.Eq.{bytes_eq-Decides}
 use Rattle.tables.proofs.Elements.{in_none, in_front, of_map}
 use Rattle.tables.proofs.Options.{same_option}
-use Rattle.ocpi_text.specs.Text.{key}
-use Rattle.ocpi_types.specs.Rows.{key_of}
-use Rattle.ocpi_types.specs.declared.rows.Change.{Change}
-use Rattle.ocpi_types.specs.declared.rows.Change.TheVariants.{Put, Drop}
-use Rattle.ocpi_types.specs.declared.rows.Row.TheVariants as row
-use Rattle.ocpi_types.specs.declared.rows.RowKey.TheVariants as keys
-use Rattle.ocpi_types.specs.declared.sessions.Session.{Session}
+use Rattle.ocpi_text.specs.{key}
+use Rattle.ocpi_types.specs.{Change, Drop, Put, Session, key_of}
+use Rattle.ocpi_types.specs.row
+use Rattle.ocpi_types.specs.keys
 use Rattle.operator_rows.specs.State.{State}
-use Rattle.operator_rows.specs.Stored.{AreApart, Each, change_key, changed}
-use Rattle.operator_rows.specs.Sound.{IsConsistent, MayChange, MayChangeAll, with_rows}
+use Rattle.operator_rows.specs.{AreApart, Each, IsConsistent, MayChange, MayChangeAll, change_key, changed, with_rows}
 use Rattle.operator_rows.proofs.RowChanges.{each_of, in_later, of_cons}
-use Rattle.operator_steps.specs.Events.{Event}
+use Rattle.operator_steps.specs.{Event}
 use Rattle.session_laws.specs.Pasts.{stored, version_put, versions_put}
 use Rattle.session_laws.proofs.Doing.{Does}
 

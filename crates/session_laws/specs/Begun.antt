@@ -1,33 +1,21 @@
 -- How an operator's sessions begin (OCPI 2.2.1, Sessions: Session object; CDRs: AuthMethod; Tokens: WhitelistType).
 use Rattle.std.specs.Prelude.{◌≡◌, ◌≤◌, ℕ, true, List, ◌∷◌, ◌++◌, Option, Some, None}
 use Rattle.std.specs.FinMap.{get}
-use Rattle.ocpi_text.specs.Text.{key}
-use Rattle.ocpi_types.specs.declared.authorizations.Authorization.{Authorization}
-use Rattle.ocpi_types.specs.declared.authorizations.AuthorizationInfo.{AuthorizationInfo}
-use Rattle.ocpi_types.specs.declared.commands.StartSession.{StartSession}
-use Rattle.ocpi_types.specs.declared.events.ChargerEvent.TheVariants as event
-use Rattle.ocpi_types.specs.declared.packet.Body.TheVariants as body
-use Rattle.ocpi_types.specs.declared.packet.Packet.{Packet}
-use Rattle.ocpi_types.specs.declared.rows.Row.TheVariants as row
-use Rattle.ocpi_types.specs.declared.sessions.Session.{Session}
-use Rattle.ocpi_types.specs.declared.site.SiteLine.{SiteLine}
-use Rattle.ocpi_types.specs.declared.commands.Command.TheVariants as command
-use Rattle.ocpi_types.specs.declared.stored.OpenCommand.{OpenCommand}
-use Rattle.ocpi_types.specs.declared.token.Token.{Token}
-use Rattle.ocpi_types.specs.declared.words.AuthMethod.{AuthMethod}
-use Rattle.ocpi_types.specs.declared.words.AuthMethod.TheVariants as how
-use Rattle.ocpi_types.specs.declared.words.CommandResultType.TheVariants as result
-use Rattle.ocpi_types.specs.declared.words.SessionStatus.TheVariants.{Pending}
-use Rattle.ocpi_types.specs.declared.words.TokenType.{TokenType}
-use Rattle.ocpi_types.specs.declared.words.WhitelistType.TheVariants.{AllowedOffline}
-use Rattle.authorization_book.specs.declared.awaited.Awaited.{Awaited}
-use Rattle.token_desk.specs.Swipes.{IsWhitelisted}
-use Rattle.session_tables.specs.Answers.{Allows}
-use Rattle.session_tables.specs.Beginnings.{cdr_token_of}
-use Rattle.operator_rows.specs.State.{State, IsSpent, opening}
-use Rattle.operator_rows.specs.Sound.{IsConsistent}
-use Rattle.operator_steps.specs.Asking.{IsAwaited}
-use Rattle.operator_steps.specs.Events.{Event, Happens, Arrives, Reports, Ticks}
+use Rattle.ocpi_text.specs.{key}
+use Rattle.ocpi_types.specs.{AllowedOffline, AuthMethod, Authorization, AuthorizationInfo, OpenCommand, Packet, Pending}
+use Rattle.ocpi_types.specs.{Session, SiteLine, StartSession, Token, TokenType}
+use Rattle.ocpi_types.specs.event
+use Rattle.ocpi_types.specs.body
+use Rattle.ocpi_types.specs.row
+use Rattle.ocpi_types.specs.command
+use Rattle.ocpi_types.specs.how
+use Rattle.ocpi_types.specs.result
+use Rattle.authorization_book.specs.{Awaited}
+use Rattle.token_desk.specs.{IsWhitelisted}
+use Rattle.session_tables.specs.{Allows, cdr_token_of}
+use Rattle.operator_rows.specs.{IsConsistent, IsSpent, opening}
+use Rattle.operator_rows.specs.State.{State}
+use Rattle.operator_steps.specs.{Arrives, Event, Happens, IsAwaited, Reports, Ticks}
 use Rattle.operator_laws.specs.Laws.{IsOfParty, Run}
 use Rattle.operator_laws.specs.Sessions.{Puts}
 use Rattle.session_laws.specs.Pasts.{stored}

@@ -1,23 +1,17 @@
 -- The charge detail records of an operator (OCPI 2.2.1, CDRs: CDR object).
 use Rattle.std.specs.Prelude.{◌≡◌, ◌<◌, ◌+◌, ℕ, List, Some, None}
 use Rattle.std.specs.FinMap.{get}
-use Rattle.ocpi_text.specs.OwnIds.{own_id_text}
-use Rattle.ocpi_text.specs.Text.{key}
-use Rattle.ocpi_text.specs.declared.own_ids.OwnIdKind.TheVariants as own
-use Rattle.ocpi_types.specs.Credits.{AreAlike, IsBill, IsCredit, IsCreditOf}
-use Rattle.ocpi_types.specs.declared.cdrs.Cdr.{Cdr}
-use Rattle.ocpi_types.specs.declared.rows.Row.TheVariants as row
-use Rattle.ocpi_types.specs.declared.sessions.Session.{Session}
-use Rattle.ocpi_types.specs.declared.site.Connector.{Connector}
-use Rattle.ocpi_types.specs.declared.site.Evse.{Evse}
-use Rattle.ocpi_types.specs.declared.site.Location.{Location}
-use Rattle.ocpi_types.specs.declared.site.SiteLine.{SiteLine}
-use Rattle.ocpi_types.specs.declared.words.SessionStatus.TheVariants.{Completed}
-use Rattle.session_state.specs.Records.{cdr_of}
-use Rattle.session_tables.specs.Places.{IsConnectorAt, cdr_location_of}
-use Rattle.operator_rows.specs.State.{State, opening}
-use Rattle.operator_rows.specs.Sound.{IsConsistent}
-use Rattle.operator_steps.specs.Events.{Credits, Event, Happens}
+use Rattle.ocpi_text.specs.{key, own_id_text}
+use Rattle.ocpi_text.specs.own
+use Rattle.ocpi_types.specs.{AreAlike, Cdr, Completed, Connector, Evse, IsBill, IsCredit, IsCreditOf, Location, Session}
+use Rattle.ocpi_types.specs.{SiteLine}
+use Rattle.ocpi_types.specs.row
+use Rattle.session_state.specs.{cdr_of}
+use Rattle.session_tables.specs.{IsConnectorAt, cdr_location_of}
+use Rattle.operator_rows.specs.{IsConsistent, opening}
+use Rattle.operator_rows.specs.State.{State}
+use Rattle.operator_steps.specs.{Event, Happens}
+use Rattle.operator_steps.specs.Events.{Credits}
 use Rattle.operator_laws.specs.Laws.{IsOfParty, Run}
 use Rattle.operator_laws.specs.Sessions.{Puts}
 use Rattle.session_laws.specs.Pasts.{stored}

@@ -3,16 +3,13 @@ use Rattle.std.specs.Prelude.{◌≡◌, ℕ, ℤ, List, [], ◌∷◌, Option, 
 use Rattle.std.specs.List.{flat_map, last_or}
 use Rattle.std.specs.Str.{bytes_eq}
 use Rattle.std.specs.FinMap.{get}
-use Rattle.ocpi_text.specs.Text.{key}
-use Rattle.ocpi_types.specs.declared.rows.Change.{Change}
-use Rattle.ocpi_types.specs.declared.rows.Change.TheVariants.{Put, Drop}
-use Rattle.ocpi_types.specs.declared.rows.Row.TheVariants as row
-use Rattle.ocpi_types.specs.declared.sessions.Session.{Session}
-use Rattle.ocpi_types.specs.declared.site.SiteLine.{SiteLine}
-use Rattle.session_state.specs.Pasts.{Follow, IsFinal, IsOrderly}
-use Rattle.operator_rows.specs.State.{State, opening}
-use Rattle.operator_rows.specs.Sound.{IsConsistent}
-use Rattle.operator_steps.specs.Events.{Event}
+use Rattle.ocpi_text.specs.{key}
+use Rattle.ocpi_types.specs.{Change, Drop, Put, Session, SiteLine}
+use Rattle.ocpi_types.specs.row
+use Rattle.session_state.specs.{Follow, IsFinal, IsOrderly}
+use Rattle.operator_rows.specs.{IsConsistent, opening}
+use Rattle.operator_rows.specs.State.{State}
+use Rattle.operator_steps.specs.{Event}
 use Rattle.operator_laws.specs.Laws.{IsOfParty, Run}
 
 -- the version of the session of that id, in key form, that a change puts

@@ -1,15 +1,14 @@
 -- What an operator sends of its sessions (OCPI 2.2.1, Sessions: Receiver interface, PUT).
 use Rattle.std.specs.Prelude.{◌≡◌, ℕ, List, Some, Contains}
 use Rattle.std.specs.FinMap.{get}
-use Rattle.ocpi_text.specs.Text.{key}
-use Rattle.ocpi_types.specs.declared.packet.Body.TheVariants as body
-use Rattle.ocpi_types.specs.declared.packet.Packet.{Packet}
-use Rattle.ocpi_types.specs.declared.sessions.Session.{Session}
-use Rattle.ocpi_types.specs.declared.site.SiteLine.{SiteLine}
-use Rattle.ocpi_types.specs.declared.stored.Push.TheVariants as push
-use Rattle.outbox.specs.declared.push_book.Outgoing.{Outgoing}
-use Rattle.operator_rows.specs.State.{State, opening}
-use Rattle.operator_steps.specs.Events.{Event}
+use Rattle.ocpi_text.specs.{key}
+use Rattle.ocpi_types.specs.body
+use Rattle.ocpi_types.specs.{Packet, Session, SiteLine}
+use Rattle.ocpi_types.specs.push
+use Rattle.outbox.specs.{Outgoing}
+use Rattle.operator_rows.specs.{opening}
+use Rattle.operator_rows.specs.State.{State}
+use Rattle.operator_steps.specs.{Event}
 use Rattle.operator_laws.specs.Laws.{IsOfParty, Run, sent}
 use Rattle.session_laws.specs.Pasts.{past}
 

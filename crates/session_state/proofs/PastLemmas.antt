@@ -1,14 +1,11 @@
 -- What moves make may follow, and pasts that grow by what may follow are orderly.
-use Rattle.std.proofs.Common.{◌≡◌, ℕ, ◌/◌, ℤ, pos, negsuc, List, [], ◌∷◌, ◌++◌, Option, Some, refl, sym, ap, subst, arith}
+use Rattle.std.proofs.Common.{◌≡◌, ℕ, ◌/◌, ℤ, pos, negsuc, List, [], ◌∷◌, ◌++◌, Option, Some, refl, sym, ap, subst}
+use Rattle.std.proofs.Common.{arith, neg_ℤ}
 use Rattle.std.proofs.lemmas.Int.{ints}
 use Rattle.std.proofs.Math.Nat.{zero-mul}
 use Rattle.std.specs.Int.{int_div_euclid}
-use Rattle.std.specs.Prelude.{neg_ℤ}
-use Rattle.ocpi_types.specs.declared.sessions.Opening.{Opening}
-use Rattle.ocpi_types.specs.declared.sessions.Price.{Price}
-use Rattle.ocpi_types.specs.declared.sessions.Session.{Session}
-use Rattle.ocpi_types.specs.declared.words.SessionStatus.{SessionStatus}
-use Rattle.ocpi_types.specs.declared.words.SessionStatus.TheVariants.{Active, Completed, Invalid, Pending, Reservation}
+use Rattle.ocpi_types.specs.{Active, Completed, Invalid, Opening, Pending, Price, Session, SessionStatus}
+use Rattle.ocpi_types.specs.declared.words.SessionStatus.TheVariants.{Reservation}
 use Rattle.session_state.specs.Costs.{cost}
 use Rattle.session_state.specs.Versions.{HasCost, first_version}
 use Rattle.session_state.specs.Pasts.{IsTurn, IsFinal, IsSame, MayFollow, Follow, IsOrderly, Makes, activates, meters, completes, voids, AreMade}

@@ -1,7 +1,7 @@
 -- What energy costs. All numbers are ten-thousandths: of a kilowatt-hour, of the currency.
 use Rattle.std.specs.Prelude.{ℤ, pos, ◌*ℤ◌}
 use Rattle.std.specs.Int.{int_div_euclid}
-use Rattle.ocpi_types.specs.declared.sessions.Price.{Price}
+use Rattle.ocpi_types.specs.{Price}
 
 -- the energy times the price per kilowatt-hour, rounded down
 abbrev pub cost : ℤ → ℤ → ℤ

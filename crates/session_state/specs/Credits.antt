@@ -1,7 +1,7 @@
 -- Why a bill cannot be taken back.
 use Rattle.std.specs.Prelude.{◌≡◌, ◌<◌}
-use Rattle.ocpi_text.specs.Moment.{last_moment}
-use Rattle.ocpi_types.specs.declared.cdrs.Cdr.{Cdr}
+use Rattle.ocpi_text.specs.{last_moment}
+use Rattle.ocpi_types.specs.{Cdr}
 use Rattle.session_state.specs.declared.fault.SessionFault.{SessionFault}
 use Rattle.session_state.specs.declared.fault.SessionFault.TheVariants.{StampEnd, Memory}
 

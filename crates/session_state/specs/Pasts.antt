@@ -1,10 +1,7 @@
 -- What may follow what: the past of a session is all its versions, oldest first (OCPI 2.2.1, Sessions: SessionStatus).
 use Rattle.std.specs.Prelude.{◌≡◌, ℕ, ◌<◌, ℤ, ◌≤ℤ◌, List, [], ◌∷◌, ◌++◌, ⊤}
-use Rattle.ocpi_text.specs.Moment.{last_moment}
-use Rattle.ocpi_types.specs.declared.sessions.Session.{Session}
-use Rattle.ocpi_types.specs.declared.words.SessionStatus.{SessionStatus}
-use Rattle.ocpi_types.specs.declared.words.SessionStatus.TheVariants.{Active, Completed, Invalid, Pending}
-use Rattle.ocpi_types.specs.declared.sessions.Opening.{Opening}
+use Rattle.ocpi_text.specs.{last_moment}
+use Rattle.ocpi_types.specs.{Active, Completed, Invalid, Opening, Pending, Session, SessionStatus}
 use Rattle.session_state.specs.Versions.{HasCost, CanRead, first_version, activated, metered, completed, voided}
 
 -- the statuses that follow one another

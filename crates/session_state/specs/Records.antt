@@ -1,11 +1,6 @@
 -- The charge detail record of a completed session (OCPI 2.2.1, CDRs: CDR object).
 use Rattle.std.specs.Prelude.{◌≡◌, ℕ, ◌-◌, ◌/◌, ◌≤◌, ℤ, pos, List, [], ◌∷◌, Some, None, unwrap_or, codes}
-use Rattle.ocpi_types.specs.declared.sessions.Session.{Session}
-use Rattle.ocpi_types.specs.declared.sessions.Price.{Price}
-use Rattle.ocpi_types.specs.declared.cdrs.Cdr.{Cdr}
-use Rattle.ocpi_types.specs.declared.cdrs.CdrLocation.{CdrLocation}
-use Rattle.ocpi_types.specs.declared.cdrs.ChargingPeriod.{ChargingPeriod}
-use Rattle.ocpi_types.specs.declared.words.SessionStatus.TheVariants.{Completed}
+use Rattle.ocpi_types.specs.{Cdr, CdrLocation, ChargingPeriod, Completed, Price, Session}
 
 -- what a session is billed by: its COMPLETED version, its end and its cost
 pub record IsBilledBy (v : Session) (last : ℕ) (total : Price) : Type 0 where

@@ -1,8 +1,7 @@
 -- A session that is made again of its newest version.
 use Rattle.std.specs.Prelude.{◌≡◌, ◌⊎◌, ℤ, Option, Some, None}
-use Rattle.ocpi_types.specs.declared.sessions.Session.{Session}
-use Rattle.ocpi_types.specs.declared.words.SessionStatus.{SessionStatus}
-use Rattle.ocpi_types.specs.declared.words.SessionStatus.TheVariants as status
+use Rattle.ocpi_types.specs.{Session, SessionStatus}
+use Rattle.ocpi_types.specs.status
 use Rattle.session_state.specs.declared.resuming.Resumed.{Resumed}
 use Rattle.session_state.specs.declared.resuming.Resumed.TheVariants as resumed
 use Rattle.session_state.specs.Versions.{Priced, HasCost}

@@ -1,10 +1,6 @@
 -- The versions of a session (OCPI 2.2.1, Sessions: Session object and SessionStatus).
 use Rattle.std.specs.Prelude.{◌≡◌, ℕ, max, ℤ, pos, ◌≤ℤ◌, Some, None}
-use Rattle.ocpi_types.specs.Stamps.{next_stamp}
-use Rattle.ocpi_types.specs.declared.sessions.Session.{Session}
-use Rattle.ocpi_types.specs.declared.words.SessionStatus.{SessionStatus}
-use Rattle.ocpi_types.specs.declared.words.SessionStatus.TheVariants.{Active, Completed, Invalid, Pending}
-use Rattle.ocpi_types.specs.declared.sessions.Opening.{Opening}
+use Rattle.ocpi_types.specs.{Active, Completed, Invalid, Opening, Pending, Session, SessionStatus, next_stamp}
 use Rattle.session_state.specs.Costs.{price_of, most_kwh}
 
 -- a session: its newest version, and what a kilowatt-hour costs

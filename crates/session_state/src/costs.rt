@@ -1,7 +1,7 @@
 //! What energy costs.
 
 ghost use Rattle.std.specs.Prelude.{◌≡◌, pos, ◌<ℤ◌, ◌≤ℤ◌, SomeIff};
-ghost use Rattle.ocpi_text.specs.Decimal.{e4_limit};
+ghost use Rattle.ocpi_text.specs.{e4_limit};
 ghost use Rattle.session_state.specs.Costs.{cost, price_of, most_kwh};
 
 use ocpi_text::{E4, Quantity};

@@ -1,8 +1,7 @@
 //! Credits, by which bills are taken back (OCPI 2.2.1, CDRs: CDR object, members `credit` and `credit_reference_id`).
 
 ghost use Rattle.std.specs.Prelude.{◌≡◌, ◌≤◌, length, neg_ℤ, IfOk, IfErr};
-ghost use Rattle.ocpi_types.specs.Credits.{IsBill, credit_at, credit_id};
-ghost use Rattle.ocpi_types.specs.Stamps.{next_stamp};
+ghost use Rattle.ocpi_types.specs.{IsBill, credit_at, credit_id, next_stamp};
 ghost use Rattle.session_state.specs.Credits.{IsCreditFault};
 
 use crate::fault::SessionFault;

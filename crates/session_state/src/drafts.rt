@@ -6,9 +6,7 @@ ghost use Rattle.session_state.specs.declared.fault.SessionFault.TheVariants.{Me
 
 use crate::fault::{Refused, SessionFault};
 use ocpi_text::{CiText, E4, Moment, Quantity, ShortText};
-use ocpi_types::{
-    Cdr, CdrDimension, CdrLocation, ChargingPeriod, NonEmpty, Price, Session as Version,
-};
+use ocpi_types::{Cdr, CdrDimension, CdrLocation, ChargingPeriod, NonEmpty, Price, Session as Version};
 use std::alloc::{AllocError, Global};
 use std::marker::Model;
 
@@ -21,7 +19,7 @@ pub struct CdrDraft {
 }
 
 impl Model for CdrDraft {
-    ghost use Rattle.ocpi_types.specs.declared.sessions.Session.{Session};
+    ghost use Rattle.ocpi_types.specs.{Session};
     ghost use Rattle.session_state.specs.Records.{IsBilledBy};
 
     ghost Value = { Session };

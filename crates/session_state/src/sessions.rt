@@ -1,8 +1,8 @@
 //! Sessions and their moves.
 
 ghost use Rattle.std.specs.Prelude.{◌≡◌, ◌↔◌, ◌<◌, max, pos, None, Some, IfSome, IsNone, IfOk, IfErr, IsErr, IsTrue};
-ghost use Rattle.ocpi_text.specs.Moment.{last_moment};
-ghost use Rattle.ocpi_types.specs.Stamps.{next_stamp};
+ghost use Rattle.ocpi_text.specs.{last_moment};
+ghost use Rattle.ocpi_types.specs.{next_stamp};
 ghost use Rattle.session_state.specs.Versions.{
   Priced,
   HasCost,

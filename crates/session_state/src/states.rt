@@ -1,7 +1,7 @@
 //! The states of a session.
 
-ghost use Rattle.ocpi_types.specs.declared.words.SessionStatus.{SessionStatus};
-ghost use Rattle.ocpi_types.specs.declared.words.SessionStatus.TheVariants as status;
+ghost use Rattle.ocpi_types.specs.{SessionStatus};
+ghost use Rattle.ocpi_types.specs.status;
 
 /// A state of a session.
 pub trait State: Copy {

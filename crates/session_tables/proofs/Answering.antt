@@ -1,18 +1,11 @@
 -- What begins by an answer, or without one.
-use Rattle.std.proofs.Common.{◌≡◌, ℕ, List, refl, sym, subst}
-use Rattle.std.specs.Prelude.{Option, Some, None}
-use Rattle.ocpi_text.specs.Text.{key}
-use Rattle.ocpi_types.specs.declared.authorizations.Authorization.{Authorization}
-use Rattle.ocpi_types.specs.declared.authorizations.AuthorizationInfo.{AuthorizationInfo}
-use Rattle.ocpi_types.specs.declared.site.Connector.{Connector}
-use Rattle.ocpi_types.specs.declared.site.Evse.{Evse}
-use Rattle.ocpi_types.specs.declared.site.Location.{Location}
-use Rattle.ocpi_types.specs.declared.site.Site.{Site}
-use Rattle.ocpi_types.specs.declared.words.AuthMethod.{AuthMethod}
-use Rattle.ocpi_types.specs.declared.words.AuthMethod.TheVariants as how
-use Rattle.ocpi_types.specs.declared.stored.OpenCommand.{OpenCommand}
-use Rattle.authorization_book.specs.declared.awaited.Awaited.{Awaited}
-use Rattle.operator_rows.specs.State.{Rows, IsSpent}
+use Rattle.std.proofs.Common.{◌≡◌, ℕ, List, refl, sym, subst, Option, Some, None}
+use Rattle.ocpi_text.specs.{key}
+use Rattle.ocpi_types.specs.{AuthMethod, Authorization, AuthorizationInfo, Connector, Evse, Location, OpenCommand, Site}
+use Rattle.ocpi_types.specs.how
+use Rattle.authorization_book.specs.{Awaited}
+use Rattle.operator_rows.specs.{IsSpent}
+use Rattle.operator_rows.specs.State.{Rows}
 use Rattle.session_tables.specs.declared.beginning.Beginning.{Beginning}
 use Rattle.session_tables.specs.declared.taking.Taking.{Taking}
 use Rattle.session_tables.specs.declared.taking.Taking.TheVariants.{No, Free, Reserved}
@@ -43,10 +36,6 @@ may_of May Free used t u = subst May (sym u) t
 may_of May (Reserved id) used t u = subst May (sym u) t
 
 module _ (site : Site) (w : Awaited) (method : AuthMethod) (reference : Option (List ℕ)) where
-  -- nothing begins where the token may not take the EVSE
-  pub none_taken : (taking : Taking) → taking ≡ No → (b : Beginning) → BeginsThere site (IsUsed taking) w method reference b → ⊥
-  none_taken taking is b there = subst (λ t. IsUsed t there.used) is there.may
-
   -- nor where the site has no such connector
   pub none_placed : (May : Option (List ℕ) → Type 0) → HasNoConnector site.locations (key w.place.evse_uid) (key w.place.connector_id) → (b : Beginning) → BeginsThere site May w method reference b → ⊥
   none_placed May none b there = none there.location there.of_evse there.of_connector there.place
@@ -78,12 +67,6 @@ module _ (site : Site) (w : Awaited) (method : AuthMethod) (reference : Option (
         (begins_there (Reserved id) (Some id) refl there.location there.of_evse there.of_connector there.place _ refl)
 
 module _ (site : Site) (s : Rows) (w : Awaited) (a : Authorization) (info : AuthorizationInfo) (only : (other : AuthorizationInfo) → Allows a w other → other ≡ info) where
-  -- a spent reference begins nothing
-  pub none_spent : IsSpent s.spent (key w.token.party) info.authorization_reference → (b : Beginning) → BeginsByAnswer site s w a b → ⊥
-  none_spent spent b by =
-      let same = only by.info by.allows in
-      by.unspent (subst (λ (x : AuthorizationInfo). IsSpent s.spent (key w.token.party) x.authorization_reference) (sym same) spent)
-
   pub by_answer : Allows a w info → ¬ IsSpent s.spent (key w.token.party) info.authorization_reference → (taking : Taking) → IsTaken (MayTake s w.token (key w.place.evse_uid)) taking →
       (r : Option Beginning) → Decided (BeginsThere site (IsUsed taking) w how.AuthRequest info.authorization_reference) r → Decided (BeginsByAnswer site s w a) r
   by_answer allows unspent taking t (Some b) there = record {

@@ -1,15 +1,11 @@
 -- The connectors that are found of a site.
-use Rattle.std.proofs.Common.{◌≡◌, ℕ, List, [], refl, sym, ap, subst, ◌∙◌}
-use Rattle.std.specs.Prelude.{Some, Contains, slice_get}
+use Rattle.std.proofs.Common.{◌≡◌, ℕ, List, [], refl, sym, ap, subst, ◌∙◌, Some, Contains, slice_get}
 use Rattle.std.specs.Option.{option_map}
 use Rattle.std.proofs.lemmas.Option.{same_Some, slice_get-map}
-use Rattle.ocpi_text.specs.Text.{key}
-use Rattle.ocpi_types.specs.Connectors.{AreConnectors, connector_keys}
-use Rattle.ocpi_types.specs.declared.site.Connector.{Connector}
-use Rattle.ocpi_types.specs.declared.site.Evse.{Evse}
-use Rattle.ocpi_types.specs.declared.site.Location.{Location}
+use Rattle.ocpi_text.specs.{key}
+use Rattle.ocpi_types.specs.{AreConnectors, Connector, Evse, Location, connector_keys}
 use Rattle.site_book.proofs.Apart.{one_place, place}
-use Rattle.site_book.specs.Sites.{IsConnectorOf, IsEvse, IsEvseOf}
+use Rattle.site_book.specs.{IsConnectorOf, IsEvseOf}
 use Rattle.session_tables.specs.Places.{HasNoConnector, IsConnectorAt}
 
 at_id : (cs : List Connector) (i : ℕ) (k : Connector) (id : List ℕ) → slice_get cs i ≡ Some k → key k.id ≡ id → slice_get (connector_keys cs) i ≡ Some id
@@ -22,11 +18,6 @@ same_connector cs are j k here there same =
     let q = place cs k there in
     let one : p.0 ≡ q.0 = one_place [] (connector_keys cs) p.0 q.0 (key k.id) are.apart (at_id cs p.0 j (key k.id) p.1 same) (at_id cs q.0 k (key k.id) q.1 refl) in
     same_Some j k (sym p.1 ∙ ap (slice_get cs) one ∙ q.1)
-
--- without the EVSE there is no connector of it
-pub no_evse : (locations : List Location) (evse connector : List ℕ) → ¬ IsEvse locations evse → HasNoConnector locations evse connector
-no_evse locations evse connector none l e k at =
-    none (record { location = l; evse = e; listed = at.of_site.listed; within = at.of_site.within; same = at.of_site.same })
 
 module _ (locations : List Location) (evse connector : List ℕ) (l : Location) (e : Evse) (sole : (m : Location) (f : Evse) → IsEvseOf locations evse m f → (m ≡ l) × (f ≡ e)) where
   -- the connector of an id is the one of that id at the EVSE that was found

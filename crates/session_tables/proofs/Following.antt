@@ -1,15 +1,9 @@
 -- What a report makes of a version may follow it, and is one.
-use Rattle.std.proofs.Common.{◌≡◌, ℕ, ℤ, refl, sym, subst, ◌∙◌, inl, inr, arith}
+use Rattle.std.proofs.Common.{◌≡◌, ℕ, ℤ, refl, sym, subst, ◌∙◌, inl, inr, arith, Option}
 use Rattle.std.proofs.lemmas.Int.{ints}
-use Rattle.std.specs.Prelude.{Option}
-use Rattle.ocpi_types.specs.declared.events.ChargerEvent.{ChargerEvent}
-use Rattle.ocpi_types.specs.declared.events.ChargerEvent.TheVariants as event
-use Rattle.ocpi_types.specs.declared.sessions.Price.{Price}
-use Rattle.ocpi_types.specs.declared.sessions.Session.{Session}
-use Rattle.ocpi_types.specs.declared.words.SessionStatus.{SessionStatus}
-use Rattle.ocpi_types.specs.declared.words.SessionStatus.TheVariants.{Active, Completed, Invalid, Pending}
-use Rattle.session_state.specs.Versions.{HasCost, ended}
-use Rattle.session_state.specs.Pasts.{IsSame, IsTurn, MayFollow}
+use Rattle.ocpi_types.specs.{Active, ChargerEvent, Completed, Invalid, Pending, Price, Session, SessionStatus}
+use Rattle.ocpi_types.specs.event
+use Rattle.session_state.specs.{HasCost, IsSame, IsTurn, MayFollow, ended}
 use Rattle.session_tables.specs.Laws.{BeginningsAreOfSite, MovesAreOne, MovesMayFollow}
 use Rattle.session_tables.specs.Moves.{Ends, Makes}
 use Rattle.session_tables.proofs.Inverting.{accepted_for, answered_for, unanswered_for}

@@ -1,34 +1,17 @@
 -- What a report makes of the session at an EVSE.
-use Rattle.std.proofs.Common.{◌≡◌, ℕ, ℤ, List, refl, sym, ap, subst, ◌∙◌, inl, inr}
-use Rattle.std.specs.Prelude.{Some}
+use Rattle.std.proofs.Common.{◌≡◌, ℕ, ℤ, List, refl, sym, ap, subst, ◌∙◌, Some}
 use Rattle.std.proofs.lemmas.Option.{same_Some}
-use Rattle.ocpi_text.specs.Text.{key}
-use Rattle.ocpi_types.specs.declared.events.ChargerEvent.{ChargerEvent}
-use Rattle.ocpi_types.specs.declared.sessions.Session.{Session}
-use Rattle.ocpi_types.specs.declared.site.Site.{Site}
-use Rattle.ocpi_types.specs.declared.words.SessionStatus.{SessionStatus}
-use Rattle.ocpi_types.specs.declared.words.SessionStatus.TheVariants as status
-use Rattle.session_state.specs.Resuming.{CannotResume, IsResumed, in_state}
-use Rattle.session_state.specs.Versions.{HasCost, Priced}
-use Rattle.session_state.specs.declared.resuming.Resumed.{Resumed}
+use Rattle.ocpi_types.specs.{ChargerEvent, Session, SessionStatus, Site}
+use Rattle.ocpi_types.specs.status
+use Rattle.session_state.specs.{IsResumed, Priced, Resumed, in_state}
 use Rattle.session_state.specs.declared.resuming.Resumed.TheVariants as resumed
-use Rattle.operator_rows.specs.Sound.{IsSound}
-use Rattle.operator_rows.specs.State.{Rows, State, IsLive}
+use Rattle.operator_rows.specs.{IsLive}
+use Rattle.operator_rows.specs.State.{Rows}
 use Rattle.session_tables.specs.declared.outcome.Moved.{Moved}
-use Rattle.session_tables.specs.declared.outcome.Moved.TheVariants.{Nothing}
 use Rattle.session_tables.specs.Going.{IsGoing, IsGoingAt}
 use Rattle.session_tables.specs.Moved as lines
 use Rattle.session_tables.specs.Moved.{Comes, IsMoved}
-use Rattle.session_tables.specs.Moves.{IsSessionAt, Makes, Moves, charging_at}
-
--- a session that has not ended has its cost
-pub cost_at : (s : State) → IsSound s → (evse : List ℕ) (v : Session) → IsSessionAt s.rows evse v → HasCost s.site.price v
-cost_at s sound evse v at = ((sound.sessions (key v.id) v at.stands).going at.live).priced
-
--- so it can go on
-pub can_resume : (price : ℤ) (v : Session) → IsLive v.status → HasCost price v → CannotResume price v → ⊥
-can_resume price v live cost (inl is) = subst IsLive is live
-can_resume price v live cost (inr unpriced) = unpriced cost
+use Rattle.session_tables.specs.Moves.{IsSessionAt, Makes, charging_at}
 
 -- as what it is
 pub goes_on : (price : ℤ) (v : Session) (x : Resumed) → IsLive v.status → IsResumed price v x → IsGoing price v x
@@ -45,17 +28,6 @@ goes_on price v x live is = go v.status refl live is.state
     go status.Reservation e live h = absurd live
 
 module _ (site : Site) (s : Rows) (at : ℕ) (report : ChargerEvent) (evse : List ℕ) (about : charging_at report ≡ Some evse) where
-  here_of : (v w : Session) → Moves site s at report v w → IsSessionAt s evse v
-  here_of v w moves = subst (λ k. IsSessionAt s k v) (same_Some _ _ (sym moves.about ∙ about)) moves.here
-
-  -- nothing is made where no session is
-  pub nobody : ((v : Session) → IsSessionAt s evse v → ⊥) → IsMoved site s at report Nothing
-  nobody none = lines.Still (λ v w moves. none v (here_of v w moves)) refl
-
-  -- nor where nothing is made of the one that is
-  pub still : (v : Session) → ((w : Session) → IsSessionAt s evse w → w ≡ v) → ((w : Session) → Makes site.price at report v w → ⊥) → IsMoved site s at report Nothing
-  still v only none = lines.Still (λ u w moves. none w (subst (λ x. Makes site.price at report x w) (only u (here_of u w moves)) moves.makes)) refl
-
   -- and else it moves
   pub goes : (v w : Session) → IsSessionAt s evse v → Makes site.price at report v w → (m : Moved) → Comes v w m → IsMoved site s at report m
   goes v w here makes m comes = lines.Goes v w (record { evse = evse; about = about; here = here; makes = makes }) comes

@@ -1,15 +1,13 @@
 -- The session at an EVSE is the one that its claim names.
-use Rattle.std.proofs.Common.{◌≡◌, ◌⊎◌, ℕ, List, refl, sym, subst, ◌∙◌, inl, inr, Bor, option_copied}
-use Rattle.std.specs.Prelude.{Option, Some, None, IfSome, IfNone}
+use Rattle.std.proofs.Common.{◌≡◌, ◌⊎◌, ℕ, List, refl, sym, subst, ◌∙◌, inl, inr, Bor, option_copied, Option, Some}
+use Rattle.std.proofs.Common.{None, IfSome, IfNone}
 use Rattle.std.specs.FinMap.{get}
-use Rattle.ocpi_text.specs.Text.{key}
-use Rattle.ocpi_types.specs.declared.sessions.Session.{Session}
-use Rattle.site_book.specs.declared.claim.Claim.{Claim}
-use Rattle.site_book.specs.declared.claim.Claim.TheVariants.{Live, OpenStart, Reserved}
-use Rattle.site_book.specs.Sites.{Claims}
+use Rattle.ocpi_text.specs.{key}
+use Rattle.ocpi_types.specs.{Session}
+use Rattle.site_book.specs.{Claim, Claims, Live, OpenStart, Reserved}
 use Rattle.session_book.specs.Stored.{AreKeyed}
-use Rattle.operator_rows.specs.Claimed.{IsIndexed}
-use Rattle.operator_rows.specs.State.{Rows, Occupies}
+use Rattle.operator_rows.specs.{IsIndexed, Occupies}
+use Rattle.operator_rows.specs.State.{Rows}
 use Rattle.session_tables.specs.Moves.{IsSessionAt}
 
 -- an open start and a reservation are no session

@@ -1,13 +1,9 @@
 -- What follows where a driver shows a token, by the line of the table that applies.
-use Rattle.std.proofs.Common.{◌≡◌, ℕ, List, refl, subst}
-use Rattle.std.specs.Prelude.{Some, None}
-use Rattle.ocpi_text.specs.Text.{key}
-use Rattle.ocpi_types.specs.declared.site.Connector.{Connector}
-use Rattle.ocpi_types.specs.declared.site.Evse.{Evse}
-use Rattle.ocpi_types.specs.declared.site.Location.{Location}
-use Rattle.ocpi_types.specs.declared.words.TokenType.{TokenType}
+use Rattle.std.proofs.Common.{◌≡◌, ℕ, List, refl, subst, Some, None}
+use Rattle.ocpi_text.specs.{key}
+use Rattle.ocpi_types.specs.{Connector, Evse, Location, TokenType}
 use Rattle.token_desk.specs.Swipes as desk
-use Rattle.token_desk.specs.declared.answers.Swipe.{Swipe}
+use Rattle.token_desk.specs.{Swipe}
 use Rattle.operator_rows.specs.State.{State}
 use Rattle.session_tables.specs.Opened.{IsOpened}
 use Rattle.session_tables.specs.Places.{HasNoConnector, IsConnectorAt}

@@ -1,17 +1,13 @@
 -- What a token may take of an EVSE, by the one claim on it.
-use Rattle.std.proofs.Common.{◌≡◌, ℕ, false, List, refl, sym, subst, ◌∙◌}
+use Rattle.std.proofs.Common.{◌≡◌, ℕ, false, List, refl, sym, subst, ◌∙◌, Option, Some, None, IsTrue}
 use Rattle.std.proofs.lemmas.Bool.{false≢true}
-use Rattle.std.specs.Prelude.{Option, Some, None, IsTrue}
 use Rattle.std.specs.FinMap.{get}
-use Rattle.ocpi_text.specs.Text.{key}
-use Rattle.ocpi_types.specs.declared.stored.Reservation.{Reservation}
-use Rattle.ocpi_types.specs.declared.token.Token.{Token}
-use Rattle.ocpi_types.specs.declared.words.TokenType.{TokenType}
-use Rattle.site_book.specs.declared.claim.Claim.{Claim}
-use Rattle.site_book.specs.declared.claim.Claim.TheVariants as claim
-use Rattle.site_book.specs.Sites.{Claims, works}
-use Rattle.operator_rows.specs.Claimed.{IsIndexed}
-use Rattle.operator_rows.specs.State.{Rows, State, HasClaim, IsFree}
+use Rattle.ocpi_text.specs.{key}
+use Rattle.ocpi_types.specs.{Reservation, Token, TokenType}
+use Rattle.site_book.specs.{Claim, Claims, works}
+use Rattle.site_book.specs.claim
+use Rattle.operator_rows.specs.{HasClaim, IsFree, IsIndexed}
+use Rattle.operator_rows.specs.State.{Rows, State}
 use Rattle.session_tables.specs.Places as places
 use Rattle.session_tables.specs.Swipes as swipes
 use Rattle.session_tables.specs.Places.{EndsBy, HoldsFor, MayTake, MayTakeAt}
@@ -86,13 +82,6 @@ module _ (claims : Claims) (s : Rows) (h : IsIndexed claims s) (evse : List ℕ)
 
 -- what an EVSE is open to
 module _ (claims : Claims) (s : State) (h : IsIndexed claims s.rows) (evse uid : List ℕ) (type : TokenType) where
-  pub open_free : IsReady s evse → get claims evse ≡ None → IsOpenTo s evse uid type None
-  open_free ready none = swipes.Free ready (unclaimed claims s.rows h evse none) refl
-
-  pub not_ready : ¬ IsReady s evse → (held : Option (List ℕ × List ℕ)) → IsOpenTo s evse uid type held → ⊥
-  not_ready unready x (swipes.Free ready free e) = unready ready
-  not_ready unready x (swipes.Held ready p id holds e) = unready ready
-
   -- a claim leaves it open as far as it is a reservation for the token
   pub opens_by : IsReady s evse → (c : Claim) → get claims evse ≡ Some c → (r : Openness) → IsHeldFor s.rows c uid type r → IsOpened s evse uid type r
   opens_by ready c is Closed none = go

@@ -1,8 +1,7 @@
 -- What is told of a token without its provider's answer (OCPI 2.2.1, Tokens: WhitelistType), and what it takes an EVSE
 -- by.
 use Rattle.std.specs.Prelude.{◌≡◌, ℕ, true, List, Option, Some, None}
-use Rattle.ocpi_types.specs.declared.token.Token.{Token}
-use Rattle.ocpi_types.specs.declared.words.WhitelistType.TheVariants.{AllowedOffline}
+use Rattle.ocpi_types.specs.{AllowedOffline, Token}
 use Rattle.session_tables.specs.declared.taking.Taking.{Taking}
 use Rattle.session_tables.specs.declared.taking.Taking.TheVariants.{No, Free, Reserved}
 

@@ -1,21 +1,14 @@
 -- What follows where a provider answers whether its token may be used, and where no answer came in time (OCPI 2.2.1,
 -- Tokens: AuthorizationInfo, AllowedType).
 use Rattle.std.specs.Prelude.{◌≡◌, ℕ, true, List, Option, Some, None}
-use Rattle.ocpi_text.specs.Text.{key}
-use Rattle.ocpi_types.specs.declared.authorizations.Authorization.{Authorization}
-use Rattle.ocpi_types.specs.declared.authorizations.Authorization.TheVariants.{Done}
-use Rattle.ocpi_types.specs.declared.authorizations.AuthorizationInfo.{AuthorizationInfo}
-use Rattle.ocpi_types.specs.declared.site.Connector.{Connector}
-use Rattle.ocpi_types.specs.declared.site.Evse.{Evse}
-use Rattle.ocpi_types.specs.declared.site.Location.{Location}
-use Rattle.ocpi_types.specs.declared.site.Site.{Site}
-use Rattle.ocpi_types.specs.declared.token.Token.{Token}
+use Rattle.ocpi_text.specs.{key}
+use Rattle.ocpi_types.specs.{AllowedOffline, AuthMethod, Authorization, AuthorizationInfo, Connector, Done, Evse}
+use Rattle.ocpi_types.specs.{Location, Site, Token}
 use Rattle.ocpi_types.specs.declared.words.AllowedType.TheVariants.{Allowed}
-use Rattle.ocpi_types.specs.declared.words.AuthMethod.{AuthMethod}
-use Rattle.ocpi_types.specs.declared.words.AuthMethod.TheVariants as how
-use Rattle.ocpi_types.specs.declared.words.WhitelistType.TheVariants.{AllowedOffline}
-use Rattle.authorization_book.specs.declared.awaited.Awaited.{Awaited}
-use Rattle.operator_rows.specs.State.{Rows, IsSpent}
+use Rattle.ocpi_types.specs.how
+use Rattle.authorization_book.specs.{Awaited}
+use Rattle.operator_rows.specs.{IsSpent}
+use Rattle.operator_rows.specs.State.{Rows}
 use Rattle.session_tables.specs.declared.beginning.Beginning.{Beginning}
 use Rattle.session_tables.specs.Beginnings.{begins}
 use Rattle.session_tables.specs.Places.{IsConnectorAt, MayTake}

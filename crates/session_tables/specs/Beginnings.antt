@@ -1,15 +1,8 @@
 -- A session that begins (OCPI 2.2.1, Sessions: Session object; CDRs: AuthMethod, CdrToken).
 use Rattle.std.specs.Prelude.{ℕ, List, Option}
-use Rattle.ocpi_text.specs.OwnIds.{own_id_text}
-use Rattle.ocpi_text.specs.declared.own_ids.OwnIdKind.TheVariants as own
-use Rattle.ocpi_types.specs.declared.sessions.Opening.{Opening}
-use Rattle.ocpi_types.specs.declared.site.Connector.{Connector}
-use Rattle.ocpi_types.specs.declared.site.Evse.{Evse}
-use Rattle.ocpi_types.specs.declared.site.Location.{Location}
-use Rattle.ocpi_types.specs.declared.site.Site.{Site}
-use Rattle.ocpi_types.specs.declared.token.CdrToken.{CdrToken}
-use Rattle.ocpi_types.specs.declared.token.Token.{Token}
-use Rattle.ocpi_types.specs.declared.words.AuthMethod.{AuthMethod}
+use Rattle.ocpi_text.specs.{own_id_text}
+use Rattle.ocpi_text.specs.own
+use Rattle.ocpi_types.specs.{AuthMethod, CdrToken, Connector, Evse, Location, Opening, Site, Token}
 use Rattle.session_tables.specs.declared.beginning.Beginning.{Beginning}
 use Rattle.session_tables.specs.Places.{place_of}
 

@@ -1,9 +1,7 @@
 -- What is found of a site: a connector, with its EVSE and its location (OCPI 2.2.1, Locations: EVSE and Connector
 -- object).
 use Rattle.std.specs.Prelude.{ℕ, List}
-use Rattle.ocpi_types.specs.declared.site.Connector.{Connector}
-use Rattle.ocpi_types.specs.declared.site.Evse.{Evse}
-use Rattle.ocpi_types.specs.declared.site.Location.{Location}
+use Rattle.ocpi_types.specs.{Connector, Evse, Location}
 use Rattle.session_tables.specs.declared.places.FoundConnector.{FoundConnector}
 use Rattle.session_tables.specs.Places.{IsConnectorAt}
 

@@ -1,8 +1,8 @@
 -- A session that has not ended goes on at a price.
 use Rattle.std.specs.Prelude.{◌≡◌, ℕ, ℤ, List}
-use Rattle.ocpi_types.specs.declared.sessions.Session.{Session}
-use Rattle.ocpi_types.specs.declared.words.SessionStatus.TheVariants as status
-use Rattle.session_state.specs.declared.resuming.Resumed.{Resumed}
+use Rattle.ocpi_types.specs.{Session}
+use Rattle.ocpi_types.specs.status
+use Rattle.session_state.specs.{Resumed}
 use Rattle.operator_rows.specs.State.{Rows}
 use Rattle.session_tables.specs.Moves.{IsSessionAt}
 use Rattle.session_state.specs.declared.resuming.Resumed.TheVariants as resumed

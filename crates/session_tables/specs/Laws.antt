@@ -1,16 +1,10 @@
 -- Laws of how sessions begin and go on.
 use Rattle.std.specs.Prelude.{◌≡◌, ◌<◌, ℕ}
-use Rattle.ocpi_text.specs.Moment.{last_moment}
-use Rattle.ocpi_text.specs.Text.{key}
-use Rattle.ocpi_types.specs.declared.events.ChargerEvent.{ChargerEvent}
-use Rattle.ocpi_types.specs.declared.sessions.Session.{Session}
-use Rattle.ocpi_types.specs.declared.site.Site.{Site}
-use Rattle.ocpi_types.specs.declared.stored.OpenCommand.{OpenCommand}
-use Rattle.ocpi_types.specs.declared.authorizations.Authorization.{Authorization}
-use Rattle.authorization_book.specs.declared.awaited.Awaited.{Awaited}
-use Rattle.session_state.specs.Versions.{HasCost}
-use Rattle.session_state.specs.Pasts.{MayFollow}
-use Rattle.site_book.specs.Sites.{IsConnectorOf}
+use Rattle.ocpi_text.specs.{key, last_moment}
+use Rattle.ocpi_types.specs.{Authorization, ChargerEvent, OpenCommand, Session, Site}
+use Rattle.authorization_book.specs.{Awaited}
+use Rattle.session_state.specs.{HasCost, MayFollow}
+use Rattle.site_book.specs.{IsConnectorOf}
 use Rattle.operator_rows.specs.State.{Rows}
 use Rattle.session_tables.specs.declared.beginning.Beginning.{Beginning}
 use Rattle.session_tables.specs.Accepts.{Accepts}

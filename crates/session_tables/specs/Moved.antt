@@ -1,10 +1,7 @@
 -- What is told of a report about a session (OCPI 2.2.1, Sessions: Session object, last_updated).
 use Rattle.std.specs.Prelude.{◌≡◌, ◌≢◌, ◌<◌, ℕ}
-use Rattle.ocpi_text.specs.Moment.{last_moment}
-use Rattle.ocpi_types.specs.declared.events.ChargerEvent.{ChargerEvent}
-use Rattle.ocpi_types.specs.declared.sessions.Session.{Session}
-use Rattle.ocpi_types.specs.declared.site.Site.{Site}
-use Rattle.ocpi_types.specs.declared.words.SessionStatus.TheVariants.{Completed}
+use Rattle.ocpi_text.specs.{last_moment}
+use Rattle.ocpi_types.specs.{ChargerEvent, Completed, Session, Site}
 use Rattle.operator_rows.specs.State.{Rows}
 use Rattle.session_tables.specs.declared.outcome.Moved.{Moved}
 use Rattle.session_tables.specs.declared.outcome.Moved.TheVariants as moved

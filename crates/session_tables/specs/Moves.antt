@@ -1,14 +1,12 @@
 -- What a charge point's report makes of the session at an EVSE (OCPI 2.2.1, Sessions: Session object, SessionStatus).
 use Rattle.std.specs.Prelude.{◌≡◌, ◌⊎◌, ℕ, ℤ, List, Option, Some, None}
 use Rattle.std.specs.FinMap.{get}
-use Rattle.ocpi_text.specs.Text.{key}
-use Rattle.ocpi_types.specs.declared.events.ChargerEvent.{ChargerEvent}
-use Rattle.ocpi_types.specs.declared.events.ChargerEvent.TheVariants as event
-use Rattle.ocpi_types.specs.declared.sessions.Session.{Session}
-use Rattle.ocpi_types.specs.declared.site.Site.{Site}
-use Rattle.ocpi_types.specs.declared.words.SessionStatus.TheVariants.{Pending, Active}
-use Rattle.session_state.specs.Versions.{CanRead, activated, metered, completed, voided}
-use Rattle.operator_rows.specs.State.{Rows, IsLive}
+use Rattle.ocpi_text.specs.{key}
+use Rattle.ocpi_types.specs.{Active, ChargerEvent, Pending, Session, Site}
+use Rattle.ocpi_types.specs.event
+use Rattle.session_state.specs.{CanRead, activated, completed, metered, voided}
+use Rattle.operator_rows.specs.{IsLive}
+use Rattle.operator_rows.specs.State.{Rows}
 
 -- the session that is at the EVSE of that key and has not ended
 pub record IsSessionAt (s : Rows) (evse : List ℕ) (v : Session) : Type 0 where

@@ -1,11 +1,10 @@
 -- Whether an EVSE takes a token that is shown at it.
 use Rattle.std.specs.Prelude.{◌≡◌, ℕ, List, Option, Some, None}
 use Rattle.std.specs.FinMap.{get}
-use Rattle.ocpi_types.specs.declared.words.TokenType.{TokenType}
-use Rattle.ocpi_types.specs.declared.stored.Reservation.{Reservation}
-use Rattle.reservation_book.specs.Tokens.{IsToken}
-use Rattle.site_book.specs.declared.claim.Claim.{Claim}
-use Rattle.site_book.specs.declared.claim.Claim.TheVariants as claim
+use Rattle.ocpi_types.specs.{Reservation, TokenType}
+use Rattle.reservation_book.specs.{IsToken}
+use Rattle.site_book.specs.{Claim}
+use Rattle.site_book.specs.claim
 use Rattle.operator_rows.specs.State.{Rows, State}
 use Rattle.session_tables.specs.declared.swipes.Openness.{Openness}
 use Rattle.session_tables.specs.declared.swipes.Openness.TheVariants.{Closed, Free, Held}

@@ -2,21 +2,12 @@
 -- Locations: EVSE and Connector object; CDRs: CdrLocation).
 use Rattle.std.specs.Prelude.{◌≡◌, ◌≤◌, ℕ, List, Option, Some, None, Contains, IsTrue}
 use Rattle.std.specs.FinMap.{get}
-use Rattle.ocpi_text.specs.Text.{key}
-use Rattle.ocpi_types.specs.declared.cdrs.CdrLocation.{CdrLocation}
-use Rattle.ocpi_types.specs.declared.rows.Place.{Place}
-use Rattle.ocpi_types.specs.declared.site.Location.{Location}
-use Rattle.ocpi_types.specs.declared.site.Evse.{Evse}
-use Rattle.ocpi_types.specs.declared.site.Connector.{Connector}
-use Rattle.ocpi_types.specs.declared.stored.OpenCommand.{OpenCommand}
-use Rattle.ocpi_types.specs.declared.stored.Reservation.{Reservation}
-use Rattle.ocpi_types.specs.declared.token.Token.{Token}
-use Rattle.ocpi_types.specs.declared.words.TokenType.{TokenType}
-use Rattle.reservation_book.specs.Tokens.{IsToken}
-use Rattle.site_book.specs.Sites.{IsEvseOf, works}
-use Rattle.site_book.specs.declared.claim.Claim.{Claim}
-use Rattle.site_book.specs.declared.claim.Claim.TheVariants.{OpenStart, Live, Reserved}
-use Rattle.operator_rows.specs.State.{Rows, HasClaim, IsFree}
+use Rattle.ocpi_text.specs.{key}
+use Rattle.ocpi_types.specs.{CdrLocation, Connector, Evse, Location, OpenCommand, Place, Reservation, Token, TokenType}
+use Rattle.reservation_book.specs.{IsToken}
+use Rattle.site_book.specs.{Claim, IsEvseOf, Live, OpenStart, Reserved, works}
+use Rattle.operator_rows.specs.{HasClaim, IsFree}
+use Rattle.operator_rows.specs.State.{Rows}
 
 -- the connector of those keys, with its EVSE and its location, as the site has them
 pub record IsConnectorAt (locations : List Location) (evse connector : List ℕ) (l : Location) (e : Evse) (k : Connector) : Type 0 where

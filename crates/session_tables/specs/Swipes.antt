@@ -1,18 +1,16 @@
 -- What follows where a driver shows a token at a connector (OCPI 2.2.1, Tokens: Real-time authorization,
 -- WhitelistType).
 use Rattle.std.specs.Prelude.{◌≡◌, ℕ, List, Option, Some, None, IsTrue}
-use Rattle.ocpi_text.specs.Text.{key}
-use Rattle.ocpi_types.specs.declared.site.Connector.{Connector}
-use Rattle.ocpi_types.specs.declared.site.Evse.{Evse}
-use Rattle.ocpi_types.specs.declared.site.Location.{Location}
-use Rattle.ocpi_types.specs.declared.words.AuthMethod.TheVariants as how
-use Rattle.ocpi_types.specs.declared.words.TokenType.{TokenType}
-use Rattle.site_book.specs.Sites.{works}
+use Rattle.ocpi_text.specs.{key}
+use Rattle.ocpi_types.specs.{Connector, Evse, Location, TokenType}
+use Rattle.ocpi_types.specs.how
+use Rattle.site_book.specs.{works}
 use Rattle.token_desk.specs.Swipes as desk
-use Rattle.token_desk.specs.declared.answers.Swipe.{Swipe}
-use Rattle.token_desk.specs.declared.answers.Swipe.TheVariants as shown
-use Rattle.authorization_book.specs.Waits.{IsAwaitedAt}
-use Rattle.operator_rows.specs.State.{State, IsFree}
+use Rattle.token_desk.specs.{Swipe}
+use Rattle.token_desk.specs.told as shown
+use Rattle.authorization_book.specs.{IsAwaitedAt}
+use Rattle.operator_rows.specs.{IsFree}
+use Rattle.operator_rows.specs.State.{State}
 use Rattle.session_tables.specs.declared.shown.Shown.{Shown}
 use Rattle.session_tables.specs.declared.shown.Shown.TheVariants.{Nothing, Begins, Asks}
 use Rattle.session_tables.specs.Beginnings.{begins}

@@ -1,12 +1,11 @@
 -- By what a token takes an EVSE.
 use Rattle.std.specs.Prelude.{◌≡◌, ℕ, List, Option, Some, None}
 use Rattle.std.specs.FinMap.{get}
-use Rattle.ocpi_text.specs.Text.{key}
-use Rattle.ocpi_types.specs.declared.stored.Reservation.{Reservation}
-use Rattle.ocpi_types.specs.declared.token.Token.{Token}
-use Rattle.reservation_book.specs.Tokens.{IsToken}
-use Rattle.site_book.specs.declared.claim.Claim.{Claim}
-use Rattle.site_book.specs.declared.claim.Claim.TheVariants as claim
+use Rattle.ocpi_text.specs.{key}
+use Rattle.ocpi_types.specs.{Reservation, Token}
+use Rattle.reservation_book.specs.{IsToken}
+use Rattle.site_book.specs.{Claim}
+use Rattle.site_book.specs.claim
 use Rattle.operator_rows.specs.State.{Rows}
 use Rattle.session_tables.specs.declared.taking.Taking.{Taking}
 use Rattle.session_tables.specs.declared.taking.Taking.TheVariants.{No, Free, Reserved}

@@ -2,9 +2,9 @@
 //! Tokens: AuthorizationInfo class).
 
 ghost use Rattle.std.specs.Prelude.{◌≡◌, ◌↔◌, IfNone, IfSome, IsTrue, ℕ, List, Option};
-ghost use Rattle.ocpi_types.specs.declared.authorizations.AuthorizationInfo.{AuthorizationInfo as InfoOf};
-ghost use Rattle.ocpi_text.specs.Text.{key};
-ghost use Rattle.ocpi_types.specs.declared.words.AllowedType.TheVariants as answers;
+ghost use Rattle.ocpi_types.specs.{AuthorizationInfo as InfoOf};
+ghost use Rattle.ocpi_text.specs.{key};
+ghost use Rattle.ocpi_types.specs.allowed as answers;
 ghost use Rattle.session_tables.specs.Answers.{
   Allows,
   BeginsByAnswer,
@@ -21,9 +21,7 @@ use crate::places::connector_at;
 use crate::taking::{Taking, may_take, may_take_at};
 use authorization_book::Awaited;
 use ocpi_text::{CiText, Moment};
-use ocpi_types::{
-    AllowedType, AuthMethod, Authorization, AuthorizationInfo, Token, WhitelistType, type_place,
-};
+use ocpi_types::{AllowedType, AuthMethod, Authorization, AuthorizationInfo, Token, WhitelistType, type_place};
 use operator_rows::Books;
 
 /// Whether two tokens are one: of one party, uid and type.

@@ -1,9 +1,9 @@
 //! What a charge point's report makes of the session at an EVSE (OCPI 2.2.1, Sessions: Session object, SessionStatus).
 
 ghost use Rattle.std.specs.Prelude.{◌≡◌, IfNone, IfSome};
-ghost use Rattle.ocpi_types.specs.declared.events.ChargerEvent.TheVariants as event;
-ghost use Rattle.ocpi_types.specs.declared.sessions.Session.{Session as SessionOf};
-ghost use Rattle.session_state.specs.Versions.{CanRead, activated, metered, completed, voided};
+ghost use Rattle.ocpi_types.specs.event;
+ghost use Rattle.ocpi_types.specs.{Session as SessionOf};
+ghost use Rattle.session_state.specs.{CanRead, activated, completed, metered, voided};
 ghost use Rattle.session_tables.specs.Moved.{Comes, IsMoved};
 ghost use Rattle.session_tables.specs.Moves.{IsSessionAt};
 ghost use Rattle.session_tables.specs.Going.{IsGoingAt};

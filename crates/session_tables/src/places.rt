@@ -1,10 +1,8 @@
 //! Where a session is charged (OCPI 2.2.1, Locations: EVSE and Connector object; CDRs: CdrLocation class).
 
 ghost use Rattle.std.specs.Prelude.{◌≡◌, Contains, IfNone, IfOk, IfSome};
-ghost use Rattle.ocpi_text.specs.Text.{key};
-ghost use Rattle.ocpi_types.specs.declared.site.Connector.{Connector as ConnectorOf};
-ghost use Rattle.ocpi_types.specs.declared.site.Evse.{Evse as EvseOf};
-ghost use Rattle.ocpi_types.specs.declared.site.Location.{Location as LocationOf};
+ghost use Rattle.ocpi_text.specs.{key};
+ghost use Rattle.ocpi_types.specs.{Connector as ConnectorOf, Evse as EvseOf, Location as LocationOf};
 ghost use Rattle.session_tables.specs.Found.{IsFoundAt, location_of, evse_of, connector_of};
 ghost use Rattle.session_tables.specs.Places.{HasNoConnector, IsConnectorAt, cdr_location_of};
 

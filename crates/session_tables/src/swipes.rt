@@ -1,7 +1,7 @@
 //! What follows where a driver shows a token (OCPI 2.2.1, Tokens: Real-time authorization, WhitelistType).
 
 ghost use Rattle.std.specs.Prelude.{◌≡◌, ◌↔◌, IsTrue};
-ghost use Rattle.ocpi_text.specs.Text.{key};
+ghost use Rattle.ocpi_text.specs.{key};
 ghost use Rattle.session_tables.specs.Found.{location_of, evse_of, connector_of};
 ghost use Rattle.session_tables.specs.Opened.{IsHeldFor, IsOpened};
 ghost use Rattle.session_tables.specs.Swipes.{IsReady, SwipeLine, told_by};

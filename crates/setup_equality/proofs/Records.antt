@@ -1,9 +1,6 @@
 -- Records are equal just where their fields are.
 use Rattle.std.proofs.Common.{◌≡◌, ap}
-use Rattle.ocpi_types.specs.declared.site.Connector.{Connector}
-use Rattle.ocpi_types.specs.declared.site.Evse.{Evse}
-use Rattle.ocpi_types.specs.declared.site.Location.{Location}
-use Rattle.ocpi_types.specs.declared.site.Site.{Site}
+use Rattle.ocpi_types.specs.{Connector, Evse, Location, Site}
 use Rattle.setup_equality.specs.Addresses.{IsSameAddress}
 
 pub connectors_are : (a b : Connector) → a.id ≡ b.id → a.standard ≡ b.standard → a.format ≡ b.format → a.power_type ≡ b.power_type → a ≡ b

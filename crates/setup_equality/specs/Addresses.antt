@@ -1,6 +1,6 @@
 -- When two locations have one address.
 use Rattle.std.specs.Prelude.{◌≡◌}
-use Rattle.ocpi_types.specs.declared.site.Location.{Location}
+use Rattle.ocpi_types.specs.{Location}
 
 pub record IsSameAddress (a b : Location) : Type 0 where
   pub address : a.address ≡ b.address

@@ -1,16 +1,13 @@
 -- In lists of texts that differ, each text stands at one place.
-use Rattle.std.proofs.Common.{◌≡◌, ℕ, zero, suc, List, [], ◌∷◌, ◌++◌, refl, sym, ap, subst, ◌∙◌, length}
-use Rattle.std.specs.Prelude.{Some, Contains, slice_get}
+use Rattle.std.proofs.Common.{◌≡◌, ℕ, zero, suc, List, [], ◌∷◌, ◌++◌, refl, sym, ap, subst, ◌∙◌, length, Some, Contains}
+use Rattle.std.proofs.Common.{slice_get}
 use Rattle.std.specs.List.{flat_map}
 use Rattle.std.proofs.lemmas.List.{append_assoc, append-nil}
 use Rattle.std.proofs.lemmas.List.Elements.{Contains-append_left, Contains-append_right, Contains-push}
 use Rattle.std.proofs.lemmas.Option.{same_Some, slice_get_within, get_or_from_slice_get, slice_get_read, slice_get-map}
 use Rattle.std.specs.Option.{option_map}
-use Rattle.ocpi_text.specs.Text.{key}
-use Rattle.ocpi_types.specs.Apart.{DifferFrom, AllDiffer}
-use Rattle.ocpi_types.specs.Locations.{evse_keys, location_keys, site_evse_keys}
-use Rattle.ocpi_types.specs.declared.site.Location.{Location}
-use Rattle.ocpi_types.specs.declared.site.Evse.{Evse}
+use Rattle.ocpi_text.specs.{key}
+use Rattle.ocpi_types.specs.{AllDiffer, DifferFrom, Evse, Location, evse_keys, location_keys, site_evse_keys}
 use Rattle.site_book.specs.Positions.{OneEvseEach, OneLocationEach}
 
 module _ {X : Type 0} (xs : List X) where

@@ -1,9 +1,7 @@
 -- Indexes find one more EVSE once it is added.
-use Rattle.std.proofs.Common.{◌≡◌, ℕ, ◌+◌, List, refl}
-use Rattle.std.specs.Prelude.{Some, slice_get}
-use Rattle.ocpi_text.specs.Text.{key}
-use Rattle.ocpi_types.specs.declared.site.Location.{Location}
-use Rattle.ocpi_types.specs.declared.site.Evse.{Evse}
+use Rattle.std.proofs.Common.{◌≡◌, ℕ, ◌+◌, List, refl, Some, slice_get}
+use Rattle.ocpi_text.specs.{key}
+use Rattle.ocpi_types.specs.{Evse, Location}
 use Rattle.site_book.specs.declared.indexes.Indexes.{Indexes}
 use Rattle.site_book.specs.Indexes.{HaveEvses, AddsEvse}
 use Rattle.site_book.specs.Positions.{IsBefore}

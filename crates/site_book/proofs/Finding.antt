@@ -1,16 +1,13 @@
 -- What the indexes of a site find is what is looked for.
-use Rattle.std.proofs.Common.{◌≡◌, ℕ, Bool, true, false, List, [], ◌∷◌, refl, sym, ap, subst, ◌∙◌}
-use Rattle.std.specs.Prelude.{◌≢◌, Option, Some, None, IsTrue, IsSome, IsNone, IfNone, Contains, is_some, slice_get, nat_eq}
+use Rattle.std.proofs.Common.{◌≡◌, ℕ, Bool, true, false, List, [], ◌∷◌, refl, sym, ap, subst, ◌∙◌, ◌≢◌, Option, Some}
+use Rattle.std.proofs.Common.{None, IsTrue, IsSome, IsNone, IfNone, Contains, is_some, slice_get, nat_eq}
 use Rattle.std.proofs.lemmas.Option.{same_Some}
 use Rattle.std.specs.List.{list_any, position}
 use Rattle.std.specs.Cmp.Lexicographic.{pointwise}
 use Rattle.std.specs.FinMap.{FinMap, get, contains_key}
-use Rattle.ocpi_types.specs.Locations.{location_keys}
-use Rattle.ocpi_text.specs.Text.{key}
-use Rattle.ocpi_types.specs.declared.site.Location.{Location}
-use Rattle.ocpi_types.specs.declared.site.Evse.{Evse}
-use Rattle.ocpi_types.specs.declared.site.Connector.{Connector}
-use Rattle.tables.specs.Keys.{text_cmp}
+use Rattle.ocpi_types.specs.{Connector, Evse, Location, location_keys}
+use Rattle.ocpi_text.specs.{key}
+use Rattle.tables.specs.{text_cmp}
 use Rattle.site_book.specs.Sites.{OutOfService, IsLocation, IsEvseFor, IsChosen, Fits, IsEvse, IsEvseOf}
 use Rattle.site_book.specs.Positions.{Position, IsEvseAt, HasEvse, OneEvseEach, OneLocationEach, FindsEvses, IsFlag, Marks}
 use Rattle.site_book.proofs.Apart.{contained, place}

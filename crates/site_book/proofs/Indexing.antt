@@ -1,16 +1,15 @@
 -- What finds the locations and EVSEs of a site stays right as it is filled.
-use Rattle.std.proofs.Common.{◌≡◌, ℕ, ◌<◌, ◌≤◌, ◌+◌, Bool, true, false, cond, ◌⊎◌, inl, inr, List, refl, sym, ap, subst, ◌∙◌, length, arith}
-use Rattle.std.specs.Prelude.{Option, Some, None, IsTrue, is_some, slice_get}
+use Rattle.std.proofs.Common.{◌≡◌, ℕ, ◌<◌, ◌≤◌, ◌+◌, Bool, true, false, cond, ◌⊎◌, inl, inr, List, refl, sym, ap, subst}
+use Rattle.std.proofs.Common.{◌∙◌, length, arith, Option, Some, None, IsTrue, is_some, slice_get}
 use Rattle.std.specs.declared.cmp.Ordering.{Ordering}
 use Rattle.std.specs.Ordering.{eq_by_cmp}
 use Rattle.std.specs.Cmp.{IsTotalOrder}
 use Rattle.std.specs.FinMap.{FinMap, get, insert, empty, contains_key, get-empty, get-insert}
 use Rattle.std.proofs.lemmas.Bool.{cases_lt}
 use Rattle.std.proofs.lemmas.Option.{same_Some, slice_get_within}
-use Rattle.ocpi_text.specs.Text.{key}
-use Rattle.ocpi_types.specs.declared.site.Location.{Location}
-use Rattle.ocpi_types.specs.declared.site.Evse.{Evse}
-use Rattle.tables.specs.Keys.{text_cmp, text_total, text_exact}
+use Rattle.ocpi_text.specs.{key}
+use Rattle.ocpi_types.specs.{Evse, Location}
+use Rattle.tables.specs.{text_cmp, text_exact, text_total}
 use Rattle.tables.proofs.Maps.{of_insert, get-insert_same}
 use Rattle.site_book.specs.Sites.{OutOfService}
 use Rattle.site_book.specs.Positions.{Position, IsEvseAt, HasEvse, FindsEvses, IsBefore}

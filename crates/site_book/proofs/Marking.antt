@@ -1,14 +1,14 @@
 -- The flags of the EVSEs of a site say what is tested of them, also once one is set anew.
-use Rattle.std.proofs.Common.{◌≡◌, ◌≢◌, ℕ, zero, suc, ◌+◌, ◌<◌, ◌&&◌, Bool, true, false, ◌⊎◌, inl, inr, List, [], ◌∷◌, ◌++◌, refl, sym, ap, subst, ◌∙◌, length, length-append, set, get_or, arith}
-use Rattle.std.specs.Prelude.{Option, Some, None, IsTrue, is_some, slice_get, not}
+use Rattle.std.proofs.Common.{◌≡◌, ◌≢◌, ℕ, zero, suc, ◌+◌, ◌<◌, ◌&&◌, Bool, true, false, ◌⊎◌, inl, inr, List, [], ◌∷◌}
+use Rattle.std.proofs.Common.{◌++◌, refl, sym, ap, subst, ◌∙◌, length, length-append, set, get_or, arith, Option, Some}
+use Rattle.std.proofs.Common.{None, IsTrue, is_some, slice_get, not}
 use Rattle.std.specs.FinMap.{empty, contains_key, get-empty}
 use Rattle.std.proofs.lemmas.Bool.{cases_lt}
 use Rattle.std.proofs.lemmas.Option.{same_Some, slice_get_within, get_or_from_slice_get}
-use Rattle.ocpi_types.specs.declared.site.Location.{Location}
-use Rattle.ocpi_types.specs.declared.site.Evse.{Evse}
-use Rattle.ocpi_text.specs.Text.{key}
+use Rattle.ocpi_types.specs.{Evse, Location}
+use Rattle.ocpi_text.specs.{key}
 use Rattle.site_book.specs.Flags.{AreFirst}
-use Rattle.tables.specs.Keys.{text_cmp}
+use Rattle.tables.specs.{text_cmp}
 use Rattle.site_book.specs.Indexes.{AreAllSet}
 use Rattle.site_book.specs.Sites.{Claims, OutOfService, works, is_free}
 use Rattle.site_book.specs.Positions.{Position, HasEvse, OneEvseEach, IsFlag, Marks, with_flag}
@@ -97,10 +97,6 @@ module _ (flags : List (List Bool)) (p : Position) (b : Bool) where
     ]
 
 module _ (locations : List Location) (flags : List (List Bool)) (test after : List ℕ → Bool) (m : Marks locations flags test) where
-  -- the test says the same of all
-  pub marks_stay : ((uid : List ℕ) → after uid ≡ test uid) → Marks locations flags after
-  marks_stay same = record { no_others = m.no_others; right = λ uid p has. subst (IsFlag flags p) (sym (same uid)) (m.right uid p has) }
-
   -- the test says another thing of one EVSE, whose flag is set so
   pub marks_set : (p : Position) (uid : List ℕ) → OneEvseEach locations → HasEvse locations p uid → ((other : List ℕ) → other ≢ uid → after other ≡ test other) →
       Marks locations (with_flag flags p (after uid)) after

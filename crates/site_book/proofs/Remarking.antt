@@ -1,12 +1,11 @@
 -- The indexes of a site are right again once the flags of an EVSE are set anew.
 use Rattle.std.proofs.Common.{◌≡◌, ◌≢◌, ℕ, ◌&&◌, Bool, true, false, ◌⊎◌, inl, inr, List, refl, sym, ap, subst, ◌∙◌}
-use Rattle.std.specs.Prelude.{Option, Some, None, IsTrue, is_some, not}
+use Rattle.std.proofs.Common.{Option, Some, None, IsTrue, is_some, not}
 use Rattle.std.specs.Ordering.{eq_by_cmp}
 use Rattle.std.specs.Cmp.{eq_by_cmp_equiv}
 use Rattle.std.specs.FinMap.{FinMap, get, insert, remove, contains_key, same_map}
-use Rattle.ocpi_types.specs.declared.site.Location.{Location}
-use Rattle.tables.specs.Keys.{text_cmp, text_total, text_exact}
-use Rattle.tables.specs.Tables.{shown_of}
+use Rattle.ocpi_types.specs.{Location}
+use Rattle.tables.specs.{shown_of, text_cmp, text_exact, text_total}
 use Rattle.tables.proofs.Maps.{equal_of_is_eq, get-insert_other, get-remove_other, get-remove_same}
 use Rattle.site_book.specs.declared.claim.Claim.{Claim}
 use Rattle.site_book.specs.declared.indexes.Indexes.{Indexes}

@@ -1,6 +1,7 @@
 -- The tree above the flags of a list: what a change of a node leaves, and what the top says of the flags.
-use Rattle.std.proofs.Common.{◌≡◌, ◌≢◌, ℕ, zero, suc, ◌+◌, ◌-◌, ◌*◌, ◌/◌, ◌<◌, ◌≤◌, ◌||◌, Bool, true, false, List, refl, sym, ap, subst, ◌∙◌, ◌⊎◌, inl, inr, length, drop, get_or, set, arith, get_or-set_other, get_or-set_same, length-drop}
-use Rattle.std.specs.Prelude.{Some, slice_get}
+use Rattle.std.proofs.Common.{◌≡◌, ◌≢◌, ℕ, zero, suc, ◌+◌, ◌-◌, ◌*◌, ◌/◌, ◌<◌, ◌≤◌, ◌||◌, Bool, true, false, List, refl}
+use Rattle.std.proofs.Common.{sym, ap, subst, ◌∙◌, ◌⊎◌, inl, inr, length, drop, get_or, set, arith, get_or-set_other}
+use Rattle.std.proofs.Common.{get_or-set_same, length-drop, Some, slice_get}
 use Rattle.std.proofs.lemmas.Bool.{cases_lt}
 use Rattle.std.proofs.lemmas.List.{get_or-drop}
 use Rattle.std.proofs.lemmas.Option.{slice_get-get_or, get_or_from_slice_get, slice_get_within}
@@ -12,10 +13,6 @@ or_left a b e = ap (λ x. x || b) e
 or_right : (a b : Bool) → b ≡ true → (a || b) ≡ true
 or_right true b e = refl
 or_right false b e = e
-
-or_second : (a b : Bool) → a ≡ false → (a || b) ≡ true → b ≡ true
-or_second true b f e = absurd (cc)
-or_second false b f e = e
 
 module _ (nodes : List Bool) (k : ℕ) (b : Bool) where
   -- a node keeps its place in the tree where none of the three is changed
@@ -68,10 +65,6 @@ node_changed width nodes k size more within joint j some inner apart = elim (nat
 
 pub halves : (k : ℕ) → (k ≡ 2 * (k / 2)) ⊎ (k ≡ 2 * (k / 2) + 1)
 halves k = elim (cases_lt (2 * (k / 2)) k) [ inl less ↦ inr (omega arith) | inr above ↦ inl (omega arith) ]
-
--- the second of two nodes is set, where the one above is and the first is not
-pub second_set : (nodes : List Bool) (k : ℕ) → IsJoint nodes k → get_or nodes k false ≡ true → get_or nodes (2 * k) false ≡ false → get_or nodes (2 * k + 1) false ≡ true
-second_set nodes k joint top first = or_second (get_or nodes (2 * k) false) (get_or nodes (2 * k + 1) false) first (sym joint ∙ top)
 
 module _ (width : ℕ) (nodes : List Bool) (tree : IsTree width nodes) where
   -- what is set has what is above it set

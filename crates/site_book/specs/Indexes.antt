@@ -1,10 +1,8 @@
 -- The indexes of a site.
 use Rattle.std.specs.Prelude.{◌≡◌, ℕ, ◌<◌, Bool, List, Some, IsTrue, length, slice_get}
 use Rattle.std.specs.FinMap.{insert, contains_key}
-use Rattle.ocpi_types.specs.declared.site.Location.{Location}
-use Rattle.ocpi_types.specs.Locations.{location_keys}
-use Rattle.tables.specs.Keys.{text_cmp}
-use Rattle.tables.specs.Tables.{shown_of, rooms_of}
+use Rattle.ocpi_types.specs.{Location, location_keys}
+use Rattle.tables.specs.{rooms_of, shown_of, text_cmp}
 use Rattle.site_book.specs.declared.indexes.Indexes.{Indexes}
 use Rattle.site_book.specs.Flags.{AreFirst}
 use Rattle.site_book.specs.Sites.{works, is_free}

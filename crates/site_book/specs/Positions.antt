@@ -1,10 +1,9 @@
 -- Where the locations and EVSEs of a site stand in its lists, and what finds them there.
 use Rattle.std.specs.Prelude.{◌≡◌, ℕ, ◌<◌, ◌⊎◌, Bool, true, List, [], Some, IsTrue, slice_get, slice_set, slice_index_or}
 use Rattle.std.specs.FinMap.{FinMap, get, contains_key}
-use Rattle.ocpi_text.specs.Text.{key}
-use Rattle.ocpi_types.specs.declared.site.Location.{Location}
-use Rattle.ocpi_types.specs.declared.site.Evse.{Evse}
-use Rattle.tables.specs.Keys.{text_cmp}
+use Rattle.ocpi_text.specs.{key}
+use Rattle.ocpi_types.specs.{Evse, Location}
+use Rattle.tables.specs.{text_cmp}
 use Rattle.site_book.specs.Sites.{OutOfService}
 
 -- the position of an EVSE: that of its location in the list, and its own in the location's list

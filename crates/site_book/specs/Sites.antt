@@ -2,13 +2,9 @@
 -- Location, EVSE and Connector object), the claims on its EVSEs, and which of these are out of service.
 use Rattle.std.specs.Prelude.{◌≡◌, ℕ, Bool, true, false, not, ◌&&◌, List, Option, Some, None, Contains, IsTrue, slice_get}
 use Rattle.std.specs.FinMap.{FinMap, insert, remove, contains_key}
-use Rattle.ocpi_text.specs.Text.{key}
-use Rattle.ocpi_types.specs.declared.site.Site.{Site}
-use Rattle.ocpi_types.specs.declared.site.Location.{Location}
-use Rattle.ocpi_types.specs.declared.site.Evse.{Evse}
-use Rattle.ocpi_types.specs.declared.site.Connector.{Connector}
-use Rattle.ocpi_types.specs.declared.rows.Place.{Place}
-use Rattle.tables.specs.Keys.{text_cmp}
+use Rattle.ocpi_text.specs.{key}
+use Rattle.ocpi_types.specs.{Connector, Evse, Location, Place, Site}
+use Rattle.tables.specs.{text_cmp}
 use Rattle.site_book.specs.declared.claim.Claim.{Claim}
 use Rattle.site_book.specs.declared.claim.SiteFault.{SiteFault}
 use Rattle.site_book.specs.declared.claim.SiteFault.TheVariants as fault

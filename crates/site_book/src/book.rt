@@ -18,10 +18,8 @@ ghost use Rattle.std.specs.Prelude.{
   slice_get,
 };
 ghost use Rattle.std.specs.FinMap as map;
-ghost use Rattle.ocpi_text.specs.Text.{key};
-ghost use Rattle.ocpi_types.specs.declared.site.Location.{Location};
-ghost use Rattle.ocpi_types.specs.declared.site.Evse.{Evse};
-ghost use Rattle.ocpi_types.specs.declared.site.Connector.{Connector};
+ghost use Rattle.ocpi_text.specs.{key};
+ghost use Rattle.ocpi_types.specs.{Connector, Evse, Location};
 ghost use Rattle.site_book.specs.Sites.{
   IsLocation,
   IsFoundIn,
@@ -60,8 +58,7 @@ pub struct SiteBook {
 impl Model for SiteBook {
     ghost use Rattle.std.specs.FinMap as map;
     ghost use Rattle.std.specs.Coded.{codes};
-    ghost use Rattle.tables.specs.Keys.{text_cmp};
-    ghost use Rattle.tables.specs.Tables.{shown_of};
+    ghost use Rattle.tables.specs.{shown_of, text_cmp};
     ghost use Rattle.site_book.specs.Sites.{SiteState};
     ghost use Rattle.site_book.specs.Positions.{OneEvseEach, OneLocationEach};
     ghost use Rattle.site_book.specs.Indexes.{AreIndexes};

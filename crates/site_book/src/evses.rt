@@ -1,10 +1,8 @@
 //! The EVSEs of locations, and their connectors.
 
 ghost use Rattle.std.specs.Prelude.{◌≡◌, ◌↔◌, Contains, IsTrue, IfSome, IfNone, IsSome, IsNone};
-ghost use Rattle.ocpi_text.specs.Text.{key};
-ghost use Rattle.ocpi_types.specs.declared.site.Evse.{Evse};
-ghost use Rattle.ocpi_types.specs.declared.site.Connector.{Connector};
-ghost use Rattle.ocpi_types.specs.Connectors.{AreConnectors};
+ghost use Rattle.ocpi_text.specs.{key};
+ghost use Rattle.ocpi_types.specs.{AreConnectors, Connector, Evse};
 ghost use Rattle.site_book.specs.Sites.{IsChosen, IsPlaceOf};
 ghost use Rattle.site_book.specs.Positions.{IsEvseAt};
 

@@ -2,11 +2,9 @@
 
 ghost use Rattle.std.specs.Prelude.{◌≡◌, ◌+◌, ◌<◌, ℕ, Bool, true, length, IfOk, IfSome, IfNone, OnOk, IsTrue};
 ghost use Rattle.std.specs.FinMap as map;
-ghost use Rattle.ocpi_text.specs.Text.{key};
-ghost use Rattle.ocpi_types.specs.Apart.{AllDiffer};
-ghost use Rattle.ocpi_types.specs.Locations.{location_keys};
-ghost use Rattle.tables.specs.Keys.{text_cmp};
-ghost use Rattle.tables.specs.Tables.{shown_of, rooms_of};
+ghost use Rattle.ocpi_text.specs.{key};
+ghost use Rattle.ocpi_types.specs.{AllDiffer, location_keys};
+ghost use Rattle.tables.specs.{rooms_of, shown_of, text_cmp};
 ghost use Rattle.site_book.specs.Indexes.{HaveEvses, HasFlags, AreIndexes, AreAllSet, AddsEvse, Remarks};
 ghost use Rattle.site_book.specs.Sites.{works, is_free, with_service};
 ghost use Rattle.site_book.specs.Positions.{IsBefore, IsFlag, with_flag};

@@ -1,38 +1,26 @@
 -- An event of an operator, wherever the operator comes from: what is consistent and whole stays so.
-use Rattle.std.proofs.Common.{◌≡◌, ◌≢◌, ◌+◌, ℕ, ℤ, Bool, true, false, List, [], ◌∷◌, inl, inr, refl, sym, ap, subst, ◌∙◌}
-use Rattle.std.specs.Prelude.{Option, Some, None, Ok, Contains}
+use Rattle.std.proofs.Common.{◌≡◌, ◌≢◌, ◌+◌, ℕ, ℤ, Bool, true, false, List, [], ◌∷◌, inl, inr, refl, sym, ap, subst}
+use Rattle.std.proofs.Common.{◌∙◌, Option, Some, None, Ok, Contains}
 use Rattle.std.specs.FinMap.{get, get-empty}
-use Rattle.tables.specs.Keys.{text_cmp}
+use Rattle.tables.specs.{text_cmp}
 use Rattle.tables.proofs.Options.{not_both}
-use Rattle.ocpi_text.specs.OwnIds.{own_id_text}
-use Rattle.ocpi_text.specs.Party.{party_at}
-use Rattle.ocpi_text.specs.Text.{key}
-use Rattle.ocpi_text.specs.declared.own_ids.OwnIdKind.TheVariants as own
-use Rattle.ocpi_types.specs.Credits.{AreAlike, IsBill, IsCredit, credit_id, is_credit}
-use Rattle.ocpi_types.specs.declared.cdrs.Cdr.{Cdr}
-use Rattle.ocpi_types.specs.declared.events.ChargerEvent.{ChargerEvent}
-use Rattle.ocpi_types.specs.declared.events.ChargerEvent.TheVariants as event
-use Rattle.ocpi_types.specs.declared.rows.Change.TheVariants.{Put}
-use Rattle.ocpi_types.specs.declared.rows.Row.TheVariants as row
-use Rattle.ocpi_types.specs.declared.sessions.Session.{Session}
-use Rattle.ocpi_types.specs.declared.setup.Node.{Node}
-use Rattle.ocpi_types.specs.declared.setup.Node.TheVariants as node
-use Rattle.ocpi_types.specs.declared.site.Site.{Site}
-use Rattle.ocpi_types.specs.declared.site.SiteLine.{SiteLine}
-use Rattle.ocpi_types.specs.declared.words.SessionStatus.{SessionStatus}
-use Rattle.ocpi_types.specs.declared.words.SessionStatus.TheVariants.{Active, Completed, Invalid, Pending, Reservation}
-use Rattle.session_state.specs.Pasts.{IsTurn, MayFollow}
-use Rattle.session_state.specs.Resuming.{CannotResume}
-use Rattle.session_tables.specs.Moves.{Ends, Makes}
-use Rattle.stored_rows.specs.Given.{IsOwnId}
-use Rattle.stored_rows.specs.Records.{IsCreditOfBill, IsRecordId, record_id_text}
+use Rattle.ocpi_text.specs.{key, own_id_text, party_at}
+use Rattle.ocpi_text.specs.own
+use Rattle.ocpi_types.specs.{Active, AreAlike, Cdr, ChargerEvent, Completed, Invalid, IsBill, IsCredit, Node, Pending}
+use Rattle.ocpi_types.specs.{Put, Session, SessionStatus, Site, SiteLine, credit_id, is_credit}
+use Rattle.ocpi_types.specs.event
+use Rattle.ocpi_types.specs.row
+use Rattle.ocpi_types.specs.node
+use Rattle.ocpi_types.specs.declared.words.SessionStatus.TheVariants.{Reservation}
+use Rattle.session_state.specs.{CannotResume, IsTurn, MayFollow}
+use Rattle.session_tables.specs.{Ends, Makes}
+use Rattle.stored_rows.specs.{IsCreditOfBill, IsOwnId, IsRecordId, record_id_text}
 use Rattle.stored_rows.proofs.RecordNumbers.{bill_made}
-use Rattle.operator_rows.specs.State.{State, opening}
-use Rattle.operator_rows.specs.Sound.{IsConsistent}
-use Rattle.operator_rows.specs.Steps.{IsNextOf}
+use Rattle.operator_rows.specs.{IsConsistent, IsNextOf, opening}
+use Rattle.operator_rows.specs.State.{State}
 use Rattle.operator_rows.proofs.KeepingTimes.{opening_consistent}
 use Rattle.operator_steps.specs.Events as events
-use Rattle.operator_steps.specs.Events.{Event, Happens}
+use Rattle.operator_steps.specs.{Event, Happens}
 use Rattle.operator_stored.specs.Whole.{AreBilled, IsWhole}
 use Rattle.operator_stored.proofs.BadRows.{bill_or_credit}
 use Rattle.session_laws.specs.Bills.{IsFirstCredit}
@@ -42,10 +30,9 @@ use Rattle.session_laws.proofs.Causes.{Begun, Billed, CdrCause, Credited, Moved,
 use Rattle.session_laws.proofs.Doing.{does}
 use Rattle.session_laws.proofs.Versions.{stands, stays}
 use Rattle.stored_laws.specs.Nodes.{CanStartAgain}
-use Rattle.world_laws.specs.Laws.{IsSetup}
+use Rattle.world_laws.specs.{IsSetup}
 use Rattle.world_steps.specs.Steps as steps
-use Rattle.world_steps.specs.Steps.{OperatorDoes}
-use Rattle.world_steps.specs.World.{providers_of, Operates, opening_of}
+use Rattle.world_steps.specs.{Operates, OperatorDoes, opening_of, providers_of}
 
 -- no status turns to RESERVATION, and COMPLETED turns to none
 never_reserved : (a : SessionStatus) → IsTurn a Reservation → ⊥

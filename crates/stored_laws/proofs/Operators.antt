@@ -1,9 +1,9 @@
 -- Each operator of a traced world is whole.
 use Rattle.std.proofs.Common.{ℕ, List, subst}
 use Rattle.node_laws.proofs.Runs.{kept_runs}
-use Rattle.operator_rows.specs.State.{State, opening}
-use Rattle.operator_rows.specs.Sound.{IsConsistent}
-use Rattle.operator_steps.specs.Events.{Happens}
+use Rattle.operator_rows.specs.{IsConsistent, opening}
+use Rattle.operator_rows.specs.State.{State}
+use Rattle.operator_steps.specs.{Happens}
 use Rattle.operator_stored.specs.Whole.{IsWhole}
 use Rattle.stored_laws.specs.Laws.{OperatorsAreWhole}
 use Rattle.stored_laws.proofs.OperatorSteps.{happens_stays, opening_is_whole}

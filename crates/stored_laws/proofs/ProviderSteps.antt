@@ -1,55 +1,39 @@
 -- What a provider does leaves it one that can be made again of its rows.
-use Rattle.std.proofs.Common.{◌≡◌, ℕ, ◌+◌, List, [], ◌∷◌, ◌++◌, inl, inr, refl, sym, ap, subst, ◌∙◌, cond, nat_eq, true, false}
-use Rattle.std.specs.Prelude.{Option, Some, None, Contains, ⊤}
+use Rattle.std.proofs.Common.{◌≡◌, ℕ, ◌+◌, List, [], ◌∷◌, ◌++◌, inl, inr, refl, sym, ap, subst, ◌∙◌, cond, nat_eq, true}
+use Rattle.std.proofs.Common.{false, Option, Some, None, Contains}
+use Rattle.std.specs.Prelude.{⊤}
 use Rattle.std.specs.FinMap.{get, insert, get-empty}
 use Rattle.std.proofs.lemmas.List.Elements.{Contains-append_cases}
-use Rattle.tables.specs.Keys.{text_pair_total, text_pair_exact}
+use Rattle.tables.specs.{text_pair_exact, text_pair_total}
 use Rattle.tables.proofs.Elements.{in_none, in_single}
 use Rattle.tables.proofs.Maps.{of_insert, of_remove}
 use Rattle.tables.proofs.Options.{not_both}
-use Rattle.ocpi_text.specs.Text.{key}
-use Rattle.ocpi_text.specs.declared.own_ids.OwnIdKind.TheVariants.{AuthorizationReference}
-use Rattle.ocpi_types.specs.declared.cdrs.Cdr.{Cdr}
-use Rattle.ocpi_types.specs.declared.packet.Packet.{Packet}
-use Rattle.ocpi_types.specs.declared.rows.Change.{Change}
-use Rattle.ocpi_types.specs.declared.rows.Change.TheVariants.{Put, Drop}
-use Rattle.ocpi_types.specs.declared.rows.Counter.{Counter}
-use Rattle.ocpi_types.specs.declared.rows.Counter.TheVariants as counter
-use Rattle.ocpi_types.specs.declared.rows.Row.TheVariants as row
-use Rattle.ocpi_types.specs.declared.rows.RowKey.TheVariants as keys
-use Rattle.ocpi_types.specs.declared.sessions.Session.{Session}
-use Rattle.ocpi_types.specs.declared.commands.Command.{Command}
-use Rattle.ocpi_types.specs.declared.stored.Push.{Push}
-use Rattle.ocpi_types.specs.declared.stored.Push.TheVariants as push
-use Rattle.ocpi_types.specs.declared.stored.Reply.{Reply}
-use Rattle.ocpi_types.specs.declared.stored.SentCommand.{SentCommand}
-use Rattle.ocpi_types.specs.declared.token.Token.{Token}
-use Rattle.ocpi_types.specs.declared.events.Order.{Order}
+use Rattle.ocpi_text.specs.{AuthorizationReference, key}
+use Rattle.ocpi_types.specs.{Cdr, Change, Command, Counter, Drop, Order, Packet, Push, Put, Reply, SentCommand, Session}
+use Rattle.ocpi_types.specs.{Token}
+use Rattle.ocpi_types.specs.counter
+use Rattle.ocpi_types.specs.row
+use Rattle.ocpi_types.specs.keys
+use Rattle.ocpi_types.specs.push
 use Rattle.token_desk.proofs.Keyed.{keyed_empty, keyed_insert, keyed_remove}
-use Rattle.handover.specs.Cdrs.{AreOwnCdrs, Cdrs, HasOnePerSession, cdr_key}
-use Rattle.handover.specs.Inbox.{Sessions, session_key}
+use Rattle.handover.specs.{AreOwnCdrs, HasOnePerSession, Sessions, cdr_key, session_key}
+use Rattle.handover.specs.Cdrs.{Cdrs}
 use Rattle.handover.proofs.Holding.{own_none, own_put, own_remove}
-use Rattle.outbox.specs.Outbox.{OutboxRows}
-use Rattle.outbox.specs.declared.push_book.Outgoing.{Outgoing}
-use Rattle.node_steps.specs.Acts.{Act, all_changes, all_requests, commanded, in_turn, pushed}
-use Rattle.node_steps.specs.Drafts.{Counters, count_change, count_changes, counted}
+use Rattle.outbox.specs.{OutboxRows, Outgoing}
+use Rattle.node_steps.specs.{Act, Counters, all_changes, all_requests, commanded, count_change, count_changes, counted}
+use Rattle.node_steps.specs.{in_turn, pushed}
 use Rattle.node_steps.proofs.Gathering.{changes_append}
-use Rattle.provider_rows.specs.Rows.{AreKeyed, HasRow}
-use Rattle.provider_rows.specs.Sound.{IsConsistent}
-use Rattle.provider_rows.specs.State.{ArePeers, Peering, Rows, State, opening}
-use Rattle.provider_rows.specs.Steps.{MayFollow, after}
-use Rattle.provider_rows.specs.Stored.{changed, changed_all}
+use Rattle.provider_rows.specs.{AreKeyed, ArePeers, HasRow, IsConsistent, MayFollow, Peering, after, changed}
+use Rattle.provider_rows.specs.{changed_all, opening}
+use Rattle.provider_rows.specs.State.{Rows, State}
 use Rattle.provider_rows.proofs.KeepingTimes.{follow_consistent, opening_consistent, restarted_consistent}
 use Rattle.provider_rows.proofs.RowChanges.{row_changes}
-use Rattle.provider_steps.specs.declared.pushing.Pushing.{Pushing}
-use Rattle.provider_steps.specs.Acts.{replaced, token_acts}
-use Rattle.provider_steps.specs.Events.{Arrives, Asks, Done, Event, Gives, Happens, Input, Refused, Restarted, Restarts, Submits, Ticks}
-use Rattle.provider_steps.specs.Moves.{AreInRange, Out, counters_of, step_of_acts}
-use Rattle.provider_steps.specs.Orders.{Makes, next_reference, next_request}
+use Rattle.provider_steps.specs.{Answers, AreInRange, Arrives, Asks, Done, Event, Gives, Happens, Input, Makes, Out}
+use Rattle.provider_steps.specs.{PacketLine, Pushing, Refused, Restarted, Restarts, Submits, Ticks, all_resent}
+use Rattle.provider_steps.specs.{counters_of, next_reference, next_request, replaced, resent_acts, step_of_acts}
+use Rattle.provider_steps.specs.{token_acts}
 use Rattle.provider_steps.specs.Orders as orders
-use Rattle.provider_steps.specs.Packets.{Answers, PacketLine}
 use Rattle.provider_steps.specs.Packets as lines
-use Rattle.provider_steps.specs.Tick.{all_resent, resent_acts}
 use Rattle.provider_steps.proofs.OrderSteps as order_steps
 use Rattle.provider_steps.proofs.PacketSteps as packet_steps
 use Rattle.provider_steps.proofs.TickSteps as tick_steps
@@ -62,8 +46,8 @@ use Rattle.provider_laws.proofs.held.Cdrs.{new_key}
 use Rattle.provider_stored.specs.Whole.{IsWhole}
 use Rattle.provider_stored.proofs.Fit.{one_per_session}
 use Rattle.provider_stored.proofs.Made.{made_of_none}
-use Rattle.stored_rows.specs.Given.{IsOwnId}
-use Rattle.world_steps.specs.Steps.{ProviderDoes}
+use Rattle.stored_rows.specs.{IsOwnId}
+use Rattle.world_steps.specs.{ProviderDoes}
 use Rattle.world_steps.specs.Steps as steps
 
 -- ---- each token, session and charge detail record stands under its own key, whatever changes

@@ -1,21 +1,20 @@
 -- Each provider of a setup can be made again of its rows, from before its first event on, and so can each provider of a
 -- traced world.
-use Rattle.std.proofs.Common.{List, ℕ, ap, subst, ◌∙◌}
-use Rattle.std.specs.Prelude.{Some, Contains}
+use Rattle.std.proofs.Common.{List, ℕ, ap, subst, ◌∙◌, Some, Contains}
 use Rattle.std.proofs.lemmas.Option.{slice_get-get_or}
-use Rattle.ocpi_types.specs.declared.setup.Node.{Node}
-use Rattle.ocpi_types.specs.declared.setup.Node.TheVariants as node
+use Rattle.ocpi_types.specs.{Node}
+use Rattle.ocpi_types.specs.node
 use Rattle.node_laws.proofs.Runs.{kept_runs}
 use Rattle.provider_rows.specs.State as provider
-use Rattle.provider_steps.specs.Events.{Happens}
+use Rattle.provider_steps.specs.{Happens}
 use Rattle.stored_laws.specs.Laws.{ProvidersAreWhole}
 use Rattle.stored_laws.proofs.ProviderSteps.{CanBeMadeAgain, happening_stays, opening_can}
-use Rattle.world_laws.specs.Laws.{IsSetup}
-use Rattle.world_laws.specs.Nodes.{ProviderOf}
+use Rattle.world_laws.specs.{IsSetup, ProviderOf}
 use Rattle.world_laws.proofs.NodeRuns.{peering_of, provider_at}
 use Rattle.world_laws.proofs.Setups.{are_peers_of}
-use Rattle.world_steps.specs.Traces.{Histories, Traces}
-use Rattle.world_steps.specs.World.{Place, World}
+use Rattle.world_steps.specs.{Histories, Place}
+use Rattle.world_steps.specs.Traces.{Traces}
+use Rattle.world_steps.specs.World.{World}
 use Rattle.world_steps.proofs.Tracing.{traced}
 
 -- before the first event

@@ -1,15 +1,13 @@
 -- Each node can start again: before its first event, and after each.
-use Rattle.std.proofs.Common.{◌≡◌, List}
-use Rattle.std.specs.Prelude.{Contains}
-use Rattle.ocpi_types.specs.declared.setup.Node.{Node}
-use Rattle.ocpi_types.specs.declared.setup.Node.TheVariants as node
+use Rattle.std.proofs.Common.{◌≡◌, List, Contains}
+use Rattle.ocpi_types.specs.{Node}
+use Rattle.ocpi_types.specs.node
 use Rattle.stored_laws.specs.Nodes.{CanStartAgain, NodesCanStartAgain, OpeningsCanStartAgain}
 use Rattle.stored_laws.proofs.OperatorSteps.{operator_openings_can_start_again, operators_can_start_again}
 use Rattle.stored_laws.proofs.ProviderSteps.{providers_stay}
 use Rattle.stored_laws.proofs.Providers.{provider_openings}
-use Rattle.world_laws.specs.Laws.{IsSetup}
-use Rattle.world_steps.specs.Steps.{AtOperator, AtProvider, NodeEvent, NodeStep}
-use Rattle.world_steps.specs.World.{NodeState, Operates, Provides, opening_of}
+use Rattle.world_laws.specs.{IsSetup}
+use Rattle.world_steps.specs.{AtOperator, AtProvider, NodeEvent, NodeState, NodeStep, Operates, Provides, opening_of}
 
 pub openings_can_start_again : OpeningsCanStartAgain
 openings_can_start_again setup is_setup (node.Operator party site) c = operator_openings_can_start_again setup is_setup party site c

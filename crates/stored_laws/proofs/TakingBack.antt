@@ -1,21 +1,18 @@
 -- A bill of a COMPLETED session that was not taken back may be.
-use Rattle.std.proofs.Common.{◌≡◌, ◌≤◌, ℕ, List, length, inl, inr, sym, ap, ◌∙◌, arith}
-use Rattle.std.specs.Prelude.{Some, None, codes}
+use Rattle.std.proofs.Common.{◌≡◌, ◌≤◌, ℕ, List, length, inl, inr, sym, ap, ◌∙◌, arith, Some, None, codes}
 use Rattle.std.specs.Char.{to_ascii_uppercase}
 use Rattle.std.specs.FinMap.{get}
 use Rattle.std.proofs.lemmas.List.{append_cancel_right, map-append}
 use Rattle.tables.proofs.Options.{none_else}
-use Rattle.ocpi_text.specs.OwnIds.{own_id_bytes, own_id_text}
-use Rattle.ocpi_text.specs.Text.{key}
-use Rattle.ocpi_text.specs.declared.own_ids.OwnIdKind.TheVariants as own
+use Rattle.ocpi_text.specs.{key, own_id_bytes, own_id_text}
+use Rattle.ocpi_text.specs.own
 use Rattle.ocpi_text.proofs.OwnIds.{text_length}
-use Rattle.ocpi_types.specs.Credits.{IsBill, IsCredit, credit_id}
-use Rattle.ocpi_types.specs.declared.cdrs.Cdr.{Cdr}
+use Rattle.ocpi_types.specs.{Cdr, IsBill, IsCredit, credit_id}
 use Rattle.session_book.specs.Records.{HasCredit, IsSoleBill}
 use Rattle.stored_rows.proofs.CreditIds.{no_credit_id}
 use Rattle.stored_rows.proofs.RecordNumbers.{bill_made}
 use Rattle.operator_rows.specs.State.{State}
-use Rattle.operator_rows.specs.Sound.{IsConsistent}
+use Rattle.operator_rows.specs.{IsConsistent}
 use Rattle.operator_stored.specs.Whole.{IsWhole}
 use Rattle.operator_stored.proofs.BadRows.{bill_or_credit}
 use Rattle.stored_laws.specs.Nodes.{BillsMayBeTakenBack}

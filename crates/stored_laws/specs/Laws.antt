@@ -4,9 +4,9 @@ use Rattle.operator_rows.specs.State as operator
 use Rattle.operator_stored.specs.Whole as operator_whole
 use Rattle.provider_rows.specs.State as provider
 use Rattle.provider_stored.specs.Whole as provider_whole
-use Rattle.world_laws.specs.Laws.{IsReached}
-use Rattle.world_laws.specs.Nodes.{OperatorOf, ProviderOf}
-use Rattle.world_steps.specs.World.{Place, World}
+use Rattle.world_laws.specs.{IsReached, OperatorOf, ProviderOf}
+use Rattle.world_steps.specs.{Place}
+use Rattle.world_steps.specs.World.{World}
 
 -- each operator of each world of each legal run is whole
 abbrev pub OperatorsAreWhole : Type 0

@@ -2,26 +2,21 @@
 -- its rows before it is made again of them, and what it is as it starts again.
 use Rattle.std.specs.Prelude.{◌≡◌, ℕ, List, Some, Contains}
 use Rattle.std.specs.FinMap.{get}
-use Rattle.ocpi_types.specs.declared.cdrs.Cdr.{Cdr}
-use Rattle.ocpi_types.specs.declared.rows.Row.{Row}
-use Rattle.ocpi_types.specs.declared.sessions.Session.{Session}
-use Rattle.ocpi_types.specs.declared.setup.Node.{Node}
-use Rattle.ocpi_types.specs.declared.words.SessionStatus.TheVariants.{Completed}
+use Rattle.ocpi_types.specs.{Cdr, Completed, Node, Row, Session}
 use Rattle.session_book.specs.Records.{HasCredit}
 use Rattle.operator_rows.specs.Rows as operator_rows
 use Rattle.operator_rows.specs.Sound as operator_sound
 use Rattle.operator_rows.specs.State as operator
 use Rattle.operator_rows.specs.Steps as operator_steps
-use Rattle.operator_steps.specs.Credits.{IsToCredit}
+use Rattle.operator_steps.specs.{IsToCredit}
 use Rattle.operator_stored.specs.Whole as operator_whole
 use Rattle.provider_rows.specs.Rows as provider_rows
-use Rattle.provider_rows.specs.Rows.{AreKeyed}
+use Rattle.provider_rows.specs.{AreKeyed}
 use Rattle.provider_rows.specs.Sound as provider_sound
 use Rattle.provider_rows.specs.Steps as provider_steps
 use Rattle.provider_stored.specs.Whole as provider_whole
-use Rattle.world_laws.specs.Laws.{IsSetup}
-use Rattle.world_steps.specs.Steps.{NodeEvent, NodeStep}
-use Rattle.world_steps.specs.World.{NodeState, Operates, Provides, opening_of}
+use Rattle.world_laws.specs.{IsSetup}
+use Rattle.world_steps.specs.{NodeEvent, NodeState, NodeStep, Operates, Provides, opening_of}
 
 -- the list has exactly the rows of the node, each once
 abbrev pub AreNodeRows : List Row → NodeState → Type 0

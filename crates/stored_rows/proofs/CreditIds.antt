@@ -6,11 +6,9 @@ use Rattle.std.proofs.lemmas.List.{get_or-map, length-map}
 use Rattle.std.proofs.Math.Seq.{get_or-append_seam}
 use Rattle.uuid.specs.Text.{lower, hex_digit, nibble, hyphenated_text}
 use Rattle.uuid.proofs.TextLemmas.{by_index_at, nibble_small}
-use Rattle.ocpi_text.specs.OwnIds.{own_id_bytes, own_id_text}
-use Rattle.ocpi_text.specs.Text.{key}
-use Rattle.ocpi_text.specs.declared.own_ids.OwnIdKind.{OwnIdKind}
+use Rattle.ocpi_text.specs.{OwnIdKind, key, own_id_bytes, own_id_text}
 use Rattle.ocpi_text.proofs.OwnIds.{text_length}
-use Rattle.ocpi_types.specs.Credits.{credit_id}
+use Rattle.ocpi_types.specs.{credit_id}
 
 -- no digit is a dash, in capitals
 undashed : (d : ℕ) → d < 16 → to_ascii_uppercase (hex_digit lower d) ≢ 45

@@ -12,12 +12,8 @@ use Rattle.std.proofs.lemmas.List.Elements.{All-nil, All-cons, All-append, All-t
 use Rattle.std.proofs.lemmas.Nat.{from_be_bytes-to_be_bytes_8}
 use Rattle.uuid.specs.Text.{lower, parsed}
 use Rattle.uuid.proofs.RoundTrips.{parses_hyphenated}
-use Rattle.ocpi_text.specs.declared.own_ids.OwnIdKind.{OwnIdKind}
-use Rattle.ocpi_text.specs.declared.own_ids.OwnIdKind.TheVariants.{Session, Cdr, AuthorizationReference}
-use Rattle.ocpi_text.specs.OwnIds.{kind_letter, own_id_bytes, own_id_text}
-use Rattle.ocpi_text.specs.Party.{party_at}
-use Rattle.ocpi_text.specs.Text.{key, is_ascii_text, is_printable}
-use Rattle.ocpi_text.specs.Whole.{max_whole}
+use Rattle.ocpi_text.specs.{AuthorizationReference, Cdr, OwnIdKind, Session, is_ascii_text, is_printable, key}
+use Rattle.ocpi_text.specs.{kind_letter, max_whole, own_id_bytes, own_id_text, party_at}
 use Rattle.stored_rows.specs.Given.{IsOwnId}
 use Rattle.ocpi_text.proofs.Case.{key_party}
 use Rattle.ocpi_text.proofs.Parties.{IsPartyText, party_parts}

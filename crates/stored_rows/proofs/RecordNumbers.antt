@@ -2,13 +2,10 @@
 use Rattle.std.proofs.Common.{◌≡◌, ◌≢◌, ◌+◌, ℕ, Bool, true, false, List, [], ◌∷◌, ◌++◌, length, Option, Some, None, MatchOption, Bor, sym, ap, ◌∙◌, arith, append_assoc, length-append}
 use Rattle.std.specs.Char.{to_ascii_uppercase}
 use Rattle.std.proofs.lemmas.List.{append_cancel_right, length-map}
-use Rattle.ocpi_text.specs.OwnIds.{own_id_bytes, own_id_text}
-use Rattle.ocpi_text.specs.Text.{key}
-use Rattle.ocpi_text.specs.declared.own_ids.OwnIdKind.{OwnIdKind}
-use Rattle.ocpi_text.specs.declared.own_ids.OwnIdKind.TheVariants as own
+use Rattle.ocpi_text.specs.{OwnIdKind, key, own_id_bytes, own_id_text}
+use Rattle.ocpi_text.specs.own
 use Rattle.ocpi_text.proofs.OwnIds.{text_length}
-use Rattle.ocpi_types.specs.Credits.{credit_id, is_credit}
-use Rattle.ocpi_types.specs.declared.cdrs.Cdr.{Cdr}
+use Rattle.ocpi_types.specs.{Cdr, credit_id, is_credit}
 use Rattle.stored_rows.specs.Given.{IsOwnId}
 use Rattle.stored_rows.specs.Records.{IsRecordId, record_id_text}
 

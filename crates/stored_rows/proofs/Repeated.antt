@@ -1,6 +1,6 @@
 -- Rows of one kind and key, in a list and in another order of it.
-use Rattle.std.proofs.Common.{◌≡◌, ◌≢◌, ℕ, ◌+◌, ◌<◌, List, ◌∷◌, ◌++◌, length, get_or, ◌⊎◌, inl, inr, refl, sym, ap, ◌∙◌, arith, length-append}
-use Rattle.std.specs.Prelude.{Some, Contains, slice_get}
+use Rattle.std.proofs.Common.{◌≡◌, ◌≢◌, ℕ, ◌+◌, ◌<◌, List, ◌∷◌, ◌++◌, length, get_or, ◌⊎◌, inl, inr, refl, sym, ap, ◌∙◌}
+use Rattle.std.proofs.Common.{arith, length-append, Some, Contains, slice_get}
 use Rattle.std.specs.List.{AllPairs, swap}
 use Rattle.std.specs.List.Sorted.{IsPermutation}
 use Rattle.std.proofs.Math.Seq.{get_or-append_seam}
@@ -9,9 +9,7 @@ use Rattle.std.proofs.lemmas.List.{get_or_append_left}
 use Rattle.std.proofs.lemmas.List.Sorted.{IsPermutation-keeps, IsPermutation-sym}
 use Rattle.std.proofs.lemmas.List.Edits.{swapped_from_swap, length-swap}
 use Rattle.std.proofs.lemmas.Option.{slice_get-get_or, slice_get_within, get_or_from_slice_get}
-use Rattle.ocpi_types.specs.Rows.{key_of}
-use Rattle.ocpi_types.specs.declared.rows.Row.{Row}
-use Rattle.ocpi_types.specs.declared.rows.RowKey.{RowKey}
+use Rattle.ocpi_types.specs.{Row, RowKey, key_of}
 use Rattle.stored_rows.specs.Given.{RepeatsKey}
 
 below_or_above : (m n : ℕ) → m ≢ n → (m < n) ⊎ (n < m)
@@ -83,9 +81,6 @@ repeats_this before rest x y h same =
       };
       is = refl;
     }
-
-pub repeats : (before rest : List Row) (x y : Row) → Contains before y → key_of y ≡ key_of x → RepeatsKey (before ++ x ∷ rest)
-repeats before rest x y h same = (repeats_this before rest x y h same).twice
 
 -- the place of an element once two are exchanged
 abbrev IsPlace : ℕ → ℕ → ℕ → ℕ → Type 0
@@ -162,9 +157,6 @@ this_in_other_order k xs ys h r = this_permuted k ys xs (IsPermutation-sym xs ys
 
 pub repeats_permuted : (xs ys : List Row) → IsPermutation xs ys → RepeatsKey xs → RepeatsKey ys
 repeats_permuted xs ys h r = (this_permuted (key_of r.other) xs ys h (record { twice = r; is = refl })).twice
-
-pub repeats_in_other_order : (xs ys : List Row) → IsPermutation xs ys → RepeatsKey ys → RepeatsKey xs
-repeats_in_other_order xs ys h = repeats_permuted ys xs (IsPermutation-sym xs ys h)
 
 pub apart_permuted : (xs ys : List Row) → IsPermutation xs ys → AllPairs (λ a b. key_of a ≢ key_of b) ys → AllPairs (λ a b. key_of a ≢ key_of b) xs
 apart_permuted xs ys h apart = all_apart xs (λ r. none_repeated ys apart (repeats_permuted xs ys h r))

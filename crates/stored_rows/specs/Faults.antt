@@ -1,6 +1,6 @@
 -- How a refusal of rows is written, and what it tells.
 use Rattle.std.specs.Prelude.{ℕ, List, codes}
-use Rattle.ocpi_types.specs.declared.rows.RowKey.{RowKey}
+use Rattle.ocpi_types.specs.{RowKey}
 use Rattle.stored_rows.specs.declared.fault.BadReason.{BadReason}
 use Rattle.stored_rows.specs.declared.fault.RowsFault.{RowsFault}
 use Rattle.stored_rows.specs.declared.fault.RowsFault.TheVariants.{BadRows, Memory}

@@ -1,12 +1,8 @@
 -- What may be wrong with rows that were stored, whatever node they are of.
 use Rattle.std.specs.Prelude.{◌≡◌, ◌≢◌, ◌≤◌, ◌<◌, ℕ, List, Some, Contains, slice_get}
-use Rattle.ocpi_text.specs.OwnIds.{own_id_text}
-use Rattle.ocpi_text.specs.Whole.{max_whole}
-use Rattle.ocpi_text.specs.declared.own_ids.OwnIdKind.{OwnIdKind}
-use Rattle.ocpi_types.specs.Rows.{key_of}
-use Rattle.ocpi_types.specs.declared.rows.Counter.{Counter}
-use Rattle.ocpi_types.specs.declared.rows.Row.{Row}
-use Rattle.ocpi_types.specs.declared.rows.Row.TheVariants as row
+use Rattle.ocpi_text.specs.{OwnIdKind, max_whole, own_id_text}
+use Rattle.ocpi_types.specs.{Counter, Row, key_of}
+use Rattle.ocpi_types.specs.row
 
 -- two rows of the list have one kind and key
 pub record RepeatsKey (rows : List Row) : Type 0 where

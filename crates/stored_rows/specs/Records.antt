@@ -1,11 +1,8 @@
 -- The ids of a party's charge detail records, and which bill a credit takes back.
 use Rattle.std.specs.Prelude.{◌≡◌, ◌≤◌, ℕ, List, Bool, true, false, Some}
-use Rattle.ocpi_text.specs.OwnIds.{own_id_text}
-use Rattle.ocpi_text.specs.Text.{key}
-use Rattle.ocpi_text.specs.Whole.{max_whole}
-use Rattle.ocpi_text.specs.declared.own_ids.OwnIdKind.TheVariants as own
-use Rattle.ocpi_types.specs.Credits.{IsBill, credit_id, is_credit}
-use Rattle.ocpi_types.specs.declared.cdrs.Cdr.{Cdr}
+use Rattle.ocpi_text.specs.{key, max_whole, own_id_text}
+use Rattle.ocpi_text.specs.own
+use Rattle.ocpi_types.specs.{Cdr, IsBill, credit_id, is_credit}
 
 -- the id that a party makes of that number, for a credit or for a bill: a credit has the number of its bill
 abbrev pub record_id_text : Bool → List ℕ → ℕ → List ℕ

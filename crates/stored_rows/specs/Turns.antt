@@ -1,7 +1,7 @@
 -- The order in which rows are put when a node is made of them.
 use Rattle.std.specs.Prelude.{ℕ}
-use Rattle.ocpi_types.specs.declared.rows.Row.{Row}
-use Rattle.ocpi_types.specs.declared.rows.Row.TheVariants as row
+use Rattle.ocpi_types.specs.{Row}
+use Rattle.ocpi_types.specs.row
 
 -- what other rows are tested by comes first: the counters, and then the replies
 abbrev pub turn_of : Row → ℕ

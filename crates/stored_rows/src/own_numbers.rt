@@ -2,8 +2,8 @@
 
 ghost use Rattle.std.specs.Prelude.{◌≡◌, ◌≢◌, ◌≤◌, ℕ, List, SomeIff, IfSome, IfNone, MatchOption, drop};
 ghost use Rattle.std.specs.Int.{w64, from_be_bytes};
-ghost use Rattle.ocpi_text.specs.Whole.{max_whole};
-ghost use Rattle.ocpi_types.specs.Credits.{credit_id};
+ghost use Rattle.ocpi_text.specs.{max_whole};
+ghost use Rattle.ocpi_types.specs.{credit_id};
 ghost use Rattle.stored_rows.specs.Given.{IsOwnId};
 ghost use Rattle.stored_rows.specs.Records.{IsRecordId};
 

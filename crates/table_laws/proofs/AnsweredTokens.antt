@@ -1,18 +1,11 @@
 -- An answer that begins a session is about the token that was asked about.
 use Rattle.std.proofs.Common.{◌≡◌, ℕ, sym, ap, subst, ◌∙◌}
-use Rattle.ocpi_types.specs.declared.authorizations.Authorization.{Authorization}
-use Rattle.ocpi_types.specs.declared.packet.Body.TheVariants as body
-use Rattle.ocpi_types.specs.declared.packet.Packet.{Packet}
-use Rattle.ocpi_types.specs.declared.sessions.Session.{Session}
-use Rattle.ocpi_types.specs.declared.token.CdrToken.{CdrToken}
-use Rattle.authorization_book.specs.declared.awaited.Awaited.{Awaited}
+use Rattle.ocpi_types.specs.{Authorization, CdrToken, Packet, Session}
+use Rattle.ocpi_types.specs.body
+use Rattle.authorization_book.specs.{Awaited}
 use Rattle.operator_rows.specs.State.{State}
-use Rattle.operator_steps.specs.Asking.{IsAwaited}
-use Rattle.operator_steps.specs.Events.{Arrives, Input, Reports, Ticks}
-use Rattle.operator_steps.specs.Sessions.{first_of}
-use Rattle.session_tables.specs.Answers.{BeginsByAnswer}
-use Rattle.session_tables.specs.Beginnings.{cdr_token_of}
-use Rattle.session_tables.specs.declared.beginning.Beginning.{Beginning}
+use Rattle.operator_steps.specs.{Arrives, Input, IsAwaited, Reports, Ticks, first_of}
+use Rattle.session_tables.specs.{Beginning, BeginsByAnswer, cdr_token_of}
 use Rattle.session_laws.proofs.Caused.{session_cause}
 use Rattle.session_laws.proofs.Causes as causes
 use Rattle.session_laws.proofs.Causes.{HowBegun, SessionCause}

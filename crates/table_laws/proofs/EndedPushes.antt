@@ -1,19 +1,14 @@
 -- A push that is acknowledged is sent no more.
-use Rattle.std.proofs.Common.{◌≡◌, ℕ, List, [], ◌∷◌, inl, inr, sym, ap, subst, ◌∙◌}
-use Rattle.std.specs.Prelude.{Some, None}
+use Rattle.std.proofs.Common.{◌≡◌, ℕ, List, [], ◌∷◌, inl, inr, sym, ap, subst, ◌∙◌, Some, None}
 use Rattle.std.specs.Cmp.{nat_cmp_total}
 use Rattle.std.specs.FinMap.{get, nat_cmp-IsAntisymmetric, remove}
 use Rattle.tables.proofs.Maps.{get-remove_same}
-use Rattle.ocpi_types.specs.declared.packet.Body.TheVariants as body
-use Rattle.ocpi_types.specs.declared.packet.Packet.{Packet}
-use Rattle.ocpi_types.specs.declared.replies.Ack.{Ack}
-use Rattle.ocpi_types.specs.declared.rows.Change.TheVariants.{Drop}
-use Rattle.ocpi_types.specs.declared.rows.RowKey.TheVariants as keys
-use Rattle.ocpi_types.specs.declared.stored.Reply.{Reply}
+use Rattle.ocpi_types.specs.body
+use Rattle.ocpi_types.specs.{Ack, Drop, Packet, Reply}
+use Rattle.ocpi_types.specs.keys
 use Rattle.outbox.specs.Pushes.{Pushes}
-use Rattle.outbox.specs.declared.push_book.Outgoing.{Outgoing}
-use Rattle.node_steps.specs.Acts.{Act, acknowledged}
-use Rattle.node_steps.specs.Drafts.{Step}
+use Rattle.outbox.specs.{Outgoing}
+use Rattle.node_steps.specs.{Act, Step, acknowledged}
 use Rattle.node_steps.proofs.Gathering.{step_of_change}
 use Rattle.operator_rows.specs.State as operator_state
 use Rattle.operator_rows.specs.Steps as operator_rows

@@ -1,42 +1,30 @@
 -- A start for which its provider has a reservation is opened.
-use Rattle.std.proofs.Common.{◌≡◌, ◌++◌, ℕ, true, false, List, [], ◌∷◌, inl, inr, refl, sym, ap, subst, ◌∙◌}
-use Rattle.std.specs.Prelude.{Option, Some, None, Contains, is_some}
+use Rattle.std.proofs.Common.{◌≡◌, ◌++◌, ℕ, true, false, List, [], ◌∷◌, inl, inr, refl, sym, ap, subst, ◌∙◌, Option}
+use Rattle.std.proofs.Common.{Some, None, Contains, is_some}
 use Rattle.std.specs.FinMap.{get}
 use Rattle.std.proofs.lemmas.List.Elements.{Contains-append_right}
 use Rattle.tables.proofs.Elements.{in_front}
 use Rattle.tables.proofs.Options.{not_both}
-use Rattle.ocpi_text.specs.Text.{key}
-use Rattle.ocpi_types.specs.Locations.{AreLocations}
-use Rattle.ocpi_types.specs.declared.commands.Command.{Command}
-use Rattle.ocpi_types.specs.declared.commands.Command.TheVariants as command
-use Rattle.ocpi_types.specs.declared.commands.StartSession.{StartSession}
-use Rattle.ocpi_types.specs.declared.packet.Body.TheVariants as body
-use Rattle.ocpi_types.specs.declared.packet.Packet.{Packet}
-use Rattle.ocpi_types.specs.declared.rows.Change.{Change}
-use Rattle.ocpi_types.specs.declared.rows.Change.TheVariants.{Drop, Put}
-use Rattle.ocpi_types.specs.declared.rows.Place.{Place}
-use Rattle.ocpi_types.specs.declared.rows.Row.TheVariants as row
-use Rattle.ocpi_types.specs.declared.rows.RowKey.TheVariants as keys
-use Rattle.ocpi_types.specs.declared.site.Connector.{Connector}
-use Rattle.ocpi_types.specs.declared.site.Evse.{Evse}
-use Rattle.ocpi_types.specs.declared.site.Location.{Location}
-use Rattle.ocpi_types.specs.declared.stored.OpenCommand.{OpenCommand}
-use Rattle.reservation_book.specs.declared.standing.Standing.{Standing}
-use Rattle.site_book.specs.Sites.{IsEvseFor, IsLocation}
+use Rattle.ocpi_text.specs.{key}
+use Rattle.ocpi_types.specs.{AreLocations, Change, Command, Connector, Drop, Evse, Location, OpenCommand, Packet, Place}
+use Rattle.ocpi_types.specs.{Put, StartSession}
+use Rattle.ocpi_types.specs.command
+use Rattle.ocpi_types.specs.body
+use Rattle.ocpi_types.specs.row
+use Rattle.ocpi_types.specs.keys
+use Rattle.reservation_book.specs.{Standing}
+use Rattle.site_book.specs.{IsEvseFor, IsLocation}
 use Rattle.command_book.specs.Stored as book
-use Rattle.node_steps.specs.Acts.{all_changes}
-use Rattle.operator_rows.specs.Sound.{IsConsistent}
-use Rattle.operator_rows.specs.State.{IsSpent, Spent, State}
+use Rattle.node_steps.specs.{all_changes}
+use Rattle.operator_rows.specs.{IsConsistent, IsSpent, Spent}
+use Rattle.operator_rows.specs.State.{State}
 use Rattle.operator_tables.specs.Decides.{Decides}
-use Rattle.operator_tables.specs.Places.{HasService, IsHeldFor, place_of}
+use Rattle.operator_tables.specs.{Decision, HasService, IsHeldFor, place_of}
 use Rattle.operator_tables.specs.Start as start
-use Rattle.operator_tables.specs.declared.decision.Decision.{Decision}
-use Rattle.operator_tables.specs.declared.decision.Decision.TheVariants as decision
-use Rattle.operator_steps.specs.Acts.{deadline, decided_acts, reference_of, reply_of, spent}
-use Rattle.operator_steps.specs.Events.{Asks, Event, Input}
-use Rattle.operator_steps.specs.Moves.{Work, quiet}
+use Rattle.operator_tables.specs.decision
+use Rattle.operator_steps.specs.{Asks, Comes, Event, Input, PacketLine, Work, deadline, decided_acts, quiet}
+use Rattle.operator_steps.specs.{reference_of, reply_of, spent}
 use Rattle.operator_steps.specs.Steps as packets
-use Rattle.operator_steps.specs.Steps.{Comes, PacketLine}
 use Rattle.refusal_laws.proofs.Located.{one_location}
 use Rattle.table_laws.specs.Holding.{HasReserved, MayStart, OpensReserved, ReservedStartsAreOpened}
 use Rattle.table_laws.specs.Moving.{IsCarriedOut}

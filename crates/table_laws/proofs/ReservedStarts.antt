@@ -1,40 +1,28 @@
 -- A start uses a reservation of its provider where one is for it.
-use Rattle.std.proofs.Common.{◌≡◌, ◌+◌, ◌++◌, ℕ, not, List, [], ◌∷◌, inl, inr, refl, sym, ap, subst, ◌∙◌}
-use Rattle.std.specs.Prelude.{Option, Some, None, Contains, is_some}
+use Rattle.std.proofs.Common.{◌≡◌, ◌+◌, ◌++◌, ℕ, not, List, [], ◌∷◌, inl, inr, refl, sym, ap, subst, ◌∙◌, Option, Some}
+use Rattle.std.proofs.Common.{None, Contains, is_some}
 use Rattle.std.specs.FinMap.{get}
 use Rattle.std.proofs.lemmas.List.Elements.{Contains-append_right}
 use Rattle.tables.proofs.Elements.{in_front, in_none, in_single}
-use Rattle.ocpi_text.specs.Text.{key}
-use Rattle.ocpi_types.specs.Locations.{AreLocations}
-use Rattle.ocpi_types.specs.declared.commands.Command.{Command}
-use Rattle.ocpi_types.specs.declared.commands.Command.TheVariants as command
-use Rattle.ocpi_types.specs.declared.commands.StartSession.{StartSession}
-use Rattle.ocpi_types.specs.declared.packet.Body.TheVariants as body
-use Rattle.ocpi_types.specs.declared.packet.Packet.{Packet}
-use Rattle.ocpi_types.specs.declared.rows.Change.{Change}
-use Rattle.ocpi_types.specs.declared.rows.Change.TheVariants.{Drop, Put}
-use Rattle.ocpi_types.specs.declared.rows.Place.{Place}
-use Rattle.ocpi_types.specs.declared.rows.Row.TheVariants as row
-use Rattle.ocpi_types.specs.declared.rows.RowKey.TheVariants as keys
-use Rattle.ocpi_types.specs.declared.site.Evse.{Evse}
-use Rattle.ocpi_types.specs.declared.site.Location.{Location}
-use Rattle.ocpi_types.specs.declared.stored.OpenCommand.{OpenCommand}
-use Rattle.ocpi_types.specs.declared.stored.Push.{Push}
-use Rattle.ocpi_types.specs.declared.stored.Push.TheVariants as push
-use Rattle.ocpi_types.specs.declared.stored.Reply.{Reply}
-use Rattle.ocpi_types.specs.declared.words.CommandResultType.{CommandResultType}
-use Rattle.reservation_book.specs.declared.standing.Standing.{Standing}
-use Rattle.site_book.specs.Sites.{IsLocation}
+use Rattle.ocpi_text.specs.{key}
+use Rattle.ocpi_types.specs.{AreLocations, Change, Command, CommandResultType, Drop, Evse, Location, OpenCommand}
+use Rattle.ocpi_types.specs.{Packet, Place, Push, Put, Reply, StartSession}
+use Rattle.ocpi_types.specs.command
+use Rattle.ocpi_types.specs.body
+use Rattle.ocpi_types.specs.row
+use Rattle.ocpi_types.specs.keys
+use Rattle.ocpi_types.specs.push
+use Rattle.reservation_book.specs.{Standing}
+use Rattle.site_book.specs.{IsLocation}
 use Rattle.command_book.specs.Stored as book
-use Rattle.node_steps.specs.Acts.{Act, all_changes}
+use Rattle.node_steps.specs.{Act, all_changes}
 use Rattle.operator_rows.specs.State.{State}
 use Rattle.operator_tables.specs.Decides.{Decides}
-use Rattle.operator_tables.specs.Places.{IsHeldFor, Works, place_of}
+use Rattle.operator_tables.specs.{Decision, IsHeldFor, Works, place_of}
 use Rattle.operator_tables.specs.Start as start
-use Rattle.operator_tables.specs.declared.decision.Decision.{Decision}
-use Rattle.operator_tables.specs.declared.decision.Decision.TheVariants as decision
-use Rattle.operator_steps.specs.Acts.{deadline, decided_acts, opened, reference_of, reply_of, spent, told, url_of, used}
-use Rattle.operator_steps.specs.Events.{Arrives}
+use Rattle.operator_tables.specs.decision
+use Rattle.operator_steps.specs.{Arrives, deadline, decided_acts, opened, reference_of, reply_of, spent, told, url_of}
+use Rattle.operator_steps.specs.{used}
 use Rattle.operator_steps.proofs.Orderly.{of_cons}
 use Rattle.operator_laws.proofs.events.Caused.{in_parts}
 use Rattle.operator_laws.proofs.events.Causes.{DecidesIt, Opening}

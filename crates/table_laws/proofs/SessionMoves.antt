@@ -1,54 +1,37 @@
 -- What becomes of sessions that go on.
-use Rattle.std.proofs.Common.{◌≡◌, ◌<◌, ◌+◌, ℕ, ℤ, List, [], ◌∷◌, inl, inr, refl, sym, ap, subst, ◌∙◌, arith}
-use Rattle.std.specs.Prelude.{◌≢◌, Some, None, Contains}
+use Rattle.std.proofs.Common.{◌≡◌, ◌<◌, ◌+◌, ℕ, ℤ, List, [], ◌∷◌, inl, inr, refl, sym, ap, subst, ◌∙◌, arith, ◌≢◌, Some}
+use Rattle.std.proofs.Common.{None, Contains}
 use Rattle.std.specs.FinMap.{get}
 use Rattle.std.proofs.lemmas.List.Elements.{Contains-append_right}
 use Rattle.tables.proofs.Elements.{in_front}
 use Rattle.tables.proofs.Options.{not_both}
-use Rattle.ocpi_text.specs.Text.{key}
-use Rattle.ocpi_types.specs.declared.commands.Command.{Command}
-use Rattle.ocpi_types.specs.declared.commands.Command.TheVariants as command
-use Rattle.ocpi_types.specs.declared.commands.StopSession.{StopSession}
-use Rattle.ocpi_types.specs.declared.events.ChargerEvent.{ChargerEvent}
-use Rattle.ocpi_types.specs.declared.events.ChargerEvent.TheVariants as event
-use Rattle.ocpi_types.specs.declared.packet.Body.TheVariants as body
-use Rattle.ocpi_types.specs.declared.packet.Packet.{Packet}
-use Rattle.ocpi_types.specs.declared.rows.Change.{Change}
-use Rattle.ocpi_types.specs.declared.rows.Change.TheVariants.{Put}
-use Rattle.ocpi_types.specs.declared.rows.Row.{Row}
-use Rattle.ocpi_types.specs.declared.rows.Row.TheVariants as row
-use Rattle.ocpi_types.specs.declared.sessions.Session.{Session}
-use Rattle.ocpi_types.specs.declared.stored.OpenCommand.{OpenCommand}
-use Rattle.ocpi_types.specs.declared.stored.Push.TheVariants as push
-use Rattle.ocpi_types.specs.declared.words.CommandResultType.{CommandResultType}
-use Rattle.ocpi_types.specs.declared.words.SessionStatus.{SessionStatus}
-use Rattle.ocpi_types.specs.declared.words.SessionStatus.TheVariants as status
-use Rattle.site_book.specs.declared.claim.Claim.{Claim}
-use Rattle.site_book.specs.declared.claim.Claim.TheVariants.{Live}
-use Rattle.session_state.specs.Pasts.{IsFinal}
-use Rattle.session_state.specs.Versions.{completed, ended, metered, voided}
+use Rattle.ocpi_text.specs.{key}
+use Rattle.ocpi_types.specs.{Change, ChargerEvent, Command, CommandResultType, OpenCommand, Packet, Put, Row, Session}
+use Rattle.ocpi_types.specs.{SessionStatus, StopSession}
+use Rattle.ocpi_types.specs.command
+use Rattle.ocpi_types.specs.event
+use Rattle.ocpi_types.specs.body
+use Rattle.ocpi_types.specs.row
+use Rattle.ocpi_types.specs.push
+use Rattle.ocpi_types.specs.status
+use Rattle.site_book.specs.{Claim, Live}
+use Rattle.session_state.specs.{IsFinal, completed, ended, metered, voided}
 use Rattle.command_book.specs.Stored as book
-use Rattle.node_steps.specs.Acts.{Act, all_changes}
-use Rattle.node_steps.specs.Drafts.{count_changes, counted}
-use Rattle.operator_rows.specs.Rows.{HasRow}
-use Rattle.operator_rows.specs.Sound.{IsConsistent}
-use Rattle.operator_rows.specs.State.{IsLive, State}
+use Rattle.node_steps.specs.{Act, all_changes, count_changes, counted}
+use Rattle.operator_rows.specs.{HasRow, IsConsistent, IsLive}
+use Rattle.operator_rows.specs.State.{State}
 use Rattle.operator_tables.specs.Decides.{Decides}
 use Rattle.operator_tables.specs.Stop as stop
-use Rattle.operator_tables.specs.declared.decision.Decision.{Decision}
-use Rattle.operator_tables.specs.declared.decision.Decision.TheVariants as decision
-use Rattle.session_tables.specs.Moves.{IsSessionAt, Makes, charging_at}
-use Rattle.session_tables.specs.declared.shown.Shown.{Shown}
-use Rattle.session_tables.specs.declared.shown.Shown.TheVariants as shown
-use Rattle.operator_steps.specs.Acts.{deadline, decided_acts}
+use Rattle.operator_tables.specs.{Decision}
+use Rattle.operator_tables.specs.decision
+use Rattle.session_tables.specs.{IsSessionAt, Makes, Shown, charging_at}
+use Rattle.session_tables.specs.shown
+use Rattle.operator_steps.specs.{Asks, ChargerLine, Comes, EndsBy, Event, Input, IsMoved, IsVersioned, Out, PacketLine}
+use Rattle.operator_steps.specs.{Reports, Shows, Work, counters_of, deadline, decided_acts, quiet, replaced}
+use Rattle.operator_steps.specs.{step_of_acts}
 use Rattle.operator_steps.specs.Charger as charger
-use Rattle.operator_steps.specs.Charger.{ChargerLine, EndsBy, Shows}
 use Rattle.operator_steps.specs.Events as events
-use Rattle.operator_steps.specs.Events.{Asks, Event, Input, Reports}
-use Rattle.operator_steps.specs.Moves.{Out, Work, counters_of, quiet, step_of_acts}
-use Rattle.operator_steps.specs.Sessions.{IsMoved, IsVersioned, replaced}
 use Rattle.operator_steps.specs.Steps as packets
-use Rattle.operator_steps.specs.Steps.{Comes, PacketLine}
 use Rattle.operator_laws.proofs.events.Caused.{in_first, in_second}
 use Rattle.operator_laws.proofs.events.Doing.{does}
 use Rattle.table_laws.specs.Moving.{IsAt, IsCarriedOut, IsFollowed, IsOpened, OwnSessionsAreStopped, ReadingsAreKept, StopsEndSessions}

@@ -1,34 +1,21 @@
 -- What a provider takes of what its operators hand over.
-use Rattle.std.proofs.Common.{◌≡◌, ◌<◌, ℕ, List, [], ◌∷◌, inl, inr, refl, sym, ap, subst, ◌∙◌}
-use Rattle.std.specs.Prelude.{◌≢◌, Option, Some, None}
+use Rattle.std.proofs.Common.{◌≡◌, ◌<◌, ℕ, List, [], ◌∷◌, inl, inr, refl, sym, ap, subst, ◌∙◌, ◌≢◌, Option, Some, None}
 use Rattle.std.specs.Cmp.{nat_cmp_total}
 use Rattle.std.specs.FinMap.{get, nat_cmp-IsAntisymmetric}
-use Rattle.tables.specs.Keys.{text_number_exact, text_number_total, text_pair_exact, text_pair_total}
+use Rattle.tables.specs.{text_number_exact, text_number_total, text_pair_exact, text_pair_total}
 use Rattle.tables.proofs.Maps.{get-insert_same}
 use Rattle.tables.proofs.Options.{known, none_some, not_both}
-use Rattle.ocpi_text.specs.Text.{key}
-use Rattle.ocpi_types.specs.declared.cdrs.Cdr.{Cdr}
-use Rattle.ocpi_types.specs.declared.packet.Body.{Body}
-use Rattle.ocpi_types.specs.declared.packet.Body.TheVariants as body
-use Rattle.ocpi_types.specs.declared.packet.Packet.{Packet}
-use Rattle.ocpi_types.specs.declared.replies.Ack.{Ack}
-use Rattle.ocpi_types.specs.declared.replies.CommandResponse.{CommandResponse}
-use Rattle.ocpi_types.specs.declared.replies.CommandResult.{CommandResult}
-use Rattle.ocpi_types.specs.declared.sessions.Session.{Session}
-use Rattle.ocpi_types.specs.declared.stored.Reply.{Reply}
-use Rattle.ocpi_types.specs.declared.stored.SentCommand.{SentCommand}
-use Rattle.ocpi_types.specs.declared.words.CommandResultType.{CommandResultType}
-use Rattle.ocpi_types.specs.declared.words.SessionStatus.TheVariants.{Completed, Invalid}
-use Rattle.handover.specs.Cdrs.{cdr_key}
-use Rattle.handover.specs.Inbox.{IsInConflict, IsNews, session_key}
-use Rattle.node_steps.specs.Acts.{Act, answered}
+use Rattle.ocpi_text.specs.{key}
+use Rattle.ocpi_types.specs.{Ack, Body, Cdr, CommandResponse, CommandResult, CommandResultType, Completed, Invalid}
+use Rattle.ocpi_types.specs.{Packet, Reply, SentCommand, Session}
+use Rattle.ocpi_types.specs.body
+use Rattle.handover.specs.{IsInConflict, IsNews, cdr_key, session_key}
+use Rattle.node_steps.specs.{Act, answered}
 use Rattle.provider_rows.specs.State.{Rows, State}
-use Rattle.provider_rows.specs.Urls.{Fits}
-use Rattle.provider_steps.specs.Acts.{acknowledgement, billed, held, kept, with_result}
-use Rattle.provider_steps.specs.Events.{Asks, Event, Input}
-use Rattle.provider_steps.specs.Moves.{Out}
+use Rattle.provider_rows.specs.{Fits}
+use Rattle.provider_steps.specs.{Answers, Asks, Comes, Event, FitsCommand, Input, IsRight, Out, PacketLine}
+use Rattle.provider_steps.specs.{acknowledgement, billed, held, kept, with_result}
 use Rattle.provider_steps.specs.Packets as packets
-use Rattle.provider_steps.specs.Packets.{Answers, Comes, FitsCommand, IsRight, PacketLine}
 use Rattle.provider_laws.proofs.events.Doing.{asked_plain}
 use Rattle.provider_laws.proofs.events.Through.{acted_through, through}
 use Rattle.table_laws.specs.Taking.{ConflictsAreRefused, IsAcknowledged, IsCarriedOut, IsNew, RecordsAreTaken, ResultsAreTaken, VersionsAreTaken}

@@ -1,27 +1,21 @@
 -- A command to unlock a connector is opened where no other provider is at its EVSE.
-use Rattle.std.proofs.Common.{◌≡◌, ℕ, List, inl, inr, refl, sym, subst, ◌∙◌}
-use Rattle.std.specs.Prelude.{◌≢◌, ◌⊎◌, Contains}
-use Rattle.tables.specs.Keys.{text_exact, text_total}
+use Rattle.std.proofs.Common.{◌≡◌, ℕ, List, inl, inr, refl, sym, subst, ◌∙◌, ◌≢◌, ◌⊎◌, Contains}
+use Rattle.tables.specs.{text_exact, text_total}
 use Rattle.tables.proofs.Elements.{in_single}
 use Rattle.tables.proofs.Maps.{told}
-use Rattle.ocpi_text.specs.Text.{key}
-use Rattle.ocpi_types.specs.declared.commands.Command.{Command}
-use Rattle.ocpi_types.specs.declared.commands.Command.TheVariants as command
-use Rattle.ocpi_types.specs.declared.rows.Change.TheVariants.{Put}
-use Rattle.ocpi_types.specs.declared.rows.Row.TheVariants as row
-use Rattle.ocpi_types.specs.declared.stored.OpenCommand.{OpenCommand}
-use Rattle.ocpi_types.specs.declared.words.CommandResponseType.{CommandResponseType}
-use Rattle.ocpi_types.specs.declared.words.SessionStatus.{SessionStatus}
-use Rattle.ocpi_types.specs.declared.words.SessionStatus.TheVariants.{Active, Pending}
-use Rattle.site_book.specs.declared.claim.Claim.TheVariants.{Live, OpenStart, Reserved}
-use Rattle.node_steps.specs.Acts.{Act, all_changes}
-use Rattle.operator_rows.specs.State.{IsLive, IsStart, State}
+use Rattle.ocpi_text.specs.{key}
+use Rattle.ocpi_types.specs.{Active, Command, CommandResponseType, OpenCommand, Pending, Put, SessionStatus}
+use Rattle.ocpi_types.specs.command
+use Rattle.ocpi_types.specs.row
+use Rattle.site_book.specs.{Live, OpenStart, Reserved}
+use Rattle.node_steps.specs.{Act, all_changes}
+use Rattle.operator_rows.specs.{IsLive, IsStart}
+use Rattle.operator_rows.specs.State.{State}
 use Rattle.operator_tables.specs.Decides.{Decides}
-use Rattle.operator_tables.specs.Places.{IsForeign}
+use Rattle.operator_tables.specs.{Decision, IsForeign}
 use Rattle.operator_tables.specs.Unlock as unlock
-use Rattle.operator_tables.specs.declared.decision.Decision.{Decision}
-use Rattle.operator_tables.specs.declared.decision.Decision.TheVariants as decision
-use Rattle.operator_steps.specs.Acts.{decided_acts, reply_of}
+use Rattle.operator_tables.specs.decision
+use Rattle.operator_steps.specs.{decided_acts, reply_of}
 use Rattle.operator_laws.proofs.events.Causes.{DecidesIt, Opening}
 use Rattle.operator_laws.proofs.events.Doing.{Does, does, put_by}
 use Rattle.table_laws.specs.Unlocking.{IsOfNoOther, UnlocksAreOfNoOther}

@@ -1,11 +1,10 @@
 -- What an acknowledgement ends (OCPI 2.2.1, Transport and format: Response format, status_code).
 use Rattle.std.specs.Prelude.{◌≡◌, ℕ, Some, None}
 use Rattle.std.specs.FinMap.{get}
-use Rattle.ocpi_text.specs.Text.{key}
-use Rattle.ocpi_types.specs.declared.packet.Body.TheVariants as body
-use Rattle.ocpi_types.specs.declared.packet.Packet.{Packet}
-use Rattle.ocpi_types.specs.declared.replies.Ack.{Ack}
-use Rattle.outbox.specs.declared.push_book.Outgoing.{Outgoing}
+use Rattle.ocpi_text.specs.{key}
+use Rattle.ocpi_types.specs.body
+use Rattle.ocpi_types.specs.{Ack, Packet}
+use Rattle.outbox.specs.{Outgoing}
 use Rattle.operator_rows.specs.State as operator_state
 use Rattle.operator_steps.specs.Events as operator
 use Rattle.operator_steps.specs.Moves as operator_moves

@@ -1,19 +1,15 @@
 -- Which answer lets a session begin (OCPI 2.2.1, Tokens: Real-time authorization, AuthorizationInfo; CDRs: AuthMethod).
 use Rattle.std.specs.Prelude.{◌≡◌, ℕ, Some}
 use Rattle.std.specs.FinMap.{get}
-use Rattle.ocpi_text.specs.Text.{key}
-use Rattle.ocpi_types.specs.declared.authorizations.Authorization.{Authorization}
-use Rattle.ocpi_types.specs.declared.authorizations.Authorization.TheVariants.{Done}
-use Rattle.ocpi_types.specs.declared.authorizations.AuthorizationInfo.{AuthorizationInfo}
-use Rattle.ocpi_types.specs.declared.packet.Body.TheVariants as body
-use Rattle.ocpi_types.specs.declared.packet.Packet.{Packet}
-use Rattle.ocpi_types.specs.declared.rows.Row.TheVariants as row
-use Rattle.ocpi_types.specs.declared.sessions.Session.{Session}
+use Rattle.ocpi_text.specs.{key}
+use Rattle.ocpi_types.specs.{Authorization, AuthorizationInfo, Done, Packet, Session}
+use Rattle.ocpi_types.specs.body
+use Rattle.ocpi_types.specs.row
 use Rattle.ocpi_types.specs.declared.words.AllowedType.TheVariants.{Allowed}
-use Rattle.authorization_book.specs.declared.awaited.Awaited.{Awaited}
-use Rattle.operator_rows.specs.Sound.{IsConsistent}
+use Rattle.authorization_book.specs.{Awaited}
+use Rattle.operator_rows.specs.{IsConsistent}
 use Rattle.operator_rows.specs.State.{State}
-use Rattle.operator_steps.specs.Events.{Arrives, Event, Happens}
+use Rattle.operator_steps.specs.{Arrives, Event, Happens}
 use Rattle.operator_laws.specs.Sessions.{Puts}
 
 -- the answer is ALLOWED. Its token is the one that its sender was asked about under its number, by party, uid and type,

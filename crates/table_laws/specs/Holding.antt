@@ -1,25 +1,18 @@
 -- Which EVSE a start takes that a reservation of its provider is for (OCPI 2.2.1, Commands: StartSession, ReserveNow).
 use Rattle.std.specs.Prelude.{◌≡◌, ℕ, true, List, Some, None, Contains}
 use Rattle.std.specs.FinMap.{get}
-use Rattle.ocpi_text.specs.Text.{key}
-use Rattle.ocpi_types.specs.Locations.{AreLocations}
-use Rattle.ocpi_types.specs.declared.commands.Command.TheVariants as command
-use Rattle.ocpi_types.specs.declared.commands.StartSession.{StartSession}
-use Rattle.ocpi_types.specs.declared.packet.Body.TheVariants as body
-use Rattle.ocpi_types.specs.declared.packet.Packet.{Packet}
-use Rattle.ocpi_types.specs.declared.rows.Change.TheVariants.{Drop}
-use Rattle.ocpi_types.specs.declared.rows.Row.TheVariants as row
-use Rattle.ocpi_types.specs.declared.rows.RowKey.TheVariants as keys
-use Rattle.ocpi_types.specs.declared.site.Connector.{Connector}
-use Rattle.ocpi_types.specs.declared.site.Evse.{Evse}
-use Rattle.ocpi_types.specs.declared.site.Location.{Location}
-use Rattle.ocpi_types.specs.declared.stored.OpenCommand.{OpenCommand}
-use Rattle.ocpi_types.specs.declared.stored.Reservation.{Reservation}
-use Rattle.reservation_book.specs.Tokens.{IsToken}
-use Rattle.site_book.specs.Sites.{Fits}
-use Rattle.operator_rows.specs.Sound.{IsConsistent}
+use Rattle.ocpi_text.specs.{key}
+use Rattle.ocpi_types.specs.{AreLocations, Connector, Drop, Evse, Location, OpenCommand, Packet, Reservation}
+use Rattle.ocpi_types.specs.{StartSession}
+use Rattle.ocpi_types.specs.command
+use Rattle.ocpi_types.specs.body
+use Rattle.ocpi_types.specs.row
+use Rattle.ocpi_types.specs.keys
+use Rattle.reservation_book.specs.{IsToken}
+use Rattle.site_book.specs.{Fits}
+use Rattle.operator_rows.specs.{IsConsistent}
 use Rattle.operator_rows.specs.State.{State}
-use Rattle.operator_steps.specs.Events.{Arrives, Event, Happens}
+use Rattle.operator_steps.specs.{Arrives, Event, Happens}
 use Rattle.operator_laws.specs.Sessions.{Puts}
 use Rattle.table_laws.specs.Moving.{IsCarriedOut}
 

@@ -2,24 +2,19 @@
 -- Commands: StopSession, CommandResponse).
 use Rattle.std.specs.Prelude.{◌≡◌, ◌≢◌, ◌<◌, ◌≤ℤ◌, ℕ, ℤ, List, Some, None}
 use Rattle.std.specs.FinMap.{get}
-use Rattle.ocpi_text.specs.Text.{key}
-use Rattle.ocpi_types.specs.declared.commands.Command.TheVariants as command
-use Rattle.ocpi_types.specs.declared.commands.StopSession.{StopSession}
-use Rattle.ocpi_types.specs.declared.events.ChargerEvent.TheVariants as event
-use Rattle.ocpi_types.specs.declared.packet.Body.TheVariants as body
-use Rattle.ocpi_types.specs.declared.packet.Packet.{Packet}
+use Rattle.ocpi_text.specs.{key}
+use Rattle.ocpi_types.specs.command
+use Rattle.ocpi_types.specs.{Active, Completed, Invalid, OpenCommand, Packet, Pending, Session, SessionStatus}
+use Rattle.ocpi_types.specs.{StopSession}
+use Rattle.ocpi_types.specs.event
+use Rattle.ocpi_types.specs.body
 use Rattle.ocpi_types.specs.declared.replies.CommandResponse.TheVariants as response
-use Rattle.ocpi_types.specs.declared.sessions.Session.{Session}
-use Rattle.ocpi_types.specs.declared.stored.OpenCommand.{OpenCommand}
-use Rattle.ocpi_types.specs.declared.stored.Reply.TheVariants as reply
+use Rattle.ocpi_types.specs.reply
 use Rattle.ocpi_types.specs.declared.words.CommandResponseType.TheVariants.{Accepted}
-use Rattle.ocpi_types.specs.declared.words.SessionStatus.{SessionStatus}
-use Rattle.ocpi_types.specs.declared.words.SessionStatus.TheVariants.{Active, Completed, Invalid, Pending}
-use Rattle.session_state.specs.Costs.{most_kwh}
-use Rattle.operator_rows.specs.Sound.{IsConsistent}
+use Rattle.session_state.specs.{most_kwh}
+use Rattle.operator_rows.specs.{IsConsistent}
 use Rattle.operator_rows.specs.State.{State}
-use Rattle.operator_steps.specs.Events.{Arrives, Asks, Event, Reports, event_out}
-use Rattle.operator_steps.specs.Moves.{StepBy}
+use Rattle.operator_steps.specs.{Arrives, Asks, Event, Reports, StepBy, event_out}
 
 -- the event is carried out, and not refused: the operator does what its input asks for
 abbrev pub IsCarriedOut : State → Event → State → Type 0

@@ -2,14 +2,13 @@
 -- member last_updated).
 use Rattle.std.specs.Prelude.{◌≡◌, ◌≤◌, ◌<◌, ℕ, List, Some}
 use Rattle.std.specs.FinMap.{get}
-use Rattle.ocpi_text.specs.Text.{key}
-use Rattle.ocpi_types.specs.declared.packet.Body.TheVariants as body
-use Rattle.ocpi_types.specs.declared.packet.Packet.{Packet}
-use Rattle.ocpi_types.specs.declared.token.Token.{Token}
-use Rattle.token_desk.specs.Tokens.{TokenKey}
-use Rattle.operator_rows.specs.Sound.{IsConsistent}
+use Rattle.ocpi_text.specs.{key}
+use Rattle.ocpi_types.specs.body
+use Rattle.ocpi_types.specs.{Packet, Token}
+use Rattle.token_desk.specs.{TokenKey}
+use Rattle.operator_rows.specs.{IsConsistent}
 use Rattle.operator_rows.specs.State.{State}
-use Rattle.operator_steps.specs.Events.{Arrives, Event, Happens}
+use Rattle.operator_steps.specs.{Arrives, Event, Happens}
 use Rattle.operator_laws.specs.Laws.{Run}
 
 -- the token that is held in a place stays, or the event brings a later version of it, by its provider

@@ -2,19 +2,13 @@
 -- interface, POST; Commands: Sender interface, POST).
 use Rattle.std.specs.Prelude.{◌≡◌, ◌≢◌, ◌⊎◌, ◌<◌, ℕ, List, Some, None, is_some}
 use Rattle.std.specs.FinMap.{get}
-use Rattle.ocpi_text.specs.Text.{key}
-use Rattle.ocpi_types.specs.declared.cdrs.Cdr.{Cdr}
-use Rattle.ocpi_types.specs.declared.packet.Body.{Body}
-use Rattle.ocpi_types.specs.declared.packet.Body.TheVariants as body
-use Rattle.ocpi_types.specs.declared.packet.Packet.{Packet}
-use Rattle.ocpi_types.specs.declared.replies.CommandResult.{CommandResult}
-use Rattle.ocpi_types.specs.declared.sessions.Session.{Session}
-use Rattle.ocpi_types.specs.declared.stored.Reply.TheVariants as reply
-use Rattle.ocpi_types.specs.declared.stored.SentCommand.{SentCommand}
-use Rattle.ocpi_types.specs.declared.words.SessionStatus.TheVariants.{Completed, Invalid}
-use Rattle.provider_rows.specs.State.{State, url_of}
-use Rattle.provider_steps.specs.Events.{Arrives, Asks, Event, event_out}
-use Rattle.provider_steps.specs.Moves.{StepBy}
+use Rattle.ocpi_text.specs.{key}
+use Rattle.ocpi_types.specs.{Body, Cdr, CommandResult, Completed, Invalid, Packet, SentCommand, Session}
+use Rattle.ocpi_types.specs.body
+use Rattle.ocpi_types.specs.reply
+use Rattle.provider_rows.specs.{url_of}
+use Rattle.provider_rows.specs.State.{State}
+use Rattle.provider_steps.specs.{Arrives, Asks, Event, StepBy, event_out}
 
 -- the event is carried out, and not refused: the provider does what its input asks for
 abbrev pub IsCarriedOut : State → Event → State → Type 0

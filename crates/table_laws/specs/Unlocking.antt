@@ -1,17 +1,12 @@
 -- Which EVSE an operator unlocks (OCPI 2.2.1, Commands: UnlockConnector).
 use Rattle.std.specs.Prelude.{◌≡◌, ◌⊎◌, ℕ, List, Some}
 use Rattle.std.specs.FinMap.{get}
-use Rattle.ocpi_text.specs.Text.{key}
-use Rattle.ocpi_types.specs.declared.commands.Command.TheVariants as command
-use Rattle.ocpi_types.specs.declared.commands.StartSession.{StartSession}
-use Rattle.ocpi_types.specs.declared.commands.UnlockConnector.{UnlockConnector}
-use Rattle.ocpi_types.specs.declared.rows.Row.TheVariants as row
-use Rattle.ocpi_types.specs.declared.sessions.Session.{Session}
-use Rattle.ocpi_types.specs.declared.stored.OpenCommand.{OpenCommand}
-use Rattle.ocpi_types.specs.declared.stored.Reservation.{Reservation}
-use Rattle.ocpi_types.specs.declared.words.SessionStatus.TheVariants.{Active, Pending}
+use Rattle.ocpi_text.specs.{key}
+use Rattle.ocpi_types.specs.command
+use Rattle.ocpi_types.specs.{Active, OpenCommand, Pending, Reservation, Session, StartSession, UnlockConnector}
+use Rattle.ocpi_types.specs.row
 use Rattle.operator_rows.specs.State.{Rows, State}
-use Rattle.operator_steps.specs.Events.{Event, Happens}
+use Rattle.operator_steps.specs.{Event, Happens}
 use Rattle.operator_laws.specs.Sessions.{Puts}
 
 -- whoever has an open start, a session that goes on, or a reservation at the EVSE of that key is the provider of that

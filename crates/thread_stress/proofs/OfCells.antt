@@ -1,16 +1,15 @@
 -- What happened at the cells of a run, as histories that no two nodes share.
 use Rattle.std.proofs.Common.{◌≡◌, ◌∙◌, ℕ, ◌+◌, ◌≤◌, List, [], ◌∷◌, ◌++◌, length, map, take, sym, ap, arith, option_map}
+use Rattle.std.proofs.Common.{Some, slice_get, sum_by}
 use Rattle.std.proofs.lemmas.List.{length-map, map-append}
 use Rattle.std.proofs.lemmas.Option.{slice_get-map}
-use Rattle.std.specs.Prelude.{Some, slice_get, sum_by}
 use Rattle.cell_weaving.specs.Cells.{AreCellsOf, AreTold, Told, told_of, told_of_cell}
 use Rattle.histories.proofs.Lists.{got_within, some_same, stands, take_one}
-use Rattle.histories.specs.Weaving.{AreApart}
-use Rattle.histories.specs.declared.history.NodeHistory.{NodeHistory}
-use Rattle.node_history.specs.Cells.{Cell}
-use Rattle.node_store.specs.Contents.{Content}
-use Rattle.ocpi_text.specs.Text.{key}
-use Rattle.ocpi_types.specs.declared.setup.Node.{Node}
+use Rattle.histories.specs.{AreApart, NodeHistory}
+use Rattle.node_history.specs.{Cell}
+use Rattle.node_store.specs.{Content}
+use Rattle.ocpi_text.specs.{key}
+use Rattle.ocpi_types.specs.{Node}
 
 -- one cell more, and its history
 pub told_more : (hs longer : List NodeHistory) (cells : List (Cell Content)) (i : ℕ) (h : NodeHistory) (c : Cell Content) → slice_get cells i ≡ Some c → AreTold hs (take i cells)

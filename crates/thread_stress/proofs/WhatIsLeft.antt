@@ -1,23 +1,21 @@
 -- What is left of histories while a world plays their run.
-use Rattle.std.proofs.Common.{zero, suc, ◌≡◌, ◌≢◌, ◌∙◌, inl, inr, ℕ, ◌+◌, cond, List, [], ◌∷◌, ◌++◌, length, map, take, sym, ap, subst, subst₂, refl, arith, append_assoc, append-nil}
+use Rattle.std.proofs.Common.{zero, suc, ◌≡◌, ◌≢◌, ◌∙◌, inl, inr, ℕ, ◌+◌, cond, List, [], ◌∷◌, ◌++◌, length, map, take}
+use Rattle.std.proofs.Common.{sym, ap, subst, subst₂, refl, arith, append_assoc, append-nil, Some, bytes_eq, slice_get}
+use Rattle.std.proofs.Common.{slice_set}
 use Rattle.std.proofs.lemmas.Bool.{cases_eq, false_from_ne_true}
 use Rattle.std.proofs.lemmas.Grind.{flat_map-append}
 use Rattle.std.proofs.lemmas.List.{length-set, map-append}
 use Rattle.std.proofs.lemmas.Slice.Eq.{bytes_eq-Decides}
-use Rattle.std.specs.Prelude.{Some, bytes_eq, slice_get, slice_set}
 use Rattle.histories.proofs.Lists.{got_within, place_in, some_same, stands, take_one}
-use Rattle.histories.specs.declared.entry.Entry.{Entry}
-use Rattle.histories.specs.declared.history.NodeHistory.{NodeHistory}
-use Rattle.histories.specs.Entries.{packets_of}
-use Rattle.histories.specs.Weaving.{AreApart}
+use Rattle.histories.specs.{AreApart, Entry, NodeHistory, packets_of}
 use Rattle.node_laws.proofs.Runs.{run_join}
 use Rattle.node_laws.specs.Runs.{Run}
-use Rattle.ocpi_text.specs.Text.{key}
-use Rattle.ocpi_types.specs.declared.events.Event.{Event}
-use Rattle.ocpi_types.specs.declared.setup.Node.{Node}
+use Rattle.ocpi_text.specs.{key}
+use Rattle.ocpi_types.specs.{Event, Node}
 use Rattle.thread_stress.specs.Playing.{IsNextOf, IsPlayed, Played, Plays, PlaysNext, event_in, sent_at, sent_by}
 use Rattle.world_steps.proofs.Places.{set_other, set_same}
-use Rattle.world_steps.specs.World.{World, opened}
+use Rattle.world_steps.specs.{opened}
+use Rattle.world_steps.specs.World.{World}
 
 -- ---- what the events of a node send
 

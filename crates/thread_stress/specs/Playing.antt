@@ -1,15 +1,11 @@
 -- A run of the nodes of a setup, as a world of that setup plays it.
 use Rattle.std.specs.Prelude.{◌≡◌, ◌∷◌, ℕ, List, [], Some, Contains, bytes_eq, cond, flat_map, map, slice_get, slice_set}
-use Rattle.histories.specs.declared.entry.Entry.{Entry}
-use Rattle.histories.specs.declared.history.NodeHistory.{NodeHistory}
-use Rattle.histories.specs.Entries.{packets_of}
+use Rattle.histories.specs.{Entry, NodeHistory, packets_of}
 use Rattle.node_laws.specs.Runs.{Run}
-use Rattle.ocpi_text.specs.Text.{key}
-use Rattle.ocpi_types.specs.declared.events.Event.{Event}
-use Rattle.ocpi_types.specs.declared.packet.Packet.{Packet}
-use Rattle.ocpi_types.specs.declared.setup.Node.{Node}
-use Rattle.world_steps.specs.Steps.{Gives, Outcome, Refused, Skipped, Stepped}
-use Rattle.world_steps.specs.World.{World, opened}
+use Rattle.ocpi_text.specs.{key}
+use Rattle.ocpi_types.specs.{Event, Node, Packet}
+use Rattle.world_steps.specs.{Gives, Outcome, Refused, Skipped, Stepped, opened}
+use Rattle.world_steps.specs.World.{World}
 
 -- ---- what a world sends
 

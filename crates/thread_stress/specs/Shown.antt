@@ -2,11 +2,10 @@
 use Rattle.std.specs.Prelude.{◌≡◌, ◌≤◌, ℕ, List, length, sum_by}
 use Rattle.cell_weaving.specs.Cells.{AreCellsOf, AreTold, IsRunOfCells}
 use Rattle.harness_weaving.specs.declared.weaving.WovenRun.{WovenRun}
-use Rattle.histories.specs.declared.history.NodeHistory.{NodeHistory}
-use Rattle.node_history.specs.Cells.{Cell}
-use Rattle.node_store.specs.Contents.{Content}
-use Rattle.ocpi_types.specs.declared.events.Event.{Event}
-use Rattle.ocpi_types.specs.declared.setup.Node.{Node}
+use Rattle.histories.specs.{NodeHistory}
+use Rattle.node_history.specs.{Cell}
+use Rattle.node_store.specs.{Content}
+use Rattle.ocpi_types.specs.{Event, Node}
 use Rattle.thread_stress.specs.Playing.{IsPlayed}
 
 abbrev pub entries_at : Cell Content → ℕ

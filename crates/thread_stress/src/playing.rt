@@ -2,9 +2,8 @@
 
 ghost use Rattle.std.specs.Prelude.{◌≡◌, ◌∷◌, ◌<◌, [], ℕ, IfOk, IfSome, Some as SomeOf, length, slice_get, slice_set};
 ghost use Rattle.std.specs.Bool.{OnTrue};
-ghost use Rattle.histories.specs.declared.history.NodeHistory.{NodeHistory as HistoryOf};
-ghost use Rattle.histories.specs.Weaving.{AreApart};
-ghost use Rattle.ocpi_text.specs.Text.{key};
+ghost use Rattle.histories.specs.{AreApart, NodeHistory as HistoryOf};
+ghost use Rattle.ocpi_text.specs.{key};
 ghost use Rattle.thread_stress.specs.Playing.{IsNextOf, IsPlayed, PlaysNext};
 
 use histories::{Entry, NodeHistory};

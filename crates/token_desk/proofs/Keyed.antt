@@ -1,13 +1,11 @@
 -- Each token stands under its own key, whatever is put and dropped.
-use Rattle.std.proofs.Common.{◌≡◌, ℕ, List, inl, inr, sym, ap, subst, ◌∙◌}
-use Rattle.std.specs.Prelude.{IsTrue, is_some}
+use Rattle.std.proofs.Common.{◌≡◌, ℕ, List, inl, inr, sym, ap, subst, ◌∙◌, IsTrue, is_some}
 use Rattle.std.specs.FinMap.{insert, remove, empty, contains_key, get-empty}
 use Rattle.tables.proofs.Options.{not_both}
 use Rattle.tables.proofs.Maps.{told, others_keep, of_insert, of_remove, get-insert_same, get-insert_other}
-use Rattle.ocpi_types.specs.declared.token.Token.{Token}
-use Rattle.ocpi_types.specs.declared.words.TokenType.{TokenType}
-use Rattle.ocpi_types.specs.declared.rows.Row.TheVariants as row
-use Rattle.ocpi_types.specs.declared.rows.RowKey.TheVariants as keys
+use Rattle.ocpi_types.specs.{Token, TokenType}
+use Rattle.ocpi_types.specs.row
+use Rattle.ocpi_types.specs.keys
 use Rattle.token_desk.specs.Tokens.{Tokens, TokenKey, token_cmp, token_key, AreKeyed}
 use Rattle.token_desk.specs.Stored.{Rooms, KeepsRoom, KeepsOtherRoom}
 use Rattle.token_desk.specs.TypeOrder.{tokens_total, tokens_exact}

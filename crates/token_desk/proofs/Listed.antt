@@ -1,6 +1,6 @@
 -- The rows of a desk, and the desk of its rows.
-use Rattle.std.proofs.Common.{◌≡◌, ◌≢◌, ◌↔◌, ℕ, zero, suc, List, [], ◌∷◌, ◌++◌, map, inl, inr, refl, sym, ap, subst, ◌∙◌, arith}
-use Rattle.std.specs.Prelude.{Some, Contains, AllPairs}
+use Rattle.std.proofs.Common.{◌≡◌, ◌≢◌, ◌↔◌, ℕ, zero, suc, List, [], ◌∷◌, ◌++◌, map, inl, inr, refl, sym, ap, subst}
+use Rattle.std.proofs.Common.{◌∙◌, arith, Some, Contains, AllPairs}
 use Rattle.std.specs.List.{AllByRecursion}
 use Rattle.std.specs.FinMap.{get, insert, empty, entries, same_map}
 use Rattle.std.proofs.lemmas.List.{append-nil}
@@ -9,13 +9,10 @@ use Rattle.std.proofs.lemmas.List.Kept.{AllPairs-cons}
 use Rattle.tables.proofs.Options.{same_option}
 use Rattle.tables.proofs.Elements.{in_none, in_single, in_front, all_elements}
 use Rattle.tables.proofs.Entries.{insert_all, listed_only, found_in, each_in, all_apart, all_entries}
-use Rattle.ocpi_types.specs.Rows.{key_of}
-use Rattle.ocpi_types.specs.declared.token.Token.{Token}
-use Rattle.ocpi_types.specs.declared.rows.Row.{Row}
-use Rattle.ocpi_types.specs.declared.rows.Row.TheVariants as row
-use Rattle.ocpi_types.specs.declared.rows.RowKey.{RowKey}
-use Rattle.ocpi_types.specs.declared.rows.RowKey.TheVariants as keys
-use Rattle.ocpi_types.specs.declared.rows.Counter.TheVariants.{Serial, Request, Session, Cdr, Reference}
+use Rattle.ocpi_types.specs.{Reference, Request, Row, RowKey, Serial, Token, key_of}
+use Rattle.ocpi_types.specs.row
+use Rattle.ocpi_types.specs.keys
+use Rattle.ocpi_types.specs.declared.rows.Counter.TheVariants.{Session, Cdr}
 use Rattle.token_desk.specs.Tokens.{Tokens, TokenKey, token_key, AreKeyed}
 use Rattle.token_desk.specs.TypeOrder.{tokens_total, tokens_exact}
 use Rattle.token_desk.specs.Stored.{Rows, HasRow, AreRowsOf, count_rows, with_token}
@@ -51,15 +48,6 @@ module _ (s t : Rows) (same : (r : Row) → HasRow s r ↔ HasRow t r) where
       let tokens : s.tokens ≡ t.tokens = same_map tokens_total tokens_exact s.tokens t.tokens (same_tokens ks kt) in
       let references : s.references ≡ t.references = same_count s.references t.references (λ n. (same (row.Count Reference n)).0) (λ n. (same (row.Count Reference n)).1) in
       λ i. record { tokens = tokens i; references = references i }
-
--- the counter's row
-pub count_none : (n : ℕ) → n ≡ 0 → [] ≡ count_rows n
-count_none zero e = refl
-count_none (suc n) e = absurd (omega arith)
-
-pub count_some : (n : ℕ) → n ≢ 0 → row.Count Reference n ∷ [] ≡ count_rows n
-count_some zero h = absurd (h refl)
-count_some (suc n) h = refl
 
 -- the rows as a list
 module _ (s : Rows) (keyed : AreKeyed s.tokens) where

@@ -1,15 +1,10 @@
 -- What look-ups find: the keys of parties are texts, and the first party of a type and uid.
-use Rattle.std.proofs.Common.{◌≡◌, ℕ, Bool, List, true, false, cond, refl, sym, ap, ◌∙◌}
-use Rattle.std.specs.Prelude.{Ok, Err}
+use Rattle.std.proofs.Common.{◌≡◌, ℕ, Bool, List, true, false, cond, refl, sym, ap, ◌∙◌, Ok, Err}
 use Rattle.std.specs.Ordering.{ordering_then, is_gt}
 use Rattle.std.proofs.lemmas.Cmp.{tied_itself}
-use Rattle.ocpi_text.specs.Text.{ci_text}
-use Rattle.ocpi_text.specs.declared.fault.TextFault.TheVariants.{TooLong}
-use Rattle.ocpi_text.specs.Party.{party_at, is_party_shape}
-use Rattle.tables.specs.Keys.{text_cmp}
-use Rattle.tables.specs.Tables.{IsLeast}
-use Rattle.ocpi_types.specs.declared.words.TokenType.{TokenType}
-use Rattle.ocpi_types.specs.declared.token.Token.{Token}
+use Rattle.ocpi_text.specs.{TooLong, ci_text, is_party_shape, party_at}
+use Rattle.tables.specs.{IsLeast, text_cmp}
+use Rattle.ocpi_types.specs.{Token, TokenType}
 use Rattle.token_desk.specs.Tokens.{Tokens, TokenKey, token_cmp}
 use Rattle.token_desk.specs.TypeOrder.{type_uids_total}
 use Rattle.token_desk.specs.Swipes.{IsFirst}

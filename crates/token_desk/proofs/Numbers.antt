@@ -1,13 +1,9 @@
 -- References that are given one after the other differ.
-use Rattle.std.proofs.Common.{◌≡◌, ℕ, ◌<◌, ◌≤◌, List, [], ◌∷◌, All, sym, ap, ◌∙◌, arith}
-use Rattle.std.specs.Prelude.{◌≢◌, Ok, AllPairs}
+use Rattle.std.proofs.Common.{◌≡◌, ℕ, ◌<◌, ◌≤◌, List, [], ◌∷◌, All, sym, ap, ◌∙◌, arith, ◌≢◌, Ok, AllPairs}
 use Rattle.std.proofs.lemmas.List.Elements.{All-nil, All-cons}
 use Rattle.std.proofs.lemmas.List.Kept.{AllPairs-cons}
 use Rattle.tables.proofs.Elements.{no_pairs}
-use Rattle.ocpi_text.specs.Party.{party_at}
-use Rattle.ocpi_text.specs.Whole.{max_whole}
-use Rattle.ocpi_text.specs.OwnIds.{own_id_text}
-use Rattle.ocpi_text.specs.declared.own_ids.OwnIdKind.TheVariants.{AuthorizationReference}
+use Rattle.ocpi_text.specs.{AuthorizationReference, max_whole, own_id_text, party_at}
 use Rattle.ocpi_text.proofs.OwnIds.{own_ids_are_apart}
 use Rattle.token_desk.specs.declared.answers.Reference.{Reference}
 use Rattle.token_desk.specs.References.{reference_of, AreGiven, NeverRepeat}

@@ -1,11 +1,8 @@
 -- What a provider answers where it is asked for a token of its own (OCPI 2.2.1, Tokens: Real-time authorization).
 use Rattle.std.specs.Prelude.{◌≡◌, ℕ, ◌+◌, ◌≤◌, List, Option, Some, None, true, false}
 use Rattle.std.specs.FinMap.{get}
-use Rattle.ocpi_text.specs.Text.{key}
-use Rattle.ocpi_text.specs.Whole.{max_whole}
-use Rattle.ocpi_types.specs.declared.words.TokenType.{TokenType}
-use Rattle.ocpi_types.specs.declared.words.TokenType.TheVariants.{Rfid}
-use Rattle.ocpi_types.specs.declared.token.Token.{Token}
+use Rattle.ocpi_text.specs.{key, max_whole}
+use Rattle.ocpi_types.specs.{Rfid, Token, TokenType}
 use Rattle.token_desk.specs.declared.answers.Authorized.{Authorized}
 use Rattle.token_desk.specs.declared.answers.Authorized.TheVariants.{Allowed, Blocked}
 use Rattle.token_desk.specs.declared.fault.TokenFault.{TokenFault}

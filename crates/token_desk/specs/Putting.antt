@@ -2,10 +2,8 @@
 -- Receiver interface, PUT; Token object, last_updated).
 use Rattle.std.specs.Prelude.{◌≡◌, ◌≢◌, ℕ, ◌<◌, ◌≤◌, List, Option, Some, None, false}
 use Rattle.std.specs.FinMap.{get, insert, contains_key}
-use Rattle.ocpi_text.specs.Text.{key}
-use Rattle.ocpi_text.specs.Moment.{last_moment}
-use Rattle.ocpi_types.specs.Stamps.{next_stamp}
-use Rattle.ocpi_types.specs.declared.token.Token.{Token}
+use Rattle.ocpi_text.specs.{key, last_moment}
+use Rattle.ocpi_types.specs.{Token, next_stamp}
 use Rattle.token_desk.specs.declared.answers.TokenPut.{TokenPut}
 use Rattle.token_desk.specs.declared.answers.TokenPut.TheVariants.{Stored, Kept}
 use Rattle.token_desk.specs.declared.fault.TokenFault.{TokenFault}

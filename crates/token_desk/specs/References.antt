@@ -1,10 +1,7 @@
 -- The authorization references that a provider gives, each by the next number of one counter (OCPI 2.2.1, Tokens:
 -- AuthorizationInfo object; Commands: StartSession object).
 use Rattle.std.specs.Prelude.{◌≡◌, ◌≢◌, ℕ, ◌<◌, ◌≤◌, List, [], ◌∷◌, Ok, AllPairs, ⊤}
-use Rattle.ocpi_text.specs.Party.{party_at}
-use Rattle.ocpi_text.specs.Whole.{max_whole}
-use Rattle.ocpi_text.specs.OwnIds.{own_id_text}
-use Rattle.ocpi_text.specs.declared.own_ids.OwnIdKind.TheVariants.{AuthorizationReference}
+use Rattle.ocpi_text.specs.{AuthorizationReference, max_whole, own_id_text, party_at}
 use Rattle.token_desk.specs.declared.answers.Reference.{Reference}
 
 -- the reference of a party and a number

@@ -1,14 +1,10 @@
 -- What a token desk stores, its rows, and what changes of rows make of it.
 use Rattle.std.specs.Prelude.{◌≡◌, ◌≢◌, ◌↔◌, ℕ, zero, suc, List, [], ◌∷◌, Some, AllPairs, Contains, IsTrue, false, ⊤}
 use Rattle.std.specs.FinMap.{FinMap, get, insert, remove, contains_key, empty}
-use Rattle.ocpi_types.specs.declared.token.Token.{Token}
-use Rattle.ocpi_types.specs.declared.rows.Row.{Row}
-use Rattle.ocpi_types.specs.declared.rows.Row.TheVariants as row
-use Rattle.ocpi_types.specs.declared.rows.RowKey.{RowKey}
-use Rattle.ocpi_types.specs.declared.rows.RowKey.TheVariants as keys
-use Rattle.ocpi_types.specs.declared.rows.Counter.{Counter}
-use Rattle.ocpi_types.specs.declared.rows.Counter.TheVariants as counter
-use Rattle.ocpi_types.specs.Rows.{key_of}
+use Rattle.ocpi_types.specs.{Counter, Row, RowKey, Token, key_of}
+use Rattle.ocpi_types.specs.row
+use Rattle.ocpi_types.specs.keys
+use Rattle.ocpi_types.specs.counter
 use Rattle.token_desk.specs.Tokens.{Tokens, token_cmp, token_key}
 
 pub record Rows : Type 0 where

@@ -2,11 +2,9 @@
 use Rattle.std.specs.Prelude.{◌≡◌, ℕ, List, Option, Some, None, true, false, IsTrue, ⊤}
 use Rattle.std.specs.FinMap.{get, contains_key}
 use Rattle.std.specs.BTreeMap.Range.{IsLeBy}
-use Rattle.tables.specs.Keys.{text_cmp}
-use Rattle.ocpi_types.specs.declared.words.TokenType.{TokenType}
-use Rattle.ocpi_types.specs.declared.words.WhitelistType.{WhitelistType}
-use Rattle.ocpi_types.specs.declared.words.WhitelistType.TheVariants.{Always, Allowed, AllowedOffline, Never}
-use Rattle.ocpi_types.specs.declared.token.Token.{Token}
+use Rattle.tables.specs.{text_cmp}
+use Rattle.ocpi_types.specs.{AllowedOffline, Always, Never, Token, TokenType, WhitelistType}
+use Rattle.ocpi_types.specs.declared.words.WhitelistType.TheVariants.{Allowed}
 use Rattle.token_desk.specs.declared.answers.Swipe.{Swipe}
 use Rattle.token_desk.specs.declared.answers.Swipe.TheVariants.{Begin, Ask, Nothing}
 use Rattle.token_desk.specs.Tokens.{Tokens}

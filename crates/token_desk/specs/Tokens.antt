@@ -3,11 +3,9 @@ use Rattle.std.specs.Prelude.{◌≡◌, ℕ, List, Some}
 use Rattle.std.specs.Ordering.{nat_cmp}
 use Rattle.std.specs.declared.cmp.Ordering.{Ordering}
 use Rattle.std.specs.FinMap.{FinMap, get}
-use Rattle.ocpi_text.specs.Text.{key}
-use Rattle.tables.specs.Keys.{pair_cmp, text_cmp}
-use Rattle.ocpi_types.specs.declared.words.TokenType.{TokenType}
-use Rattle.ocpi_types.specs.TypePlaces.{type_place}
-use Rattle.ocpi_types.specs.declared.token.Token.{Token}
+use Rattle.ocpi_text.specs.{key}
+use Rattle.tables.specs.{pair_cmp, text_cmp}
+use Rattle.ocpi_types.specs.{Token, TokenType, type_place}
 
 abbrev pub type_cmp : TokenType → TokenType → Ordering
 type_cmp s t = nat_cmp (type_place s) (type_place t)

@@ -4,9 +4,8 @@ use Rattle.std.specs.Ordering.{nat_cmp, eq_by_cmp}
 use Rattle.std.specs.Cmp.{IsTotalOrder, IsEquivalence, IsPartialOrder, on_po, unsigned_po, unsigned_ties, nat_cmp_total}
 use Rattle.std.specs.FinMap.{IsAntisymmetric, nat_cmp-IsAntisymmetric}
 use Rattle.std.proofs.lemmas.Cmp.{on_total, on_equiv, nat_eq_equiv, then_total}
-use Rattle.tables.specs.Keys.{text_cmp, text_total, text_exact, pair_cmp, pair_exact}
-use Rattle.ocpi_types.specs.declared.words.TokenType.{TokenType}
-use Rattle.ocpi_types.specs.TypePlaces.{type_place, one_type}
+use Rattle.tables.specs.{pair_cmp, pair_exact, text_cmp, text_exact, text_total}
+use Rattle.ocpi_types.specs.{TokenType, one_type, type_place}
 use Rattle.token_desk.specs.Tokens.{type_cmp, TokenKey, token_cmp}
 
 pub types_equiv : IsEquivalence (λ (s : TokenType) (t : TokenType). nat_eq (type_place s) (type_place t))

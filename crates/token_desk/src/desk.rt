@@ -49,7 +49,7 @@ pub struct TokenDesk {
 impl Model for TokenDesk {
     ghost use Rattle.std.specs.FinMap as map;
     ghost use Rattle.std.specs.Coded.{codes};
-    ghost use Rattle.tables.specs.Tables.{shown_of, rooms_of};
+    ghost use Rattle.tables.specs.{rooms_of, shown_of};
     ghost use Rattle.token_desk.specs.Tokens.{token_cmp, AreKeyed};
     ghost use Rattle.token_desk.specs.Stored.{Held};
 

@@ -2,7 +2,7 @@
 
 ghost use Rattle.std.specs.Prelude.{◌≡◌, ◌≢◌, OnErr, IfOk, IfErr, IfSome, IfNone, IsTrue, IsOk, false};
 ghost use Rattle.std.specs.FinMap as map;
-ghost use Rattle.ocpi_text.specs.Text.{key};
+ghost use Rattle.ocpi_text.specs.{key};
 ghost use Rattle.token_desk.specs.declared.fault.TokenFault.TheVariants.{WrongParty};
 ghost use Rattle.token_desk.specs.Tokens.{token_key};
 ghost use Rattle.token_desk.specs.Stored.{KeepsRoom};

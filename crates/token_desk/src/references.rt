@@ -1,7 +1,7 @@
 //! Authorization references (OCPI 2.2.1, Tokens: AuthorizationInfo object).
 
 ghost use Rattle.std.specs.Prelude.{◌≡◌, ◌+◌, ◌≤◌, OnErr, IfOk, IfErr, SomeIff};
-ghost use Rattle.ocpi_text.specs.Whole.{max_whole};
+ghost use Rattle.ocpi_text.specs.{max_whole};
 ghost use Rattle.token_desk.specs.declared.fault.TokenFault.TheVariants.{NumbersUsedUp};
 ghost use Rattle.token_desk.specs.References.{reference_of};
 

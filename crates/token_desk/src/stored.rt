@@ -2,7 +2,7 @@
 
 ghost use Rattle.std.specs.Prelude.{◌≡◌, ◌↔◌, OnOk, OnErr, IfOk, IsOk};
 ghost use Rattle.std.specs.FinMap.{empty};
-ghost use Rattle.ocpi_types.specs.declared.rows.Row.{Row};
+ghost use Rattle.ocpi_types.specs.{Row};
 ghost use Rattle.token_desk.specs.Stored.{
   HasRow,
   HasRoomOf,

@@ -3,7 +3,7 @@
 ghost use Rattle.std.specs.Prelude.{◌≡◌, Some, nat_eq, refl};
 ghost use Rattle.std.specs.Ordering.{nat_cmp};
 ghost use Rattle.std.specs.Cmp.{partial_equiv_from_equiv};
-ghost use Rattle.ocpi_types.specs.TypePlaces.{type_place};
+ghost use Rattle.ocpi_types.specs.{type_place};
 ghost use Rattle.token_desk.specs.TypeOrder.{types_total, types_exact, types_equiv, types_po, types_tie};
 
 use ocpi_types::{TokenType, type_place};
@@ -18,7 +18,7 @@ pub(crate) struct TypeKey {
 }
 
 impl Model for TypeKey {
-    ghost use Rattle.ocpi_types.specs.declared.words.TokenType.{TokenType};
+    ghost use Rattle.ocpi_types.specs.{TokenType};
 
     ghost Value = { TokenType };
 

@@ -1,27 +1,21 @@
 -- What is written is read as the events that were meant, and what one node reads is read so by all.
-use Rattle.std.proofs.Common.{◌≡◌, ◌≤◌, ℕ, List, [], length, true, Ok, refl, arith}
-use Rattle.std.specs.Prelude.{codes}
+use Rattle.std.proofs.Common.{◌≡◌, ◌≤◌, ℕ, List, [], length, true, Ok, refl, arith, codes}
 use Rattle.std.specs.Str.{IsUtf8}
 use Rattle.json.specs.Lex.{tokens}
 use Rattle.json.specs.Print.{print}
 use Rattle.json.specs.Token.{Token}
 use Rattle.serde_json.specs.Data.{Data}
-use Rattle.json_text.specs.Line.{max_line}
-use Rattle.json_text.specs.Members.{object_of, said}
+use Rattle.json_text.specs.{max_line, object_of, said}
 use Rattle.json_text.proofs.MemberForms.{moment_form, party_begins, party_form, tree, whole_form, word_form}
 use Rattle.json_text.proofs.ReadAgain.{text_is, tree_again}
 use Rattle.json_text.proofs.Tagged.{ascends}
 use Rattle.json_text.proofs.WellFormed.{IsWell, moment_well, record_well, text_well, whole_well, ◌and◌}
-use Rattle.ocpi_types.specs.Fields.{name_of}
-use Rattle.ocpi_types.specs.declared.events.Event.{Event}
-use Rattle.ocpi_types.specs.declared.events.EventKind.TheVariants as kind
-use Rattle.ocpi_types.specs.declared.field.Field.TheVariants as field
-use Rattle.ocpi_types.specs.declared.node_events.NodeEventKind.{NodeEventKind}
+use Rattle.ocpi_types.specs.{Event, NodeEventKind, Packet, name_of}
+use Rattle.ocpi_types.specs.kind
+use Rattle.ocpi_types.specs.field
 use Rattle.ocpi_types.specs.declared.node_events.NodeEventKind.TheVariants as event
-use Rattle.ocpi_types.specs.declared.packet.Packet.{Packet}
-use Rattle.histories.specs.Weaving.{kind_of}
-use Rattle.ocpi_json.specs.EventForms.{IsEvent, event_in, event_of_word, word_of_kind}
-use Rattle.ocpi_json.specs.NodeEventForms.{IsNodeEvent}
+use Rattle.histories.specs.{kind_of}
+use Rattle.ocpi_json.specs.{IsEvent, IsNodeEvent, event_in, event_of_word, word_of_kind}
 use Rattle.ocpi_json.proofs.EventLemmas.{event_of_line_exact, event_only}
 use Rattle.ocpi_json.proofs.NodeEventLemmas.{node_event_found}
 use Rattle.transcript_lines.specs.EventLines.{DeliveryFits, NodeLinesAreLines, PartyFits, delivery_members, delivery_text, restart_members, restart_text}

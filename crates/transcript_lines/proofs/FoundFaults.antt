@@ -1,10 +1,10 @@
 -- Each refusal is found by what a line tells of it.
 use Rattle.std.proofs.Common.{◌≡◌, Some, None, option_map, refl}
-use Rattle.json_text.specs.declared.fault.JsonFault.{JsonFault}
-use Rattle.json_text.specs.declared.fault.JsonFault.TheVariants as line
-use Rattle.node_steps.specs.declared.fault.NodeFault.{NodeFault}
-use Rattle.node_steps.specs.declared.fault.NodeFault.TheVariants as event
-use Rattle.ocpi_types.specs.Fields.{name_of}
+use Rattle.json_text.specs.{JsonFault}
+use Rattle.json_text.specs.line
+use Rattle.node_steps.specs.{NodeFault}
+use Rattle.node_steps.specs.node_fault as event
+use Rattle.ocpi_types.specs.{name_of}
 use Rattle.transcript_lines.specs.Faults.{event_fault, event_fault_name, event_fault_number, line_fault, line_fault_field, line_fault_name, line_fault_number}
 use Rattle.transcript_lines.proofs.FoundMembers.{found}
 

@@ -1,8 +1,7 @@
 -- Each member is found by its name.
 use Rattle.std.proofs.Common.{◌≡◌, Some, refl}
-use Rattle.ocpi_types.specs.Fields.{name_of}
-use Rattle.ocpi_types.specs.declared.field.Field.{Field}
-use Rattle.ocpi_types.specs.declared.field.Field.TheVariants as field
+use Rattle.ocpi_types.specs.{Field, name_of}
+use Rattle.ocpi_types.specs.field
 use Rattle.transcript_lines.specs.Members.{field_named, field_a_to_b, field_c, field_d_to_e, field_f_to_k, field_l_to_n, field_o_to_p, field_r_to_s, field_t_to_w}
 
 pub found : (f : Field) → field_named (name_of f) ≡ Some f

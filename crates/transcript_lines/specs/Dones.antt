@@ -6,11 +6,8 @@ use Rattle.std.specs.Str.{bytes_eq}
 use Rattle.serde_json.specs.Data as json
 use Rattle.serde_json.specs.Data.{Data}
 use Rattle.serde_json.specs.Find.{get}
-use Rattle.json_text.specs.Fault.{Read}
-use Rattle.json_text.specs.Line.{tree_at}
-use Rattle.json_text.specs.Tag.{is_tagged}
-use Rattle.ocpi_text.specs.Party.{party_at}
-use Rattle.ocpi_text.specs.Whole.{whole_at}
+use Rattle.json_text.specs.{Read, is_tagged, tree_at}
+use Rattle.ocpi_text.specs.{party_at, whole_at}
 use Rattle.transcript_lines.specs.Faults.{event_fault, line_fault}
 use Rattle.transcript_lines.specs.declared.done.Done.{Done}
 use Rattle.transcript_lines.specs.declared.done.Done.TheVariants as done

@@ -1,16 +1,12 @@
 -- Event lines of a run of all nodes: those that are written, and those of one node.
 use Rattle.std.specs.Prelude.{◌≡◌, ◌≤◌, ℕ, List, [], ◌∷◌, Ok, codes}
-use Rattle.json_text.specs.Members.{Member, json_text, moment, object_of, text, whole}
-use Rattle.ocpi_text.specs.Moment.{last_moment}
-use Rattle.ocpi_text.specs.Party.{party_at}
-use Rattle.ocpi_text.specs.Whole.{max_whole}
-use Rattle.ocpi_types.specs.declared.field.Field.TheVariants as field
-use Rattle.ocpi_types.specs.declared.node_events.NodeEvent.{NodeEvent}
+use Rattle.json_text.specs.{Member, json_text, moment, object_of, text, whole}
+use Rattle.ocpi_text.specs.{last_moment, max_whole, party_at}
+use Rattle.ocpi_types.specs.field
+use Rattle.ocpi_types.specs.{NodeEvent, Packet}
 use Rattle.ocpi_types.specs.declared.node_events.NodeEventKind.TheVariants as event
-use Rattle.ocpi_types.specs.declared.packet.Packet.{Packet}
-use Rattle.histories.specs.Weaving.{kind_of}
-use Rattle.ocpi_json.specs.EventForms.{event_in}
-use Rattle.ocpi_json.specs.NodeEventForms.{node_event_in}
+use Rattle.histories.specs.{kind_of}
+use Rattle.ocpi_json.specs.{event_in, node_event_in}
 
 -- ---- what is written
 

@@ -1,11 +1,11 @@
 -- Refusals by the name, the member and the number that a line tells of them.
 use Rattle.std.specs.Prelude.{ℕ, List, codes, ◌==◌, Option, None, Some, option_and_then, if◌then◌else◌}
 use Rattle.std.specs.Str.{bytes_eq}
-use Rattle.json_text.specs.declared.fault.JsonFault.{JsonFault}
-use Rattle.json_text.specs.declared.fault.JsonFault.TheVariants as line
-use Rattle.node_steps.specs.declared.fault.NodeFault.{NodeFault}
-use Rattle.node_steps.specs.declared.fault.NodeFault.TheVariants as event
-use Rattle.ocpi_types.specs.declared.field.Field.{Field}
+use Rattle.json_text.specs.{JsonFault}
+use Rattle.json_text.specs.line
+use Rattle.node_steps.specs.{NodeFault}
+use Rattle.node_steps.specs.node_fault as event
+use Rattle.ocpi_types.specs.{Field}
 use Rattle.transcript_lines.specs.Members.{field_named}
 
 -- ---- of a line

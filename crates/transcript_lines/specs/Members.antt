@@ -1,8 +1,8 @@
 -- Members by their names, in groups by the first letter.
 use Rattle.std.specs.Prelude.{ℕ, List, codes, Option, None, Some, if◌then◌else◌}
 use Rattle.std.specs.Str.{bytes_eq}
-use Rattle.ocpi_types.specs.declared.field.Field.{Field}
-use Rattle.ocpi_types.specs.declared.field.Field.TheVariants as field
+use Rattle.ocpi_types.specs.{Field}
+use Rattle.ocpi_types.specs.field
 
 unfoldable pub field_a_to_b : List ℕ → Option Field
 field_a_to_b s =

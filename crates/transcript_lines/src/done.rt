@@ -1,7 +1,7 @@
 //! The line that says what became of an echoed line, or of one of its events: an object with a member `done`.
 
 ghost use Rattle.std.specs.Prelude.{◌≡◌, ◌↔◌, IsTrue};
-ghost use Rattle.json_text.specs.Trees.{view};
+ghost use Rattle.json_text.specs.{view};
 ghost use Rattle.transcript_lines.specs.Dones.{
   Tells,
   all_at,
@@ -17,9 +17,7 @@ ghost use Rattle.transcript_lines.specs.Dones.{
 };
 
 use crate::faults::{event_fault, line_fault};
-use crate::members::{
-    optional_text_under, optional_whole_under, party_under, text_under, whole_under,
-};
+use crate::members::{optional_text_under, optional_whole_under, party_under, text_under, whole_under};
 use json_text::{JsonFault, Scratch, Tree, line_tree};
 use node_steps::NodeFault;
 use ocpi_text::{Party, Whole};

@@ -1,10 +1,10 @@
 //! Event lines of a run of all nodes, written.
 
 ghost use Rattle.std.specs.Prelude.{◌≡◌, ◌≤◌, length, IfOk, Ok, OnOk, string_bytes};
-ghost use Rattle.json_text.specs.Line.{max_line};
-ghost use Rattle.json_text.specs.Members.{said};
-ghost use Rattle.ocpi_json.specs.EventForms.{event_in};
-ghost use Rattle.ocpi_types.specs.declared.events.EventKind.TheVariants.{Deliver, Restart};
+ghost use Rattle.json_text.specs.{max_line, said};
+ghost use Rattle.ocpi_json.specs.{event_in};
+ghost use Rattle.ocpi_types.specs.{Restart};
+ghost use Rattle.ocpi_types.specs.declared.events.EventKind.TheVariants.{Deliver};
 ghost use Rattle.transcript_lines.specs.EventLines.{DeliveryFits, PartyFits, delivery_members, delivery_text, restart_members, restart_text};
 
 use json_text::RecordWriter;

@@ -2,9 +2,9 @@
 //! that does nothing.
 
 ghost use Rattle.std.specs.Prelude.{◌≡◌, Some, option_map};
-ghost use Rattle.json_text.specs.declared.fault.JsonFault.{JsonFault};
-ghost use Rattle.node_steps.specs.declared.fault.NodeFault.{NodeFault};
-ghost use Rattle.ocpi_types.specs.Fields.{name_of};
+ghost use Rattle.json_text.specs.{JsonFault};
+ghost use Rattle.node_steps.specs.{NodeFault};
+ghost use Rattle.ocpi_types.specs.{name_of};
 ghost use Rattle.transcript_lines.specs.EventLines.{NodeLinesAreLines};
 ghost use Rattle.transcript_lines.specs.Faults.{event_fault, event_fault_name, event_fault_number, line_fault, line_fault_field, line_fault_name, line_fault_number};
 

@@ -1,9 +1,8 @@
 //! One member of an object, by its name: its value, where it has the kind that is wanted.
 
 ghost use Rattle.std.specs.Prelude.{◌≡◌, drop, option_map, IsTrue};
-ghost use Rattle.json_text.specs.Tag.{is_tagged};
-ghost use Rattle.json_text.specs.Trees.{view};
-ghost use Rattle.ocpi_text.specs.Whole.{whole_at};
+ghost use Rattle.json_text.specs.{is_tagged, view};
+ghost use Rattle.ocpi_text.specs.{whole_at};
 ghost use Rattle.transcript_lines.specs.Dones.{
   accepted,
   number_under,

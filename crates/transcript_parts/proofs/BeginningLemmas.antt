@@ -1,16 +1,14 @@
 -- The first run that is opened in the lines of a file.
-use Rattle.std.proofs.Common.{◌≡◌, ◌∙◌, ℕ, List, [], ◌∷◌, Result, Ok, Err, ap, sym, subst}
-use Rattle.std.specs.Prelude.{IfErr, IfOk}
-use Rattle.ocpi_json.specs.SetupForms.{setup_in}
-use Rattle.ocpi_types.specs.declared.setup.Node.{Node}
-use Rattle.transcript_parts.specs.Beginnings.{Accuses, BeginsWith, FitsNoRun, Here, IsNoRun, IsNotARun, IsNotPassed, IsOfOneWay, IsWrongIn, Later, Opens, TellsOpened}
+use Rattle.std.proofs.Common.{◌≡◌, ◌∙◌, ℕ, List, [], Result, Ok, Err, ap, sym, subst, IfErr, IfOk}
+use Rattle.ocpi_json.specs.{setup_in}
+use Rattle.ocpi_types.specs.{Node}
+use Rattle.transcript_parts.specs.Beginnings.{Accuses, BeginsWith, FitsNoRun, Here, IsNoRun, Later, Opens, TellsOpened}
 use Rattle.transcript_parts.specs.LineReads.{LineRead}
 use Rattle.transcript_parts.specs.Lines.{Line, line_of}
 use Rattle.transcript_parts.specs.Parts.{HasNoPart, IsPart}
 use Rattle.transcript_parts.specs.declared.beginning.Beginning.{Beginning}
 use Rattle.transcript_parts.specs.declared.echoed.EchoedLine.{EchoedLine}
 use Rattle.transcript_parts.specs.declared.fault.TranscriptFault.{TranscriptFault}
-use Rattle.transcript_parts.specs.declared.fault.TranscriptFault.TheVariants as fault
 use Rattle.transcript_parts.specs.declared.first_lines.Opened.{Opened}
 use Rattle.transcript_parts.proofs.UniqueParts.{same_part}
 
@@ -42,18 +40,10 @@ pub none_without_part : (lines : List Line) → HasNoPart lines → (line : List
 none_without_part lines none line setup (Here {rest = more} q o is opens reads) = none q more is
 none_without_part lines none line setup (Later {rest = more} q is passes begins) = none q more is
 
-pub nothing_without_lines : (lines : List Line) → lines ≡ [] → HasNoPart lines
-nothing_without_lines lines empty p rest part =
-    let none : [] ≡ p.line ∷ part.behind = sym empty ∙ part.begin in
-    cc none
-
 -- what is found behind the parts that were passed over is found in all
 pub record PassedSoFar (all left : List Line) : Type 0 where
   pub found : (line : List ℕ) (setup : List Node) → BeginsWith left line setup → BeginsWith all line setup
   pub only : (line : List ℕ) (setup : List Node) → BeginsWith all line setup → BeginsWith left line setup
-
-pub passed_none : (all : List Line) → PassedSoFar all all
-passed_none all = record { found = λ line setup begins. begins; only = λ line setup begins. begins }
 
 pub passed_more : (all left : List Line) (p : LineRead) (rest : List Line) → PassedSoFar all left → IsPart left p rest → IsNoRun p → PassedSoFar all rest
 passed_more all left p rest so_far part passed = record {
@@ -79,21 +69,3 @@ none_at all left p rest line (Err f) so_far part (o, opens) is unread = λ accus
     none_begins left p rest part (opens_or_passes p o opens) (λ opened one reads. unread accuses one (subst (λ bs. setup_in bs ≡ Ok one) bytes reads)) at setup (so_far.only at setup begins)
 
 -- ---- which fault it is
-
-pub wrong_of_one_way : (lines : List Line) (f : TranscriptFault) → IsWrongIn lines f → IsOfOneWay f
-wrong_of_one_way lines (fault.Wrong n) is = tt
-wrong_of_one_way lines (fault.NotARun n) is = tt
-wrong_of_one_way lines (fault.TooManyWays n) is = is
-wrong_of_one_way lines fault.Memory is = tt
-
-pub unopened_of_one_way : (at : ℕ) (f : TranscriptFault) → IsNotARun at f → IsOfOneWay f
-unopened_of_one_way at (fault.Wrong n) is = tt
-unopened_of_one_way at (fault.NotARun n) is = tt
-unopened_of_one_way at (fault.TooManyWays n) is = is
-unopened_of_one_way at fault.Memory is = tt
-
-pub unpassed_of_one_way : (p : LineRead) (f : TranscriptFault) → IsNotPassed p f → IsOfOneWay f
-unpassed_of_one_way p (fault.Wrong n) is = tt
-unpassed_of_one_way p (fault.NotARun n) is = tt
-unpassed_of_one_way p (fault.TooManyWays n) is = is
-unpassed_of_one_way p fault.Memory is = tt

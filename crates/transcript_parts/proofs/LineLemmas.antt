@@ -1,8 +1,8 @@
 -- The lines of a file, found one by one at the next line feed.
-use Rattle.std.proofs.Common.{◌≡◌, ◌≢◌, ℕ, zero, suc, ◌+◌, ◌<◌, ◌≤◌, cond, List, [], ◌∷◌, ◌++◌, All, length, take, drop, refl, sym, ap, ◌∙◌, arith, ne_eqb, eqb-true, eq-eqb, length-append}
+use Rattle.std.proofs.Common.{◌≡◌, ◌≢◌, ℕ, ◌+◌, ◌<◌, cond, List, [], ◌∷◌, ◌++◌, All, length, refl, sym, ap, ◌∙◌, arith}
+use Rattle.std.proofs.Common.{ne_eqb, length-append}
 use Rattle.std.proofs.lemmas.List.{append-nil, append_assoc}
-use Rattle.std.proofs.lemmas.List.Elements.{All-nil, All-cons, All-head, All-tail}
-use Rattle.memchr.specs.Find.{Nowhere, Passes, is_byte}
+use Rattle.std.proofs.lemmas.List.Elements.{All-head, All-tail}
 use Rattle.transcript_parts.specs.Lines.{Line, and_line, lines_behind}
 
 -- what stands before a line feed is the rest of the line
@@ -22,24 +22,6 @@ no_feed n line [] plain = refl
 no_feed n line (x ∷ xs) plain =
     ap (λ b. cond b (and_line (n + 1) line (lines_behind (n + 1) [] xs)) (lines_behind n (line ++ x ∷ []) xs)) (ne_eqb x 10 (All-head (λ y. y ≢ 10) x xs plain))
     ∙ no_feed n (line ++ x ∷ []) xs (All-tail (λ y. y ≢ 10) x xs plain)
-
--- where the search found no line feed up to a place, there is none
-pub plain_before : (text : List ℕ) (i : ℕ) → i ≤ length text → Nowhere (Passes (is_byte 10) text) 0 i → All (λ x. x ≢ 10) (take i text)
-plain_before text zero bound none = All-nil (λ x. x ≢ 10)
-plain_before [] (suc i) bound none = absurd (omega (arith, bound))
-plain_before (x ∷ xs) (suc i) bound none = All-cons (λ y. y ≢ 10) x (take i xs) (λ e. none 0 (omega arith) (omega arith) (eq-eqb x 10 e))
-    (plain_before xs i (omega (arith, bound)) (λ k low high is. none (suc k) (omega arith) (omega (arith, high)) is))
-
--- a text is what stands before a line feed, that, and what stands behind it
-cut_behind : (text : List ℕ) (i : ℕ) → i < length text → Passes (is_byte 10) text i → text ≡ take i text ++ 10 ∷ drop (suc i) text
-cut_behind [] i bound is = absurd (omega (arith, bound))
-cut_behind (x ∷ xs) zero bound is = ap (λ y. y ∷ xs) (eqb-true x 10 is)
-cut_behind (x ∷ xs) (suc i) bound is = ap (λ l. x ∷ l) (cut_behind xs i (omega (arith, bound)) is)
-
-pub cut_at : (text : List ℕ) (i : ℕ) → i < length text → Passes (is_byte 10) text i → text ≡ take i text ++ 10 ∷ drop (i + 1) text
-cut_at text i bound is =
-    let next : suc i ≡ i + 1 = omega arith in
-    cut_behind text i bound is ∙ ap (λ n. take i text ++ 10 ∷ drop n text) next
 
 -- how long a text with a line feed is
 pub cut_length : (text front rest : List ℕ) → text ≡ front ++ 10 ∷ rest → length text ≡ length front + 1 + length rest

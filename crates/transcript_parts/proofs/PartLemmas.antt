@@ -1,19 +1,18 @@
 -- The parts of a transcript, taken from the front of its lines.
-use Rattle.std.proofs.Common.{◌≡◌, ◌<◌, ◌≤◌, inl, inr, ◌∙◌, ℕ, List, [], ◌∷◌, ◌++◌, Some, None, Err, length, ap, sym, refl, subst, arith}
+use Rattle.std.proofs.Common.{◌≡◌, ◌<◌, ◌≤◌, inl, inr, ◌∙◌, ℕ, List, [], ◌∷◌, ◌++◌, Some, length, ap, sym, refl, subst}
+use Rattle.std.proofs.Common.{arith}
 use Rattle.std.proofs.lemmas.List.{append-nil, append_assoc}
-use Rattle.json_text.specs.declared.fault.JsonFault.{JsonFault}
-use Rattle.ocpi_json.specs.SetupForms.{setup_in}
-use Rattle.ocpi_types.specs.declared.packet.Packet.{Packet}
-use Rattle.transcript_lines.specs.declared.done.Done.{Done}
-use Rattle.transcript_parts.specs.Beginnings.{Accuses, HasNumber, IsWrongIn}
+use Rattle.ocpi_types.specs.{Packet}
+use Rattle.transcript_lines.specs.{Done}
+use Rattle.transcript_parts.specs.Beginnings.{HasNumber, IsWrongIn}
 use Rattle.transcript_parts.specs.LineReads.{LineRead}
 use Rattle.transcript_parts.specs.Lines.{Line}
-use Rattle.transcript_parts.specs.Parts.{AtDone, AtEnd, AtEvent, AtLast, AtRun, Ends, HasNoEnd, HasNoPart, IsAnswer, IsBehind, IsEnding, IsNothing, IsOther, IsPacketLine, IsPart, NoneSent, OfNoLines, OfRefused, OfSetup, OneSent, Sends, StandsFirst, TellsDone}
+use Rattle.transcript_parts.specs.Parts.{AtDone, AtEnd, AtEvent, AtLast, AtRun, Ends, HasNoEnd, IsAnswer, IsEnding}
+use Rattle.transcript_parts.specs.Parts.{IsNothing, IsPacketLine, IsPart, NoneSent, OneSent, Sends, TellsDone}
 use Rattle.transcript_parts.specs.declared.fault.TranscriptFault.{TranscriptFault}
 use Rattle.transcript_parts.specs.declared.fault.TranscriptFault.TheVariants as fault
 use Rattle.transcript_parts.specs.declared.line_read.EventAnswer.{EventAnswer}
 use Rattle.transcript_parts.specs.declared.line_read.Ending.{Ending}
-use Rattle.transcript_parts.specs.declared.parts.Behind.{Behind}
 use Rattle.transcript_parts.specs.declared.parts.Behind.TheVariants as behind
 use Rattle.transcript_parts.proofs.UniqueParts.{ending_sends_none, event_or_ending, packet_or_done}
 
@@ -71,18 +70,6 @@ no_end_at l rest none told (p ∷ qs) end left (AtLast (OneSent is later) ends) 
 no_end_at l rest none (a ∷ told) qs end left (AtEvent NoneSent answers ends) = none (behind.Event a.done a.event) answers.0
 no_end_at l rest none (a ∷ told) qs end left (AtEvent {sent = p ∷ sent} (OneSent is later) answers ends) = none (behind.Packet p) is
 
--- a line is nothing that may stand there, where nothing shows that it is the first one of a run
-pub nothing_but : (l : Line) (others : List Line) (why : JsonFault) → IsOther l → setup_in l.bytes ≡ Err why → (StandsFirst l.bytes others → ⊥) → IsNothing l others
-nothing_but l others why other refused none = nothing
-  where
-    nothing : (b : Behind) → IsBehind l others b → ⊥
-    nothing (behind.Packet q) is = other.sends q is
-    nothing (behind.Event d place) is = other.tells (record { done = d; event = Some place }) is.1
-    nothing (behind.Done d) is = other.tells (record { done = d; event = None }) is.1
-    nothing behind.NextRun (OfSetup setup is) = cc (is.1, refused)
-    nothing behind.NextRun (OfNoLines is) = other.apart is
-    nothing behind.NextRun (OfRefused also reason is stands) = none stands
-
 -- ---- which line is told
 
 pub wrong_among : (few many : List Line) (f : TranscriptFault) → ((n : ℕ) → HasNumber few n → HasNumber many n) → IsWrongIn few f → IsWrongIn many f
@@ -90,12 +77,6 @@ wrong_among few many (fault.Wrong n) all wrong = all n wrong
 wrong_among few many (fault.NotARun n) all wrong = wrong
 wrong_among few many (fault.TooManyWays n) all wrong = wrong
 wrong_among few many fault.Memory all wrong = tt
-
-pub memory_wrong : (lines : List Line) (f : TranscriptFault) → f ≡ fault.Memory → IsWrongIn lines f
-memory_wrong lines f is = subst (IsWrongIn lines) (sym is) tt
-
-pub memory_accuses : {X : Type 0} (f : TranscriptFault) → f ≡ fault.Memory → Accuses f → X
-memory_accuses f is accuses = absurd (subst Accuses is accuses)
 
 -- ---- what stands behind an echoed line so far
 
@@ -163,12 +144,3 @@ wrong_so_far lines told qs left l rest f so_far is wrong = wrong_among (l ∷ []
     first n (inr none) = absurd none
 
 -- ---- a part
-
-pub no_part : (lines : List Line) (l : Line) (rest : List Line) → lines ≡ l ∷ rest → HasNoEnd rest → HasNoPart lines
-no_part lines l rest is none p left part =
-    let whole : l ∷ rest ≡ p.line ∷ part.behind = sym is ∙ part.begin in
-    let behind : rest ≡ part.behind = cc whole in
-    none p.answers p.packets p.ending left (subst (λ b. Ends b p.answers p.packets p.ending left) (sym behind) part.ends)
-
-pub wrong_behind : (lines : List Line) (l : Line) (rest : List Line) (f : TranscriptFault) → lines ≡ l ∷ rest → IsWrongIn rest f → IsWrongIn lines f
-wrong_behind lines l rest f is wrong = wrong_among rest lines f (λ n has. later_number l rest lines n is has) wrong

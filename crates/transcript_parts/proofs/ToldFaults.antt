@@ -1,19 +1,16 @@
 -- Faults that are told, and those of a line that is no setup.
-use Rattle.std.proofs.Common.{◌≡◌, ◌↔◌, ◌⊎◌, inl, inr, ◌∙◌, ℕ, Bool, IsTrue, false, List, Option, Some, Result, Ok, Err, refl, ap, sym, subst}
+use Rattle.std.proofs.Common.{◌≡◌, ◌↔◌, ◌⊎◌, inl, inr, ◌∙◌, ℕ, Bool, IsTrue, false, List, Option, Some, Result, Ok, Err}
+use Rattle.std.proofs.Common.{ap, sym, subst, IfOk}
 use Rattle.std.specs.Option.{option_eq}
-use Rattle.std.specs.Prelude.{IfOk}
-use Rattle.json_text.specs.Fault.{Fails, Read}
+use Rattle.json_text.specs.{JsonFault, Memory, Read}
 use Rattle.json_text.specs.contracts.fault.JsonFault as json_fault_declared
 use Rattle.json_text.specs.contracts.fault.JsonFaultPartialEq.TheImpl as json_fault_eq
-use Rattle.json_text.specs.declared.fault.JsonFault.{JsonFault}
-use Rattle.json_text.specs.declared.fault.JsonFault.TheVariants.{BadNumberToken, Memory, Missing, Syntax, TaggedText, UnknownKind, UnknownWord, WrongForm}
-use Rattle.ocpi_json.specs.SetupForms.{setup_in}
+use Rattle.ocpi_json.specs.{setup_in}
 use Rattle.ocpi_types.specs.contracts.field.Field as field_declared
 use Rattle.ocpi_types.specs.contracts.field.FieldPartialEq.TheImpl as field_eq
-use Rattle.ocpi_types.specs.declared.setup.Node.{Node}
+use Rattle.ocpi_types.specs.{Node}
 use Rattle.packet_equality.proofs.Same.{Same, at_last, by_tag, by_variants, no_part, no_variant, options, or_else}
-use Rattle.transcript_lines.specs.declared.done.Done.{Done}
-use Rattle.transcript_lines.specs.declared.done.Done.TheVariants.{Malformed}
+use Rattle.transcript_lines.specs.{Done, Malformed}
 use Rattle.transcript_parts.specs.Beginnings.{FitsNoRun}
 use Rattle.transcript_parts.specs.Parts.{FitsFirst}
 use Rattle.transcript_parts.specs.declared.fault.TranscriptFault.{TranscriptFault}
@@ -40,17 +37,6 @@ pub told_faults : Same (option_eq (json_fault_eq.ghosts).eq)
 told_faults = options json_faults
 
 -- ---- what a refusal says of the line
-
--- a refusal that is not for want of memory was due
-pub refused_so : {X : Type 0} (why : JsonFault) (read : Read X) → (why ≡ Memory → ⊥) → Fails why read → read ≡ Err why
-refused_so Memory read other fails = absurd (other refl)
-refused_so Syntax read other fails = fails
-refused_so BadNumberToken read other fails = fails
-refused_so TaggedText read other fails = fails
-refused_so (Missing f) read other fails = fails
-refused_so (WrongForm f) read other fails = fails
-refused_so (UnknownWord f) read other fails = fails
-refused_so UnknownKind read other fails = fails
 
 pub read_or_refused : {X : Type 0} (read : Read X) (x : X) (why : JsonFault) → read ≡ Ok x → read ≡ Err why → ⊥
 read_or_refused read x why reads refused = cc (reads, refused)

@@ -1,17 +1,17 @@
 -- What one line is, it is alone; so what stands behind an echoed line, and with it a part, is read in one way.
 use Rattle.std.proofs.Common.{◌≡◌, ◌↔◌, ◌⊎◌, ◌∙◌, ℕ, Bool, IsTrue, true, List, [], ◌∷◌, Option, Some, None, Err, refl, ap, sym, subst}
-use Rattle.json_text.specs.declared.fault.JsonFault.{JsonFault}
-use Rattle.json_text.specs.declared.fault.JsonFault.TheVariants.{Memory}
-use Rattle.ocpi_json.specs.SetupForms.{setup_in}
-use Rattle.ocpi_types.specs.declared.packet.Packet.{Packet}
-use Rattle.transcript_lines.specs.declared.done.Done.{Done}
-use Rattle.transcript_lines.specs.declared.done.Done.TheVariants.{Malformed}
-use Rattle.transcript_lines.specs.declared.done.DoneLine.{DoneLine}
+use Rattle.json_text.specs.{JsonFault, Memory}
+use Rattle.ocpi_json.specs.{setup_in}
+use Rattle.ocpi_types.specs.{Packet}
+use Rattle.transcript_lines.specs.{Done, DoneLine, Malformed}
 use Rattle.transcript_parts.specs.declared.line_kinds.LineKind.{LineKind}
 use Rattle.transcript_parts.specs.declared.line_kinds.LineKind.TheVariants as kind
 use Rattle.transcript_parts.specs.LineReads.{LineRead}
 use Rattle.transcript_parts.specs.Lines.{Line}
-use Rattle.transcript_parts.specs.Parts.{AtDone, AtEnd, AtEvent, AtLast, AtRun, BeforeNoLines, BeforeRefusal, BeforeSetup, BeginsRun, Ends, FitsFirst, IsAnswer, IsEnding, IsKind, IsOther, IsPacketLine, NoneSent, OfNoLines, OfRefused, OfSetup, OneSent, PartsAreUnique, Sends, StandsFirst, TellsDone}
+use Rattle.transcript_parts.specs.Parts.{AtDone, AtEnd, AtEvent, AtLast, AtRun, BeforeNoLines, BeforeRefusal}
+use Rattle.transcript_parts.specs.Parts.{BeforeSetup, BeginsRun, Ends, FitsFirst, IsAnswer, IsEnding, IsKind}
+use Rattle.transcript_parts.specs.Parts.{IsPacketLine, NoneSent, OfNoLines, OfRefused, OfSetup, OneSent, PartsAreUnique}
+use Rattle.transcript_parts.specs.Parts.{Sends, StandsFirst, TellsDone}
 use Rattle.transcript_parts.specs.declared.line_read.EventAnswer.{EventAnswer}
 use Rattle.transcript_parts.specs.declared.line_read.Ending.{Ending}
 use Rattle.transcript_parts.specs.declared.line_read.Ending.TheVariants.{Answered}
@@ -53,16 +53,6 @@ shown_by_done line l ls d place tells (BeforeRefusal told is fits) =
     (told, same, at, fits)
 shown_by_done line l ls d place tells (BeforeSetup setup is) = absurd (is.0.tells (told_line d place) tells.1)
 shown_by_done line l ls d place tells (BeforeNoLines is) = absurd (tells.0 is)
-
-pub packet_shows_none : (line : List ℕ) (l : Line) (ls : List Line) (q : Packet) → IsPacketLine l q → StandsFirst line (l ∷ ls) → ⊥
-packet_shows_none line l ls q sends (BeforeRefusal told is fits) = packet_or_done l q (Malformed told) None sends is
-packet_shows_none line l ls q sends (BeforeSetup setup is) = is.0.sends q sends
-packet_shows_none line l ls q sends (BeforeNoLines is) = sends.0 is
-
-pub other_shows_none : (line : List ℕ) (l : Line) (ls : List Line) (why : JsonFault) → IsOther l → setup_in l.bytes ≡ Err why → StandsFirst line (l ∷ ls) → ⊥
-other_shows_none line l ls why other refused (BeforeRefusal told is fits) = other.tells (told_line (Malformed told) None) is.1
-other_shows_none line l ls why other refused (BeforeSetup setup is) = cc (is.1, refused)
-other_shows_none line l ls why other refused (BeforeNoLines is) = other.apart is
 
 -- what a line of each kind shows
 pub no_lines_show : (line : List ℕ) (l : Line) (ls : List Line) (k : LineKind) → k ≡ kind.RunWithoutLines → IsKind l k → IsTrue true ↔ StandsFirst line (l ∷ ls)

@@ -1,8 +1,8 @@
 -- Where a file's first run is opened, and what may stand before that.
 use Rattle.std.specs.Prelude.{◌≡◌, ◌⊎◌, ℕ, List, [], ◌∷◌, Ok}
-use Rattle.ocpi_types.specs.declared.setup.Node.{Node}
-use Rattle.ocpi_json.specs.SetupForms.{setup_in}
-use Rattle.transcript_lines.specs.declared.done.Done.TheVariants as done
+use Rattle.ocpi_types.specs.{Node}
+use Rattle.ocpi_json.specs.{setup_in}
+use Rattle.transcript_lines.specs.done
 use Rattle.transcript_parts.specs.LineReads.{GaveNothing, LineRead}
 use Rattle.transcript_parts.specs.Lines.{Line}
 use Rattle.transcript_parts.specs.Parts.{FitsFirst, IsPart}

@@ -1,15 +1,9 @@
 -- The parts of a transcript: an echoed line with what was written of it and of its events.
 use Rattle.std.specs.Prelude.{◌≡◌, ◌≢◌, ◌⊎◌, ℕ, List, [], ◌∷◌, Option, Some, None, Ok, Err}
-use Rattle.json_text.specs.declared.fault.JsonFault.{JsonFault}
-use Rattle.json_text.specs.declared.fault.JsonFault.TheVariants.{Memory}
-use Rattle.ocpi_types.specs.declared.packet.Packet.{Packet}
-use Rattle.ocpi_types.specs.declared.setup.Node.{Node}
-use Rattle.ocpi_json.specs.Packets.{packet_in}
-use Rattle.ocpi_json.specs.SetupForms.{setup_in}
-use Rattle.transcript_lines.specs.Dones.{done_in, run_without_lines}
-use Rattle.transcript_lines.specs.declared.done.Done.{Done}
-use Rattle.transcript_lines.specs.declared.done.Done.TheVariants.{Malformed}
-use Rattle.transcript_lines.specs.declared.done.DoneLine.{DoneLine}
+use Rattle.json_text.specs.{JsonFault, Memory}
+use Rattle.ocpi_types.specs.{Node, Packet}
+use Rattle.ocpi_json.specs.{packet_in, setup_in}
+use Rattle.transcript_lines.specs.{Done, DoneLine, Malformed, done_in, run_without_lines}
 use Rattle.transcript_parts.specs.LineReads.{LineRead}
 use Rattle.transcript_parts.specs.Lines.{Line}
 use Rattle.transcript_parts.specs.declared.line_kinds.LineKind.{LineKind}

@@ -1,8 +1,8 @@
 //! The first run of a file.
 
 ghost use Rattle.std.specs.Prelude.{◌≡◌, ℕ, List, IfErr, IfOk, MatchOption, Ok};
-ghost use Rattle.ocpi_json.specs.SetupForms.{setup_in};
-ghost use Rattle.ocpi_types.specs.declared.setup.Node.{Node};
+ghost use Rattle.ocpi_json.specs.{setup_in};
+ghost use Rattle.ocpi_types.specs.{Node};
 ghost use Rattle.transcript_parts.specs.Beginnings.{Accuses, BeginsWith, IsNoRun, IsNotARun, IsOfOneWay, Opens};
 ghost use Rattle.transcript_parts.specs.Lines.{line_of, lines_in};
 

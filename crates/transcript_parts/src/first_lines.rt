@@ -1,10 +1,10 @@
 //! The first line of a run, and lines where no run is open.
 
 ghost use Rattle.std.specs.Prelude.{◌≡◌, ◌↔◌, ◌⊎◌, List, Err, IfErr, IfOk, IsTrue, MatchOption, Ok, OnOk, Some};
-ghost use Rattle.json_text.specs.declared.fault.JsonFault.{JsonFault};
-ghost use Rattle.json_text.specs.declared.fault.JsonFault.TheVariants as json;
-ghost use Rattle.ocpi_json.specs.SetupForms.{setup_in};
-ghost use Rattle.ocpi_types.specs.declared.setup.Node.{Node};
+ghost use Rattle.json_text.specs.{JsonFault};
+ghost use Rattle.json_text.specs.line as json;
+ghost use Rattle.ocpi_json.specs.{setup_in};
+ghost use Rattle.ocpi_types.specs.{Node};
 ghost use Rattle.transcript_parts.specs.Beginnings.{Accuses, FitsNoRun, IsNoRun, IsNotARun, IsNotPassed, TellsOpened, TellsOther};
 ghost use Rattle.transcript_parts.specs.Parts.{FitsFirst};
 ghost use Rattle.transcript_parts.specs.declared.fault.TranscriptFault.TheVariants.{Memory};

@@ -1,7 +1,7 @@
 //! What a line of a transcript is by itself, wherever it stands.
 
 ghost use Rattle.std.specs.Prelude.{◌≡◌, ◌≢◌, IfErr, IfOk, None, Ok};
-ghost use Rattle.transcript_lines.specs.Dones.{done_in, run_without_lines};
+ghost use Rattle.transcript_lines.specs.{done_in, run_without_lines};
 ghost use Rattle.transcript_parts.specs.Lines.{line_of};
 ghost use Rattle.transcript_parts.specs.Parts.{IsKind, IsOther};
 ghost use Rattle.transcript_parts.specs.declared.fault.TranscriptFault.TheVariants.{Memory};

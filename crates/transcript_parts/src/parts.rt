@@ -1,7 +1,7 @@
 //! The parts of a transcript: an echoed line with what was written of it.
 
 ghost use Rattle.std.specs.Prelude.{◌≡◌, ◌++◌, ◌∷◌, ◌↔◌, ℕ, List, [], Err, IfErr, IfNone, IfOk, IfSome, IsTrue, OnOk};
-ghost use Rattle.ocpi_json.specs.SetupForms.{setup_in};
+ghost use Rattle.ocpi_json.specs.{setup_in};
 ghost use Rattle.transcript_parts.specs.Beginnings.{Accuses, IsWrongIn};
 ghost use Rattle.transcript_parts.specs.Lines.{Line, line_of};
 ghost use Rattle.transcript_parts.specs.Parts.{Ends, HasNoEnd, HasNoPart, IsBehind, IsKind, IsNothing, IsOther, IsPart, StandsFirst, TellsDone};

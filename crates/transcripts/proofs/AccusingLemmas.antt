@@ -1,30 +1,26 @@
 -- What each turn of reading keeps of all that was known, and that nothing is lost where a part is accused.
-use Rattle.std.proofs.Common.{◌≡◌, ◌≢◌, ◌⊎◌, inl, inr, ◌∙◌, ℕ, Bool, true, false, List, [], ◌∷◌, length, Result, Ok, Err, Option, None, Some, refl, sym, ap, subst, arith}
+use Rattle.std.proofs.Common.{◌≡◌, ◌≢◌, ◌⊎◌, inl, inr, ◌∙◌, ℕ, Bool, true, false, List, [], ◌∷◌, length, Result, Ok}
+use Rattle.std.proofs.Common.{Err, Option, None, Some, refl, sym, ap, subst, arith, Contains, IfErr}
 use Rattle.std.proofs.lemmas.List.Elements.{Contains-push}
-use Rattle.std.specs.Prelude.{Contains, IfErr}
-use Rattle.json_text.specs.declared.fault.JsonFault.{JsonFault}
-use Rattle.node_lines.specs.NodeLines.{node_line_in}
+use Rattle.json_text.specs.{JsonFault}
+use Rattle.node_lines.specs.{node_line_in}
 use Rattle.node_replay.specs.Replayed.{Replay}
-use Rattle.node_steps.specs.declared.fault.NodeFault.TheVariants as node_fault
-use Rattle.ocpi_json.specs.SetupForms.{setup_in}
-use Rattle.ocpi_types.specs.Setups.{party_of}
-use Rattle.ocpi_types.specs.declared.setup.Node.{Node}
-use Rattle.transcript_lines.specs.declared.done.Done.{Done}
-use Rattle.transcript_lines.specs.declared.done.Done.TheVariants as done
-use Rattle.transcript_parts.specs.Beginnings.{Accuses, IsNoRun}
-use Rattle.transcript_parts.specs.LineReads.{GaveNothing, LineRead}
-use Rattle.transcript_parts.specs.Lines.{Line, line_of}
-use Rattle.transcript_parts.specs.Parts.{FitsFirst}
-use Rattle.transcript_parts.specs.declared.fault.TranscriptFault.{TranscriptFault}
-use Rattle.transcript_parts.specs.declared.fault.TranscriptFault.TheVariants as transcript_fault
-use Rattle.transcript_parts.specs.declared.first_lines.Opened.{Opened}
-use Rattle.transcript_parts.specs.declared.line_read.Ending.TheVariants.{Answered, FileEnd, NextRun}
+use Rattle.node_steps.specs.node_fault
+use Rattle.ocpi_json.specs.{setup_in}
+use Rattle.ocpi_types.specs.{Node, party_of}
+use Rattle.transcript_lines.specs.{Done}
+use Rattle.transcript_lines.specs.done
+use Rattle.transcript_parts.specs.{Accuses, Answered, FileEnd, FitsFirst, GaveNothing, IsNoRun, Line, LineRead, NextRun}
+use Rattle.transcript_parts.specs.{Opened, TranscriptFault, line_of}
+use Rattle.transcript_parts.specs.transcript_fault
 use Rattle.transcripts.specs.Accusing.{ComesOn, ComesToNone, EndsByLine, KeepsComing, KeepsLine, OpensNone}
 use Rattle.transcripts.specs.Covering.{ComesTo, Covers, EndsAll, FollowsOn, GoesTo, HasWay, HasWayOf, IsSameLine, KeepsAll, LosesNone, LosesNoneByRun}
-use Rattle.transcripts.specs.Following.{ComeWithoutChoice, ComesToNode, FitsEvent, GoesOnWithoutChoice, IsNew, IsNoEvent, LeavesOpen, MayStarve, Opens, Reading, Reopens, Standing, StandsAt, TellsNotARun, ended, in_run, is_open_behind, opening_told}
+use Rattle.transcripts.specs.Following.{ComeWithoutChoice, ComesToNode, FitsEvent, GoesOnWithoutChoice, IsNoEvent}
+use Rattle.transcripts.specs.Following.{LeavesOpen, MayStarve, Opens, Reading, Reopens, Standing, StandsAt}
+use Rattle.transcripts.specs.Following.{TellsNotARun, ended, in_run, is_open_behind, opening_told}
 use Rattle.transcripts.specs.LineEvents.{HasShape, Holds, HoldsBy, LineEvents}
 use Rattle.transcripts.specs.Told.{Told}
-use Rattle.world_laws.specs.Laws.{IsSetup}
+use Rattle.world_laws.specs.{IsSetup}
 use Rattle.transcripts.proofs.CoveringLemmas.{follows_answered, follows_last, follows_malformed, follows_opened, follows_outside, follows_shown, follows_starved, follows_stopped}
 use Rattle.transcripts.proofs.FollowingLemmas.{goes_on_member, standing}
 use Rattle.transcripts.proofs.HoldingLemmas.{held_alike, shape_alike}
@@ -43,14 +39,6 @@ err_more P Q (Ok a) so is = tt
 err_more P Q (Err e) so is = so e is
 
 -- ---- what was known
-
--- what is known of a node is known where the ways, the run and the open line are the same
-pub known_as : (old new : Reading) (s : Standing) → new.ways ≡ old.ways → new.within ≡ old.within → new.unanswered ≡ old.unanswered → Covers old s → Covers new s
-known_as old new s ways within left known = record {
-  way = subst (λ ws. HasWayOf ws s.told) (sym ways) known.way;
-  within = within ∙ known.within;
-  unanswered = subst (λ u. IsSameLine u s.unanswered) (sym left) known.unanswered;
-}
 
 -- no run is open any more
 known_ended : (old new : Reading) (s : Standing) → new.ways ≡ old.ways → new.within ≡ false → new.unanswered ≡ old.unanswered → Covers old s → Covers new (ended s)
@@ -302,23 +290,6 @@ module _ (earlier : List Told) (old : Reading) (p : LineRead) (o : Opened) (is :
 
     opened_first_is : (t : Standing) (x : (s : Standing) × Opens old.setup earlier s p t) → o ≡ record { party = party_of x.1.member; rows = 0; serial = 0; number = x.1.at }
     opened_first_is t x = opened_is o (record { party = party_of x.1.member; rows = 0; serial = 0; number = x.1.at }) (sym is ∙ x.1.answered)
-
-    -- what is so of each that is opened so
-    ends_first : ((m : Node) → Contains old.setup m → party_of m ≡ o.party → IsNew earlier o.party → o.rows ≡ 0 → o.serial ≡ 0 → GaveNothing p → ⊥) → EndsAll earlier old p
-    ends_first none t on =
-        let x = opens_first t on in
-        let same = opened_first_is t (on.before, x) in
-        let party : party_of x.member ≡ o.party = sym (ap (λ (q : Opened). q.party) same) in
-        none x.member x.among party (subst (IsNew earlier) party x.is_new) (ap (λ (q : Opened). q.rows) same) (ap (λ (q : Opened). q.serial) same) x.nothing
-
-    pub ends_no_member : ((m : Node) → Contains old.setup m → party_of m ≡ o.party → ⊥) → EndsAll earlier old p
-    ends_no_member none = ends_first (λ m among party fresh rows serial nothing. none m among party)
-
-    pub ends_not_new : (IsNew earlier o.party → ⊥) → EndsAll earlier old p
-    ends_not_new none = ends_first (λ m among party fresh rows serial nothing. none fresh)
-
-    pub ends_first_otherwise : (o.rows ≡ 0 → o.serial ≡ 0 → GaveNothing p → ⊥) → EndsAll earlier old p
-    ends_first_otherwise none = ends_first (λ m among party fresh rows serial nothing. none rows serial nothing)
 
     pub keeps_first : (new : Reading) (member : Node) → IsSetup old.setup → Contains old.setup member → party_of member ≡ o.party → new.ways ≡ opening_told old.setup member ∷ [] → new.within ≡ true
         → new.unanswered ≡ None → KeepsAll earlier old p new

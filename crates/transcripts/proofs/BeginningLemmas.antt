@@ -1,12 +1,8 @@
 -- Up to the first run that is opened, each part of a transcript is passed outside a run.
 use Rattle.std.proofs.Common.{◌≡◌, ◌⊎◌, inl, inr, ◌∙◌, ℕ, false, List, [], None, refl, ap}
-use Rattle.ocpi_types.specs.Setups.{party_of}
-use Rattle.ocpi_types.specs.declared.setup.Node.{Node}
-use Rattle.transcript_parts.specs.Beginnings.{BeginsWith, IsNoRun}
+use Rattle.ocpi_types.specs.{Node, party_of}
+use Rattle.transcript_parts.specs.{BeginsWith, GaveNothing, IsNoRun, IsPart, Line, LineRead, lines_in}
 use Rattle.transcript_parts.specs.Beginnings as beginnings
-use Rattle.transcript_parts.specs.LineReads.{GaveNothing, LineRead}
-use Rattle.transcript_parts.specs.Lines.{Line, lines_in}
-use Rattle.transcript_parts.specs.Parts.{IsPart}
 use Rattle.transcripts.specs.Following.{Came, First, Follows, Last, Later, LeftOpen, LeftOut, More, NoEvent, NoSetup, Opens, Outside, Passed, PassesLine, ReadTo, Standing, Start, Starved}
 use Rattle.transcripts.specs.Laws.{TranscriptsHaveBeginnings}
 use Rattle.transcripts.specs.Told.{Told}

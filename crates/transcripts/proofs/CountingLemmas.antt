@@ -1,17 +1,16 @@
 -- How many ways go on behind a line that a stop left open, one way after another.
-use Rattle.std.proofs.Common.{◌≡◌, inl, inr, ◌<◌, ◌≤◌, ◌+◌, ℕ, Bool, true, false, IsTrue, List, [], ◌∷◌, ◌++◌, get_or, length, take, Some, Ok, refl, sym, ap, subst, ◌∙◌, arith, length-append}
+use Rattle.std.proofs.Common.{◌≡◌, inl, inr, ◌<◌, ◌≤◌, ◌+◌, ℕ, Bool, true, false, IsTrue, List, [], ◌∷◌, ◌++◌, get_or}
+use Rattle.std.proofs.Common.{length, take, Some, Ok, refl, sym, ap, subst, ◌∙◌, arith, length-append, Contains}
+use Rattle.std.proofs.Common.{slice_get}
 use Rattle.std.proofs.Math.Seq.{take-length}
 use Rattle.std.proofs.lemmas.List.Elements.{Contains-append_cases, Contains-append_left, Contains-push}
 use Rattle.std.proofs.lemmas.List.{get_or-take, length-take-le}
 use Rattle.std.proofs.lemmas.Option.{get_or_from_slice_get, slice_get_within}
-use Rattle.std.specs.Prelude.{Contains, slice_get}
 use Rattle.histories.proofs.Lists.{is_in, take_one}
 use Rattle.node_replay.specs.Replayed.{Carried, Foretells, Leads, Passed, Refused}
-use Rattle.ocpi_types.specs.declared.node_events.NodeEvent.{NodeEvent}
-use Rattle.ocpi_types.specs.declared.packet.Packet.{Packet}
-use Rattle.ocpi_types.specs.declared.setup.Node.{Node}
-use Rattle.tables.proofs.Elements.{in_none, in_single, joined, no_pairs}
-use Rattle.transcript_parts.specs.declared.line_read.Ending.TheVariants.{NextRun}
+use Rattle.ocpi_types.specs.{Node, NodeEvent, Packet}
+use Rattle.tables.proofs.Elements.{in_single, joined}
+use Rattle.transcript_parts.specs.{NextRun}
 use Rattle.transcripts.specs.Exact.{HoldsOnly, WouldChange}
 use Rattle.transcripts.specs.Following.{CarriedOut, ComeInTurn, GoesOn, Happens, IsOwn, NoneYet, OneMore, restarted, unanswered_line}
 use Rattle.transcripts.specs.LineEvents.{LineEvent, LineEvents}
@@ -19,7 +18,7 @@ use Rattle.transcripts.specs.Told.{IsTold, Told}
 use Rattle.transcripts.specs.Diverging.{AllDiverge, HaveDiverged}
 use Rattle.transcripts.specs.Ways.{GoesOnFrom, HadNoChoice, IsRepeated, LeavesTooMany, MayBeCarriedOut}
 use Rattle.transcripts.specs.declared.source.Source.TheVariants.{Echoed, Restarted}
-use Rattle.world_steps.specs.World.{NodeState}
+use Rattle.world_steps.specs.{NodeState}
 use Rattle.transcripts.proofs.DivergingLemmas.{both_diverge, carried_begins, diverge_there, goes_on_begins, restart_begins, restarted_differs}
 use Rattle.transcripts.proofs.RepeatingLemmas.{repeated_is}
 
@@ -106,9 +105,6 @@ module _ (setup : List Node) (ways : List Told) (h : LineEvents) where
 
   abbrev pub IsCounted : ℕ → ℕ → Type 0
   IsCounted place count = AreFit → Counted place count
-
-  pub none_counted : (count : ℕ) → count ≡ length ways → IsCounted 0 count
-  none_counted count is fit = record { histories = []; enough = omega (arith, is); diverge = no_pairs HaveDiverged; each = λ t among. absurd (in_none t among) }
 
   module _ (place : ℕ) (w : Told) (at : slice_get ways place ≡ Some w) where
     -- they go on from the ways before this place, or from this one

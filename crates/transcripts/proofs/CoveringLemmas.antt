@@ -1,20 +1,13 @@
 -- No way is lost as a transcript is read part by part: what each part makes of a node, by what ends it.
-use Rattle.std.proofs.Common.{◌≡◌, ◌⊎◌, inl, inr, ℕ, Bool, true, false, List, [], ◌∷◌, ◌++◌, length, Ok, Option, Some, ap, subst, arith, length-append}
-use Rattle.std.specs.Prelude.{slice_get}
-use Rattle.json_text.specs.declared.fault.JsonFault.{JsonFault}
-use Rattle.node_steps.specs.declared.fault.NodeFault.TheVariants as node_fault
-use Rattle.ocpi_types.specs.Setups.{party_of}
-use Rattle.ocpi_types.specs.declared.node_events.NodeEvent.{NodeEvent}
-use Rattle.ocpi_types.specs.declared.packet.Packet.{Packet}
-use Rattle.ocpi_types.specs.declared.setup.Node.{Node}
-use Rattle.transcript_lines.specs.declared.done.Done.{Done}
-use Rattle.transcript_lines.specs.declared.done.Done.TheVariants as done
-use Rattle.transcript_parts.specs.Beginnings.{FitsNoRun, IsNoRun}
-use Rattle.transcript_parts.specs.LineReads.{GaveNothing, LineRead}
-use Rattle.transcript_parts.specs.Parts.{FitsFirst}
-use Rattle.transcript_parts.specs.declared.echoed.EchoedLine.{EchoedLine}
-use Rattle.transcript_parts.specs.declared.first_lines.Opened.{Opened}
-use Rattle.transcript_parts.specs.declared.line_read.Ending.TheVariants.{Answered, FileEnd, NextRun}
+use Rattle.std.proofs.Common.{◌≡◌, ◌⊎◌, inl, inr, ℕ, Bool, true, false, List, [], ◌∷◌, ◌++◌, length, Ok, Option, Some}
+use Rattle.std.proofs.Common.{ap, subst, arith, length-append, slice_get}
+use Rattle.json_text.specs.{JsonFault}
+use Rattle.node_steps.specs.node_fault
+use Rattle.ocpi_types.specs.{Node, NodeEvent, Packet, party_of}
+use Rattle.transcript_lines.specs.{Done}
+use Rattle.transcript_lines.specs.done
+use Rattle.transcript_parts.specs.{Answered, EchoedLine, FileEnd, FitsFirst, FitsNoRun, GaveNothing, IsNoRun, LineRead}
+use Rattle.transcript_parts.specs.{NextRun, Opened}
 use Rattle.transcripts.specs.Accusing.{OpensNone}
 use Rattle.transcripts.specs.Following.{Came, ComeInTurn, ComeWithoutChoice, ComesToNode, First, FitsEvent, FitsNothing, Follows, FollowsWithoutChoice, Gives, GoesOnWithoutChoice, IsNoEvent, Last, Later, LeavesOpen, LeftOpen, LeftOut, Malformed, MayStarve, NoEvent, NoSetup, NoneYet, OneMore, Opens, Outside, Passed, PassesLine, Refused, Reopens, ShowsEvent, Skipped, Standing, Starved, ended}
 use Rattle.transcripts.specs.LineEvents.{EndsSeveral, HasShapeBy, HoldsBy, LineEvent, LineEvents, ending_of, packets_at}

@@ -1,11 +1,11 @@
 -- Ways that are different stay so, as entries are added to them.
-use Rattle.std.proofs.Common.{◌≡◌, ◌≢◌, ◌⊎◌, inl, inr, ◌<◌, ◌-◌, Bool, true, false, IsTrue, List, [], ◌∷◌, ◌++◌, length, get_or, map, refl, sym, ap, subst, ◌∙◌, arith, append_assoc, append-nil}
+use Rattle.std.proofs.Common.{◌≡◌, ◌≢◌, ◌⊎◌, inl, inr, ◌<◌, ◌-◌, Bool, true, false, IsTrue, List, [], ◌∷◌, ◌++◌, length}
+use Rattle.std.proofs.Common.{get_or, map, refl, sym, ap, subst, ◌∙◌, arith, append_assoc, append-nil, AllPairs}
+use Rattle.std.proofs.Common.{Contains, Some, reverse}
 use Rattle.std.proofs.lemmas.List.{get_or-reverse, length-reverse, map-append, length-append}
 use Rattle.std.proofs.lemmas.List.Elements.{Contains-append_cases, Contains-append_left, Contains-append_right}
-use Rattle.std.specs.Prelude.{AllPairs, Contains, Some, reverse}
 use Rattle.tables.proofs.Elements.{first_pairs, in_front, in_none, in_single, joined, later_pairs, no_pairs}
-use Rattle.transcript_parts.specs.LineReads.{LineRead}
-use Rattle.transcript_parts.specs.declared.echoed.EchoedLine.{EchoedLine}
+use Rattle.transcript_parts.specs.{EchoedLine, LineRead}
 use Rattle.transcripts.specs.Following.{CarriedOut, ComeInTurn, GoesOn, NoneYet, OneMore, restarted, unanswered_line}
 use Rattle.transcripts.specs.LineEvents.{LineEvent, LineEvents}
 use Rattle.transcripts.specs.Told.{Told}

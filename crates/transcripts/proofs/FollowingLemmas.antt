@@ -1,23 +1,16 @@
 -- What the parts of a transcript make of the ways in which it may have happened.
-use Rattle.std.proofs.Common.{◌≡◌, ◌≢◌, ◌⊎◌, inl, inr, ℕ, Bool, true, false, List, [], ◌∷◌, length, Result, Ok, Err, Option, None, Some, refl, sym, ap, subst, ◌∙◌, arith}
+use Rattle.std.proofs.Common.{◌≡◌, ◌≢◌, ◌⊎◌, inl, inr, ℕ, Bool, true, false, List, [], ◌∷◌, length, Result, Ok, Err}
+use Rattle.std.proofs.Common.{Option, None, Some, refl, sym, ap, subst, ◌∙◌, arith, Contains, OnOk}
 use Rattle.std.proofs.lemmas.List.Elements.{Contains-push_cases}
-use Rattle.std.specs.Prelude.{Contains, OnOk}
-use Rattle.ocpi_types.specs.Setups.{party_of}
-use Rattle.ocpi_types.specs.declared.packet.Packet.{Packet}
-use Rattle.ocpi_types.specs.declared.setup.Node.{Node}
+use Rattle.ocpi_types.specs.{Node, Packet, party_of}
 use Rattle.tables.proofs.Elements.{no_pairs}
 use Rattle.transcripts.specs.Diverging.{AllDiverge, HaveDiverged, KeepDiverged}
 use Rattle.transcripts.specs.Following.{AllCome, AllGoOn, Came, ComeInTurn, ComesOf, First, Follows, Gives, GoesOn, Happens, IsNew, IsOneOf, IsRead, IsWayOf, Last, Later, LeftOpen, LeftOut, More, NoEvent, NoSetup, NoneYet, OneMore, Outside, Passed, PassesLine, ReadTo, Reading, ShowsEvent, Standing, Start, Starved, TakesLine, TakesPart, in_run, is_open_behind, opening_told}
 use Rattle.transcripts.specs.LineEvents.{HasShape, Holds, LineEvent, LineEvents}
-use Rattle.transcript_parts.specs.Lines.{Line, line_of}
-use Rattle.transcript_parts.specs.LineReads.{GaveNothing, LineRead}
-use Rattle.transcript_parts.specs.Parts.{IsPart}
+use Rattle.transcript_parts.specs.{Answered, Ending, GaveNothing, IsPart, Line, LineRead, Opened, line_of}
 use Rattle.transcripts.specs.Told.{Told}
-use Rattle.ocpi_json.specs.SetupForms.{setup_in}
-use Rattle.transcript_lines.specs.declared.done.Done.TheVariants as done
-use Rattle.transcript_parts.specs.declared.first_lines.Opened.{Opened}
-use Rattle.transcript_parts.specs.declared.line_read.Ending.{Ending}
-use Rattle.transcript_parts.specs.declared.line_read.Ending.TheVariants.{Answered}
+use Rattle.ocpi_json.specs.{setup_in}
+use Rattle.transcript_lines.specs.done
 
 abbrev pub standing : Option Told → Bool → Option LineEvents → Standing
 standing told within left = record { told = told; within = within; unanswered = left }
@@ -144,10 +137,6 @@ passes_line old new p e nothing each = subst (TakesLine old p) (sym e) (passes o
 pub on_ok : {A B X : Type 0} (r : Result A B) → X → OnOk r X
 on_ok (Ok a) x = x
 on_ok (Err b) x = tt
-
-pub on_both : {A B X Y Z : Type 0} (r : Result A B) → OnOk r X → OnOk r Y → (X → Y → Z) → OnOk r Z
-on_both (Ok a) x y f = f x y
-on_both (Err b) x y f = tt
 
 -- it came to the node
 pub happened : (old new : Reading) (p : LineRead) (line : LineEvents) → line_of line.line ≡ p.line → Holds line → HasShape line p → new.setup ≡ old.setup → new.within ≡ is_open_behind p.ending

@@ -1,12 +1,9 @@
 -- The rest of a history, from some lines of its transcript on, and that it goes on from what is known of it.
 use Rattle.std.proofs.Common.{◌≡◌, ◌∙◌, ℕ, List, [], false, length, None, refl, sym, ap, subst, arith}
-use Rattle.ocpi_types.specs.declared.setup.Node.{Node}
-use Rattle.transcript_parts.specs.Beginnings.{Accuses, IsWrongIn}
-use Rattle.transcript_parts.specs.LineReads.{LineRead}
-use Rattle.transcript_parts.specs.Lines.{Line, lines_in}
-use Rattle.transcript_parts.specs.Parts.{HasNoPart, IsPart, PartsAreUnique}
-use Rattle.transcript_parts.specs.declared.fault.TranscriptFault.{TranscriptFault}
-use Rattle.transcript_parts.specs.declared.fault.TranscriptFault.TheVariants as transcript_fault
+use Rattle.ocpi_types.specs.{Node}
+use Rattle.transcript_parts.specs.{Accuses, HasNoPart, IsPart, IsWrongIn, Line, LineRead, PartsAreUnique}
+use Rattle.transcript_parts.specs.{TranscriptFault, lines_in}
+use Rattle.transcript_parts.specs.transcript_fault
 use Rattle.transcripts.specs.Accusing.{AccusesRightly, EndsBy}
 use Rattle.transcripts.specs.Covering.{Covers, EndsAll, FollowsOn, HasWayOf, IsComplete, KeepsAll}
 use Rattle.transcripts.specs.Following.{Follows, FollowsWithoutChoice, IsTranscriptWithoutChoice, More, ReadTo, ReadWithoutChoice, Reading, Standing, Start, nothing_known}

@@ -1,26 +1,17 @@
 -- The events of a line, read one after another, and the places of their answers.
-use Rattle.std.proofs.Common.{◌≡◌, ◌+◌, ◌⊎◌, ◌∙◌, ℕ, Bool, true, false, List, [], ◌∷◌, ◌++◌, inl, inr, length, map, take, sym, ap, subst, arith, refl}
+use Rattle.std.proofs.Common.{◌≡◌, ◌+◌, ◌⊎◌, ◌∙◌, ℕ, Bool, true, false, List, [], ◌∷◌, ◌++◌, inl, inr, length, map}
+use Rattle.std.proofs.Common.{take, sym, ap, subst, arith, refl, Ok, Some, slice_get}
 use Rattle.std.proofs.Math.Seq.{take-length}
 use Rattle.std.proofs.lemmas.List.{length-map, length-take-le, map-append}
 use Rattle.std.proofs.lemmas.Option.{slice_get_within}
-use Rattle.std.specs.Prelude.{Ok, Some, slice_get}
-use Rattle.histories.proofs.Lists.{got_pushed, some_same, take_one}
-use Rattle.json_text.specs.Fault.{Read}
-use Rattle.ocpi_types.specs.declared.node_events.NodeEvent.{NodeEvent}
-use Rattle.transcript_parts.specs.LineReads.{LineRead}
-use Rattle.transcript_parts.specs.Lines.{Line, line_of}
-use Rattle.transcript_parts.specs.declared.echoed.EchoedLine.{EchoedLine}
-use Rattle.transcript_parts.specs.declared.line_read.EventAnswer.{EventAnswer}
-use Rattle.node_lines.specs.ElementTexts.{AreElementsOf}
-use Rattle.node_lines.specs.NodeLines.{node_line_in}
-use Rattle.node_lines.specs.declared.node_line.NodeLine.TheVariants.{Several}
-use Rattle.ocpi_json.specs.NodeEventForms.{node_event_in}
-use Rattle.transcripts.specs.Exact.{HoldsOnly}
+use Rattle.histories.proofs.Lists.{got_pushed, take_one}
+use Rattle.json_text.specs.{Read}
+use Rattle.ocpi_types.specs.{NodeEvent}
+use Rattle.transcript_parts.specs.{EchoedLine, EventAnswer, Line, LineRead, line_of}
+use Rattle.node_lines.specs.{AreElementsOf, Several, node_line_in}
+use Rattle.ocpi_json.specs.{node_event_in}
 use Rattle.transcripts.specs.LineEvents.{AreReadFrom, HasShape, HasShapeBy, Holds, HoldsBy, HoldsSeveral, LineEvent, LineEvents, event_at, text_at}
-use Rattle.transcripts.proofs.WayLemmas.{in_none, one_more}
-
-pub no_texts : (l : EchoedLine) (es : List LineEvent) → es ≡ [] → AreReadFrom [] l es
-no_texts l es none = subst (AreReadFrom [] l) (sym none) (record { texts_are = refl; events_are = refl; numbers = in_none (λ (e : LineEvent). e.text.number ≡ l.number) [] refl })
+use Rattle.transcripts.proofs.WayLemmas.{one_more}
 
 -- one more
 pub text_more : (before all : List (List ℕ)) (l : EchoedLine) (es longer : List LineEvent) (t : EchoedLine) → all ≡ before ++ t.bytes.now ∷ [] → t.number ≡ l.number
@@ -72,15 +63,6 @@ pub held_alike : (g h : LineEvents) → Holds g → Holds h → line_of g.line �
 held_alike g h one other same =
     let (events, several) = held_by g.several h.several g.line h.line g.events h.events one other (ap (λ (l : Line). l.bytes) same) in
     (events, several, sym (length-map g.events event_at) ∙ ap length events ∙ length-map h.events event_at)
-
--- one that is no array holds its first event alone
-pub only_held : (h : LineEvents) → Holds h → h.several ≡ false → (e : LineEvent) → slice_get h.events 0 ≡ Some e → (x : NodeEvent) → e.event ≡ Ok x → HoldsOnly h x
-only_held h holds one e first x reads =
-    let (y, is, events) = subst (λ b. HoldsBy b h.line h.events) one holds in
-    let here : Some (record { text = h.line; event = Ok y }) ≡ Some e = ap (λ es. slice_get es 0) (sym events) ∙ first in
-    let same : Ok y ≡ e.event = ap event_at (some_same (record { text = h.line; event = Ok y }) e here) in
-    let event : Ok y ≡ Ok x = same ∙ reads in
-    events ∙ ap (λ (r : Read NodeEvent). record { text = h.line; event = r } ∷ []) event
 
 -- and what stands of a line may be told of the one as of the other
 pub shape_alike : (g h : LineEvents) (p : LineRead) → g.several ≡ h.several → length g.events ≡ length h.events → HasShape g p → HasShape h p

@@ -1,14 +1,11 @@
 -- No way is lost as the events of a line, or a run, come to each of them.
-use Rattle.std.proofs.Common.{◌≡◌, ◌⊎◌, inl, inr, Bool, false, true, not, IsTrue, List, [], ◌∷◌, ◌++◌, Option, None, Some, Ok, refl, sym, ap, subst, ◌∙◌}
+use Rattle.std.proofs.Common.{◌≡◌, ◌⊎◌, inl, inr, Bool, false, true, not, IsTrue, List, [], ◌∷◌, ◌++◌, Option, None}
+use Rattle.std.proofs.Common.{Some, Ok, refl, sym, ap, subst, ◌∙◌, Contains, IsPermutation}
 use Rattle.std.proofs.lemmas.List.Elements.{Contains-append_left, Contains-push, Contains-push_cases}
 use Rattle.std.proofs.lemmas.List.Sorted.{Contains-permutation}
-use Rattle.std.specs.Prelude.{Contains, IsPermutation}
 use Rattle.node_replay.specs.Replayed.{started_again}
-use Rattle.ocpi_types.specs.declared.node_events.NodeEvent.{NodeEvent}
-use Rattle.transcript_parts.specs.LineReads.{LineRead}
-use Rattle.transcript_parts.specs.Lines.{Line}
-use Rattle.transcript_parts.specs.declared.first_lines.Opened.{Opened}
-use Rattle.transcript_parts.specs.declared.line_read.Ending.TheVariants.{NextRun}
+use Rattle.ocpi_types.specs.{NodeEvent}
+use Rattle.transcript_parts.specs.{Line, LineRead, NextRun, Opened}
 use Rattle.transcripts.specs.Covering.{HasWay, IsSameLine, LosesNone, LosesNoneByRun}
 use Rattle.transcripts.specs.Exact.{AddsEach, CarriedOutAs, ComeAs, GoesOnAs, HoldsOnly, IsFound, OnlyCome, WouldChange}
 use Rattle.transcripts.specs.Following.{ComeInTurn, ComeWithoutChoice, GoesOn, GoesOnWithoutChoice, StandsAt, restarted, unanswered_line}

@@ -1,28 +1,23 @@
 -- An event, or the events of a line, that leave a node no choice come to no more than was found.
-use Rattle.std.proofs.Common.{◌≡◌, ◌⊎◌, ◌↔◌, inl, inr, ℕ, zero, suc, ◌<◌, ◌≤◌, Bool, true, false, List, [], ◌∷◌, ◌++◌, length, map, take, Option, None, Some, Ok, Err, IsTrue, refl, sym, ap, subst, ◌∙◌, arith, length-append}
+use Rattle.std.proofs.Common.{◌≡◌, ◌⊎◌, ◌↔◌, inl, inr, ℕ, zero, suc, ◌<◌, ◌≤◌, Bool, true, false, List, [], ◌∷◌, ◌++◌}
+use Rattle.std.proofs.Common.{length, map, take, Option, None, Some, Ok, Err, IsTrue, refl, sym, ap, subst, ◌∙◌, arith}
+use Rattle.std.proofs.Common.{length-append, IfNone, IfSome}
 use Rattle.std.proofs.Math.Seq.{take-length}
 use Rattle.std.proofs.lemmas.Bool.{cases_lt}
 use Rattle.std.proofs.lemmas.List.{length-map, map-append, same_from_push, take-append-le, take-map}
-use Rattle.std.specs.Prelude.{IfNone, IfSome}
-use Rattle.histories.specs.declared.entry.Entry.{Entry}
-use Rattle.json_text.specs.Fault.{Read}
-use Rattle.json_text.specs.declared.fault.JsonFault.{JsonFault}
+use Rattle.histories.specs.{Entry}
+use Rattle.json_text.specs.{JsonFault, Read}
 use Rattle.node_replay.specs.Replayed.{Enters, Foretells, Passes, Refuses, Replay}
 use Rattle.node_replay.specs.Replayed as replayed
-use Rattle.node_steps.specs.declared.fault.NodeFault.{NodeFault}
-use Rattle.ocpi_text.specs.Text.{key}
-use Rattle.ocpi_types.specs.Setups.{party_of}
-use Rattle.ocpi_types.specs.declared.node_events.NodeEvent.{NodeEvent}
-use Rattle.ocpi_types.specs.declared.node_events.NodeEventKind.{NodeEventKind}
-use Rattle.ocpi_types.specs.declared.packet.Packet.{Packet}
-use Rattle.ocpi_types.specs.declared.setup.Node.{Node}
-use Rattle.transcript_parts.specs.LineReads.{LineRead}
-use Rattle.transcript_parts.specs.declared.line_read.Ending.{Ending}
+use Rattle.node_steps.specs.{NodeFault}
+use Rattle.ocpi_text.specs.{key}
+use Rattle.ocpi_types.specs.{Node, NodeEvent, NodeEventKind, Packet, party_of}
+use Rattle.transcript_parts.specs.{Ending, LineRead}
 use Rattle.transcripts.specs.Exact.{ComeAs, ComesAs, IsFound, OnlyCome, OnlyGives, WouldChange}
 use Rattle.transcripts.specs.Following.{ComeInTurn, ComeWithoutChoice, Declined, FitsEntry, FitsNothing, Gives, Happens, HasOneAnswer, IsOwn, Malformed, NoneYet, OneMore, Refused, Skipped, Stays, Stepped, TellsMalformed, TellsRefused, TellsSkipped}
 use Rattle.transcripts.specs.LineEvents.{LineEvent, ending_at, event_at, packets_at}
 use Rattle.transcripts.specs.Told.{Told}
-use Rattle.world_steps.specs.World.{NodeState}
+use Rattle.world_steps.specs.{NodeState}
 
 -- ---- the same node
 

@@ -1,23 +1,19 @@
 -- A node to which the same events came is the same, where they left it no choice.
-use Rattle.std.proofs.Common.{◌≡◌, ◌≢◌, ◌⊎◌, ◌↔◌, inl, inr, ℕ, zero, suc, Bool, true, false, IsTrue, List, [], ◌∷◌, ◌++◌, length, Some, refl, sym, ap, subst, ◌∙◌, arith, append_assoc, append-nil}
+use Rattle.std.proofs.Common.{◌≡◌, ◌≢◌, ◌⊎◌, ◌↔◌, inl, inr, ℕ, zero, suc, Bool, true, false, IsTrue, List, [], ◌∷◌}
+use Rattle.std.proofs.Common.{◌++◌, length, Some, refl, sym, ap, subst, ◌∙◌, arith, append_assoc, slice_get}
 use Rattle.std.proofs.lemmas.Option.{same_Some}
-use Rattle.std.specs.Prelude.{slice_get}
-use Rattle.histories.specs.declared.entry.Entry.{Entry}
+use Rattle.histories.specs.{Entry}
 use Rattle.history_laws.specs.Replays.{Brings, Did, Does, EntryStep, Idle, Replays}
-use Rattle.node_replay.specs.Replayed.{Enters, Leads, Replay, restart_entry, started_again}
-use Rattle.ocpi_types.specs.Setups.{party_of}
-use Rattle.ocpi_types.specs.declared.node_events.NodeEventKind.{NodeEventKind}
+use Rattle.node_replay.specs.Replayed.{Leads, Replay}
+use Rattle.ocpi_types.specs.{Node, NodeEventKind, Packet, party_of}
 use Rattle.ocpi_types.specs.declared.node_events.NodeEventKind.TheVariants as event
-use Rattle.ocpi_types.specs.declared.packet.Packet.{Packet}
-use Rattle.ocpi_types.specs.declared.setup.Node.{Node}
 use Rattle.transcripts.specs.Following.{HasOneAnswer, Stepped}
 use Rattle.transcripts.specs.Told.{AreSources, HasSources, IsSource, IsTold, Told}
 use Rattle.transcripts.specs.Ways.{AreRepeats, HadNoChoice, IsRepeat, IsRepeated, LeaveNoChoice, Repeats}
 use Rattle.transcripts.specs.declared.source.Source.{Source}
 use Rattle.transcripts.specs.declared.source.Source.TheVariants.{Echoed, Restarted}
-use Rattle.world_steps.specs.Network.{Input, OfOperator, OfProvider}
-use Rattle.world_steps.specs.Steps.{NodeEvent, changes_of, input_of}
-use Rattle.world_steps.specs.World.{NodeState, Operates, Provides, opening_of}
+use Rattle.world_steps.specs.{Input, NodeEvent, NodeState, OfOperator, OfProvider, Operates, Provides, changes_of}
+use Rattle.world_steps.specs.{input_of, opening_of}
 use Rattle.transcripts.proofs.OnlyLemmas.{same_replay, stepped_alike}
 
 -- ---- one step
@@ -102,9 +98,6 @@ repeats_join [] (f ∷ fs) gs hs one other = absurd one
 repeats_join (e ∷ es) [] gs hs one other = absurd one
 repeats_join (e ∷ es) (f ∷ fs) gs hs one other = (one.0, repeats_join es fs gs hs one.1 other)
 
-pub repeats_none : (es : List Entry) (r : Replay) → es ≡ [] → Repeats es r r
-repeats_none es r none = record { added = []; are = subst (λ l. AreRepeats l []) (sym none) tt; entries = sym (append-nil r.entries); setup = refl; member = refl }
-
 pub repeats_more : (es longer : List Entry) (e : Entry) (first old new : Replay) → longer ≡ es ++ e ∷ [] → Repeats es first old → Repeats (e ∷ []) old new → Repeats longer first new
 repeats_more es longer e first old new is before here = record {
   added = before.added ++ here.added;
@@ -117,26 +110,6 @@ repeats_more es longer e first old new is before here = record {
 -- a node at which nothing happened before
 pub repeats_all : (es : List Entry) (old new : Replay) → old.entries ≡ [] → Repeats es old new → AreRepeats es new.entries
 repeats_all es old new none repeats = subst (AreRepeats es) (sym (repeats.entries ∙ ap (λ l. l ++ repeats.added) none)) repeats.are
-
--- one event that is entered
-pub repeats_entered : (e : Entry) (k : NodeEventKind) (changed : Bool) (old new : Replay) → k ≡ e.event → k ≢ event.Restart → Enters old k changed new → Repeats (e ∷ []) old new
-repeats_entered e k changed old new same other enters = record {
-  added = record { event = k; packets = enters.packets } ∷ [];
-  are = ((same, (λ is. absurd (other (same ∙ ap (λ (x : Entry). x.event) is)))), tt);
-  entries = enters.entries;
-  setup = enters.setup;
-  member = enters.member;
-}
-
--- a restart
-pub repeats_restart : (e : Entry) (old new : Replay) → e.event ≡ event.Restart → new ≡ started_again old → Repeats (e ∷ []) old new
-repeats_restart e old new same is = record {
-  added = restart_entry ∷ [];
-  are = ((sym same, (λ restart. refl)), tt);
-  entries = ap (λ r. r.entries) is;
-  setup = ap (λ r. r.setup) is;
-  member = ap (λ r. r.member) is;
-}
 
 -- ---- where the entries come from
 

@@ -1,22 +1,18 @@
 -- At which node a run was opened: with the number of its rows, which it has once each, and of one party of its setup.
-use Rattle.std.proofs.Common.{◌≡◌, ◌≢◌, ◌⊎◌, ◌↔◌, inl, inr, ℕ, ◌≤◌, Bool, IsTrue, List, [], ◌∷◌, ◌++◌, length, map, sym, ap, subst, ◌∙◌, arith, length-append}
+use Rattle.std.proofs.Common.{◌≡◌, ◌≢◌, ◌⊎◌, ◌↔◌, inl, inr, ℕ, ◌≤◌, Bool, IsTrue, List, [], ◌∷◌, ◌++◌, length, map, sym}
+use Rattle.std.proofs.Common.{ap, subst, ◌∙◌, arith, length-append, All, Contains}
 use Rattle.std.proofs.lemmas.List.Elements.{Contains-append_cases, Contains-append_left, Contains-append_right}
 use Rattle.std.specs.List.{AllPairs}
-use Rattle.std.specs.Prelude.{All, Contains}
-use Rattle.ocpi_text.specs.Text.{key}
-use Rattle.ocpi_types.specs.Apart.{DifferFrom}
-use Rattle.ocpi_types.specs.Rows.{key_of}
-use Rattle.ocpi_types.specs.Setups.{node_key, party_of}
-use Rattle.ocpi_types.specs.declared.rows.Row.{Row}
-use Rattle.ocpi_types.specs.declared.setup.Node.{Node}
-use Rattle.stored_laws.specs.Nodes.{AreNodeRows, last_serial}
+use Rattle.ocpi_text.specs.{key}
+use Rattle.ocpi_types.specs.{DifferFrom, Node, Row, key_of, node_key, party_of}
+use Rattle.stored_laws.specs.{AreNodeRows, last_serial}
 use Rattle.tables.proofs.Elements.{first_pairs, in_front, in_map, in_none, in_single, later_pairs}
-use Rattle.transcript_parts.specs.declared.first_lines.Opened.{Opened}
+use Rattle.transcript_parts.specs.{Opened}
 use Rattle.transcripts.specs.Following.{StandsAt}
 use Rattle.transcripts.specs.Told.{Told}
 use Rattle.node_replay.specs.Replayed.{Replay}
-use Rattle.world_laws.specs.Laws.{IsSetup}
-use Rattle.world_steps.specs.World.{NodeState, Operates, Provides}
+use Rattle.world_laws.specs.{IsSetup}
+use Rattle.world_steps.specs.{NodeState, Operates, Provides}
 
 -- ---- lists with the same elements, each once
 

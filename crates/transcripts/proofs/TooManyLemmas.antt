@@ -1,14 +1,9 @@
 -- Where too many ways are told of a line, too many histories fit the file.
-use Rattle.std.proofs.Common.{◌≡◌, ◌⊎◌, inl, inr, ◌∙◌, ℕ, true, false, List, Some, refl, sym, ap, subst}
-use Rattle.std.specs.Prelude.{Contains}
-use Rattle.ocpi_types.specs.declared.setup.Node.{Node}
-use Rattle.transcript_parts.specs.Beginnings.{IsNotARun, IsNotPassed, IsWrongIn}
-use Rattle.transcript_parts.specs.LineReads.{GaveNothing, LineRead}
-use Rattle.transcript_parts.specs.Lines.{Line, line_of, lines_in}
-use Rattle.transcript_parts.specs.Parts.{IsPart}
-use Rattle.transcript_parts.specs.declared.fault.TranscriptFault.{TranscriptFault}
-use Rattle.transcript_parts.specs.declared.fault.TranscriptFault.TheVariants as transcript_fault
-use Rattle.transcript_parts.specs.declared.line_read.Ending.TheVariants.{NextRun}
+use Rattle.std.proofs.Common.{◌≡◌, ◌⊎◌, inl, inr, ◌∙◌, ℕ, true, false, List, Some, refl, sym, ap, subst, Contains}
+use Rattle.ocpi_types.specs.{Node}
+use Rattle.transcript_parts.specs.{GaveNothing, IsNotARun, IsNotPassed, IsPart, IsWrongIn, Line, LineRead, NextRun}
+use Rattle.transcript_parts.specs.{TranscriptFault, line_of, lines_in}
+use Rattle.transcript_parts.specs.transcript_fault
 use Rattle.transcripts.specs.Following.{GoesOn, IsRead, LeftOpen, More, Passed, ReadTo, Reading, TellsNotARun}
 use Rattle.transcripts.specs.LineEvents.{Holds, LineEvents}
 use Rattle.transcripts.specs.Told.{Told}

@@ -1,23 +1,18 @@
 -- A way stays one as an entry and its source are added, and what a line made of it.
-use Rattle.std.proofs.Common.{◌≡◌, ◌⊎◌, inl, inr, ◌↔◌, ℕ, zero, suc, Bool, true, false, List, [], ◌∷◌, ◌++◌, length, Option, None, Some, Result, Ok, Err, OnOk, IsTrue, refl, sym, ap, subst, ◌∙◌, arith, length-append}
+use Rattle.std.proofs.Common.{◌≡◌, ◌⊎◌, inl, inr, ◌↔◌, ℕ, zero, suc, Bool, true, false, List, [], ◌∷◌, ◌++◌, length}
+use Rattle.std.proofs.Common.{Option, None, Some, Result, Ok, Err, OnOk, IsTrue, refl, sym, ap, subst, ◌∙◌, arith}
+use Rattle.std.proofs.Common.{length-append, Contains, IsPermutation, slice_get}
 use Rattle.std.proofs.lemmas.List.Elements.{Contains-push_cases, Contains-push, Contains-append_left}
 use Rattle.std.proofs.lemmas.List.Sorted.{Contains-permutation, IsPermutation-sym}
 use Rattle.std.proofs.lemmas.Option.{none-some, same_Some}
-use Rattle.std.specs.Prelude.{Contains, IsPermutation, slice_get}
-use Rattle.ocpi_text.specs.Text.{key}
-use Rattle.ocpi_types.specs.Setups.{party_of}
-use Rattle.ocpi_types.specs.declared.node_events.NodeEvent.{NodeEvent}
-use Rattle.ocpi_types.specs.declared.node_events.NodeEventKind.{NodeEventKind}
-use Rattle.ocpi_types.specs.declared.packet.Packet.{Packet}
-use Rattle.ocpi_json.specs.NodeEventForms.{node_event_in}
-use Rattle.histories.specs.declared.entry.Entry.{Entry}
-use Rattle.node_steps.specs.declared.fault.NodeFault.{NodeFault}
+use Rattle.ocpi_text.specs.{key}
+use Rattle.ocpi_types.specs.{NodeEvent, NodeEventKind, Packet, party_of}
+use Rattle.ocpi_json.specs.{node_event_in}
+use Rattle.histories.specs.{Entry}
+use Rattle.node_steps.specs.{NodeFault}
 use Rattle.node_replay.specs.Replayed.{Enters, Leads, Passes, Refuses, Replay, restart_entry}
-use Rattle.json_text.specs.Fault.{Read}
-use Rattle.json_text.specs.declared.fault.JsonFault.{JsonFault}
-use Rattle.transcript_parts.specs.LineReads.{LineRead}
-use Rattle.transcript_parts.specs.declared.line_read.Ending.{Ending}
-use Rattle.transcript_parts.specs.declared.echoed.EchoedLine.{EchoedLine}
+use Rattle.json_text.specs.{JsonFault, Read}
+use Rattle.transcript_parts.specs.{EchoedLine, Ending, LineRead}
 use Rattle.transcripts.specs.Told.{AreSources, HasSources, IsSource, Told}
 use Rattle.transcripts.specs.Following.{Adds, ComeInTurn, FitsEntry, Gives, GoesOn, IsOwn, Malformed, OneMore, Refused, Skipped, TellsMalformed, TellsRefused, TellsSkipped, restarted, unanswered_line}
 use Rattle.transcripts.specs.LineEvents.{LineEvent, LineEvents, ending_at, packets_at}
@@ -43,11 +38,6 @@ sources_more party es sources e s are is =
     let left = length-append sources (s ∷ []) in
     let right = length-append es (e ∷ []) in
     record { size = omega arith; each = more party es sources e s are.size are.each is }
-
-pub has_none : (t : Told) → t.replay.entries ≡ [] → t.sources ≡ [] → HasSources t
-has_none t entries sources =
-    subst (λ l. AreSources (party_of t.replay.member) l t.sources) (sym entries)
-    (subst (λ l. AreSources (party_of t.replay.member) [] l) (sym sources) (record { size = refl; each = λ i e s a b. absurd (none-some e a) }))
 
 -- an entry more at the same node
 pub has_more : (old new : Told) (e : Entry) (s : Source) → new.replay.member ≡ old.replay.member → new.replay.entries ≡ old.replay.entries ++ e ∷ [] → new.sources ≡ old.sources ++ s ∷ []
@@ -164,9 +154,6 @@ adds_one P before after t is here s among = of (Contains-push_cases before t s (
     of : Contains before s ⊎ (t ≡ s) → Contains before s ⊎ P s
     of (inl old) = inl old
     of (inr same) = inr (subst P same here)
-
-pub adds_none : (P : Told → Type 0) (before after : List Told) → after ≡ before → Adds P before after
-adds_none P before after is s among = inl (subst (λ l. Contains l s) is among)
 
 pub adds_weaker : (P Q : Told → Type 0) (before after : List Told) → ((t : Told) → P t → Q t) → Adds P before after → Adds Q before after
 adds_weaker P Q before after so adds s among = of (adds s among)

@@ -1,10 +1,7 @@
 -- That a file is accused only where no history which leaves its node no choice has it for its transcript.
 use Rattle.std.specs.Prelude.{ℕ, List}
-use Rattle.ocpi_types.specs.declared.setup.Node.{Node}
-use Rattle.transcript_parts.specs.Beginnings.{Accuses, TellsOpened}
-use Rattle.transcript_parts.specs.LineReads.{LineRead}
-use Rattle.transcript_parts.specs.declared.fault.TranscriptFault.{TranscriptFault}
-use Rattle.transcript_parts.specs.declared.first_lines.Opened.{Opened}
+use Rattle.ocpi_types.specs.{Node}
+use Rattle.transcript_parts.specs.{Accuses, LineRead, Opened, TellsOpened, TranscriptFault}
 use Rattle.transcripts.specs.Covering.{Covers, EndsAll, KeepsAll}
 use Rattle.transcripts.specs.Following.{ComeWithoutChoice, ComesToNode, IsTranscriptWithoutChoice, Reading, Standing}
 use Rattle.transcripts.specs.Told.{Told}

@@ -1,10 +1,8 @@
 -- That no way is lost while a transcript is read: whatever history fits what was read, and left the node no choice, is one
 -- of the ways. Two are taken for the same where the node and its entries are, whatever texts these were read from.
 use Rattle.std.specs.Prelude.{◌≡◌, Bool, List, [], Option, None, Some, Contains, map}
-use Rattle.ocpi_types.specs.declared.setup.Node.{Node}
-use Rattle.transcript_parts.specs.LineReads.{LineRead}
-use Rattle.transcript_parts.specs.Lines.{Line, line_of}
-use Rattle.transcript_parts.specs.declared.first_lines.Opened.{Opened}
+use Rattle.ocpi_types.specs.{Node}
+use Rattle.transcript_parts.specs.{Line, LineRead, Opened, line_of}
 use Rattle.transcripts.specs.Following.{ComeInTurn, ComeWithoutChoice, Follows, FollowsWithoutChoice, GoesOn, GoesOnWithoutChoice, ReadTo, ReadWithoutChoice, Reading, Standing, StandsAt}
 use Rattle.transcripts.specs.LineEvents.{LineEvent, LineEvents, event_at}
 use Rattle.transcripts.specs.Told.{Told}

@@ -1,6 +1,6 @@
 -- Ways that are different: up to some entry theirs come from the same places, and that one from different ones.
 use Rattle.std.specs.Prelude.{◌≡◌, ◌≢◌, ◌++◌, ◌∷◌, List, [], AllPairs, Contains}
-use Rattle.transcript_parts.specs.declared.echoed.EchoedLine.{EchoedLine}
+use Rattle.transcript_parts.specs.{EchoedLine}
 use Rattle.transcripts.specs.Told.{Told}
 use Rattle.transcripts.specs.declared.source.Source.{Source}
 use Rattle.transcripts.specs.declared.source.Source.TheVariants.{Echoed}

@@ -1,11 +1,9 @@
 -- That an event, or the events of a line, come to no more than was found: what else they may have made of that node, which
 -- they left no choice, is just that.
 use Rattle.std.specs.Prelude.{◌≡◌, ◌⊎◌, Bool, false, List, [], ◌∷◌, Option, None, Some, Ok, Contains, map}
-use Rattle.ocpi_types.specs.declared.node_events.NodeEvent.{NodeEvent}
-use Rattle.ocpi_types.specs.declared.packet.Packet.{Packet}
+use Rattle.ocpi_types.specs.{NodeEvent, Packet}
 use Rattle.node_replay.specs.Replayed.{Foretells}
-use Rattle.transcript_parts.specs.LineReads.{LineRead}
-use Rattle.transcript_parts.specs.declared.line_read.Ending.{Ending}
+use Rattle.transcript_parts.specs.{Ending, LineRead}
 use Rattle.transcripts.specs.Covering.{HasWay, IsSameLine}
 use Rattle.transcripts.specs.Following.{CarriedOut, ComeInTurn, ComeWithoutChoice, Gives, GoesOn, GoesOnWithoutChoice, IsOwn, LeavesNoChoice}
 use Rattle.transcripts.specs.LineEvents.{LineEvent, LineEvents, event_at}

@@ -1,38 +1,25 @@
 -- How the parts of a transcript follow one another: what each makes of the node whose transcript it is.
 use Rattle.std.proofs.Common.{inl, inr}
 use Rattle.std.specs.Prelude.{◌≡◌, ◌≢◌, ◌⊎◌, ◌↔◌, ℕ, Bool, true, false, IsTrue, List, [], ◌∷◌, ◌++◌, Option, None, Some, Ok, Err, Contains, length}
-use Rattle.json_text.specs.declared.fault.JsonFault.{JsonFault}
-use Rattle.json_text.specs.declared.fault.JsonFault.TheVariants as json_fault
-use Rattle.ocpi_text.specs.Text.{key}
-use Rattle.ocpi_types.specs.Setups.{party_of}
-use Rattle.ocpi_types.specs.declared.node_events.NodeEvent.{NodeEvent}
-use Rattle.ocpi_types.specs.declared.node_events.NodeEventKind.{NodeEventKind}
-use Rattle.ocpi_types.specs.declared.packet.Packet.{Packet}
-use Rattle.ocpi_types.specs.declared.rows.Row.{Row}
-use Rattle.ocpi_types.specs.declared.setup.Node.{Node}
-use Rattle.node_lines.specs.ListLines.{IsListLine}
-use Rattle.node_lines.specs.NodeLines.{node_line_in}
-use Rattle.ocpi_json.specs.SetupForms.{setup_in}
+use Rattle.json_text.specs.{JsonFault}
+use Rattle.json_text.specs.line as json_fault
+use Rattle.ocpi_text.specs.{key}
+use Rattle.ocpi_types.specs.{Node, NodeEvent, NodeEventKind, Packet, Row, party_of}
+use Rattle.node_lines.specs.{IsListLine, node_line_in}
+use Rattle.ocpi_json.specs.{setup_in}
 use Rattle.node_replay.specs.Replayed.{Enters, Leads, Passes, Refuses, started_again}
-use Rattle.node_steps.specs.declared.fault.NodeFault.{NodeFault}
-use Rattle.node_steps.specs.declared.fault.NodeFault.TheVariants as node_fault
-use Rattle.stored_laws.specs.Nodes.{AreNodeRows, last_serial}
-use Rattle.transcript_lines.specs.declared.done.Done.TheVariants as done
-use Rattle.transcript_parts.specs.Lines.{Line, line_of, lines_in}
-use Rattle.transcript_parts.specs.LineReads.{GaveNothing, LineRead}
-use Rattle.transcript_parts.specs.Beginnings.{FitsNoRun}
-use Rattle.transcript_parts.specs.Parts.{FitsFirst, IsPart}
+use Rattle.node_steps.specs.{NodeFault}
+use Rattle.node_steps.specs.node_fault
+use Rattle.stored_laws.specs.{AreNodeRows, last_serial}
+use Rattle.transcript_lines.specs.done
+use Rattle.transcript_parts.specs.{Answered, EchoedLine, Ending, FileEnd, FitsFirst, FitsNoRun, GaveNothing, IsPart}
+use Rattle.transcript_parts.specs.{Line, LineRead, NextRun, Opened, TranscriptFault, line_of, lines_in}
 use Rattle.transcripts.specs.Diverging.{AllDiverge, KeepDiverged}
 use Rattle.transcripts.specs.LineEvents.{HasShape, Holds, LineEvent, LineEvents, ending_at, packets_at}
 use Rattle.transcripts.specs.Told.{Told}
-use Rattle.transcript_parts.specs.declared.fault.TranscriptFault.{TranscriptFault}
-use Rattle.transcript_parts.specs.declared.fault.TranscriptFault.TheVariants as transcript_fault
-use Rattle.transcript_parts.specs.declared.first_lines.Opened.{Opened}
-use Rattle.transcript_parts.specs.declared.line_read.Ending.{Ending}
-use Rattle.transcript_parts.specs.declared.line_read.Ending.TheVariants.{Answered, FileEnd, NextRun}
-use Rattle.transcript_parts.specs.declared.echoed.EchoedLine.{EchoedLine}
+use Rattle.transcript_parts.specs.transcript_fault
 use Rattle.transcripts.specs.declared.source.Source.TheVariants.{Echoed, Restarted}
-use Rattle.world_steps.specs.World.{NodeState, opening_of}
+use Rattle.world_steps.specs.{NodeState, opening_of}
 
 -- ---- one event
 

@@ -1,8 +1,7 @@
 -- What is so of every transcript.
 use Rattle.std.specs.Prelude.{ℕ, List}
-use Rattle.ocpi_types.specs.declared.setup.Node.{Node}
-use Rattle.transcript_parts.specs.Beginnings.{BeginsWith}
-use Rattle.transcript_parts.specs.Lines.{lines_in}
+use Rattle.ocpi_types.specs.{Node}
+use Rattle.transcript_parts.specs.{BeginsWith, lines_in}
 use Rattle.transcripts.specs.Following.{IsTranscriptOf}
 use Rattle.transcripts.specs.Told.{Told}
 

@@ -1,18 +1,11 @@
 -- What an echoed line holds for the node, and what is told of each of its events.
 use Rattle.std.specs.Prelude.{◌≡◌, ◌≤◌, ◌==◌, ℕ, Bool, true, false, List, [], ◌∷◌, Option, None, Some, Ok, Contains, length, map, slice_get, if◌then◌else◌}
-use Rattle.json_text.specs.Fault.{Read}
-use Rattle.node_lines.specs.ElementTexts.{AreElementsOf}
-use Rattle.node_lines.specs.NodeLines.{node_line_in}
-use Rattle.node_lines.specs.declared.node_line.NodeLine.TheVariants.{One, Several}
-use Rattle.ocpi_json.specs.NodeEventForms.{node_event_in}
-use Rattle.ocpi_types.specs.declared.node_events.NodeEvent.{NodeEvent}
-use Rattle.ocpi_types.specs.declared.packet.Packet.{Packet}
-use Rattle.transcript_lines.specs.declared.done.Done.TheVariants as done
-use Rattle.transcript_parts.specs.LineReads.{LineRead}
-use Rattle.transcript_parts.specs.declared.echoed.EchoedLine.{EchoedLine}
-use Rattle.transcript_parts.specs.declared.line_read.EventAnswer.{EventAnswer}
-use Rattle.transcript_parts.specs.declared.line_read.Ending.{Ending}
-use Rattle.transcript_parts.specs.declared.line_read.Ending.TheVariants.{Answered, FileEnd, NextRun}
+use Rattle.json_text.specs.{Read}
+use Rattle.node_lines.specs.{AreElementsOf, One, Several, node_line_in}
+use Rattle.ocpi_json.specs.{node_event_in}
+use Rattle.ocpi_types.specs.{NodeEvent, Packet}
+use Rattle.transcript_lines.specs.done
+use Rattle.transcript_parts.specs.{Answered, EchoedLine, Ending, EventAnswer, FileEnd, LineRead, NextRun}
 
 -- ---- what a line holds
 

@@ -1,10 +1,9 @@
 -- What a transcript tells of a node: what happened at it, and where in the file each entry stands.
 use Rattle.std.specs.Prelude.{◌≡◌, ℕ, List, Ok, Some, length, slice_get}
-use Rattle.ocpi_text.specs.Text.{key}
-use Rattle.ocpi_types.specs.Setups.{party_of}
-use Rattle.ocpi_types.specs.declared.node_events.NodeEvent.{NodeEvent}
-use Rattle.ocpi_json.specs.NodeEventForms.{node_event_in}
-use Rattle.histories.specs.declared.entry.Entry.{Entry}
+use Rattle.ocpi_text.specs.{key}
+use Rattle.ocpi_types.specs.{NodeEvent, party_of}
+use Rattle.ocpi_json.specs.{node_event_in}
+use Rattle.histories.specs.{Entry}
 use Rattle.node_replay.specs.Replayed.{IsReplay, Replay, restart_entry}
 use Rattle.transcripts.specs.declared.source.Source.{Source}
 use Rattle.transcripts.specs.declared.source.Source.TheVariants.{Echoed, Restarted}

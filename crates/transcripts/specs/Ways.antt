@@ -1,19 +1,17 @@
 -- When there are too many ways: where more than 64 histories fit a file up to a line that a stop left open, with that
 -- line or without it.
 use Rattle.std.specs.Prelude.{◌≡◌, ◌<◌, ◌++◌, ◌∷◌, ℕ, true, List, [], Some, Contains, length}
-use Rattle.histories.specs.declared.entry.Entry.{Entry}
+use Rattle.histories.specs.{Entry}
 use Rattle.history_laws.specs.Replays.{EntryStep}
 use Rattle.node_replay.specs.Replayed.{Replay, restart_entry}
-use Rattle.ocpi_types.specs.declared.setup.Node.{Node}
-use Rattle.transcript_parts.specs.LineReads.{GaveNothing, LineRead}
-use Rattle.transcript_parts.specs.Lines.{Line, lines_in}
-use Rattle.transcript_parts.specs.declared.fault.TranscriptFault.{TranscriptFault}
-use Rattle.transcript_parts.specs.declared.fault.TranscriptFault.TheVariants as transcript_fault
+use Rattle.ocpi_types.specs.{Node}
+use Rattle.transcript_parts.specs.{GaveNothing, Line, LineRead, TranscriptFault, lines_in}
+use Rattle.transcript_parts.specs.transcript_fault
 use Rattle.transcripts.specs.Diverging.{AllDiverge}
 use Rattle.transcripts.specs.Following.{CarriedOut, GoesOn, HasOneAnswer, LeavesOpen, ReadTo, Reading, Standing}
 use Rattle.transcripts.specs.LineEvents.{LineEvents}
 use Rattle.transcripts.specs.Told.{Told}
-use Rattle.world_steps.specs.World.{NodeState, opening_of}
+use Rattle.world_steps.specs.{NodeState, opening_of}
 
 -- ---- nodes at which the same happened
 

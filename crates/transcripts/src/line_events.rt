@@ -1,14 +1,13 @@
 //! The events that an echoed line holds, each with its text.
 
 ghost use Rattle.std.specs.Prelude.{◌≡◌, ◌⊎◌, IfErr, IfOk, IfSome, List, Ok, map};
-ghost use Rattle.json_text.specs.Fault.{Read};
-ghost use Rattle.node_lines.specs.declared.node_line.NodeLine.TheVariants.{One as OneOf, Several as SeveralOf};
-ghost use Rattle.node_lines.specs.NodeLines.{node_line_in};
-ghost use Rattle.ocpi_json.specs.NodeEventForms.{node_event_in};
-ghost use Rattle.ocpi_types.specs.declared.node_events.NodeEvent.{NodeEvent as NodeEventOf};
-ghost use Rattle.transcript_parts.specs.Lines.{line_of};
+ghost use Rattle.json_text.specs.{Read};
+ghost use Rattle.node_lines.specs.{One as OneOf, Several as SeveralOf, node_line_in};
+ghost use Rattle.ocpi_json.specs.{node_event_in};
+ghost use Rattle.ocpi_types.specs.{NodeEvent as NodeEventOf};
+ghost use Rattle.transcript_parts.specs.{line_of};
 ghost use Rattle.transcripts.specs.LineEvents.{AreReadFrom, Holds, IsReadAs};
-ghost use Rattle.transcript_parts.specs.declared.fault.TranscriptFault.TheVariants as transcript_fault;
+ghost use Rattle.transcript_parts.specs.transcript_fault;
 ghost use Rattle.transcripts.specs.Exact.{HoldsOnly};
 ghost use Rattle.transcripts.specs.Following.{IsNoEvent, TellsNotARun};
 

@@ -1,8 +1,8 @@
 //! Lines that are refused: as what they are told, and whether they are.
 
 ghost use Rattle.std.specs.Prelude.{◌≡◌, ◌≢◌, ◌↔◌, ◌⊎◌, IfErr, IfOk, IsTrue, OnOk, Some};
-ghost use Rattle.json_text.specs.declared.fault.JsonFault.TheVariants as json_fault;
-ghost use Rattle.transcript_parts.specs.declared.fault.TranscriptFault.TheVariants as transcript_fault;
+ghost use Rattle.json_text.specs.line as json_fault;
+ghost use Rattle.transcript_parts.specs.transcript_fault;
 ghost use Rattle.transcripts.specs.Following.{FitsEvent, IsRefusedEvent, MayStarve, TellsNotARun};
 
 use json_text::JsonFault;

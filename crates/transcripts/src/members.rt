@@ -1,8 +1,7 @@
 //! Whose transcript a file is.
 
 ghost use Rattle.std.specs.Prelude.{◌≡◌, ◌↔◌, Contains, IfNone, IfSome, IsTrue};
-ghost use Rattle.ocpi_types.specs.Setups.{party_of};
-ghost use Rattle.ocpi_types.specs.declared.setup.Node.{Node as NodeOf};
+ghost use Rattle.ocpi_types.specs.{Node as NodeOf, party_of};
 ghost use Rattle.transcripts.specs.Following.{IsNew};
 ghost use Rattle.transcripts.specs.Told.{Told};
 

@@ -1,23 +1,15 @@
 //! The reading of a transcript, part by part.
 
 ghost use Rattle.std.specs.Prelude.{◌≡◌, ◌≢◌, ◌↔◌, Contains, IfErr, IfNone, IfOk, IfSome, IsTrue, None, Ok, OnOk, Some, [], false, true, ℕ};
-ghost use Rattle.ocpi_json.specs.SetupForms.{setup_in};
+ghost use Rattle.ocpi_json.specs.{setup_in};
 ghost use Rattle.transcripts.specs.Accusing.{ComesToNone, EndsBy, EndsByLine, KeepsComing, KeepsLine, OpensNone};
 ghost use Rattle.transcripts.specs.Covering.{KeepsAll};
-ghost use Rattle.transcripts.specs.Following.{
-  ShowsEvent,
-  TakesLine,
-  TakesPart,
-  in_run,
-  is_open_behind,
-};
+ghost use Rattle.transcripts.specs.Following.{ShowsEvent, TakesLine, TakesPart, in_run, is_open_behind};
 ghost use Rattle.transcripts.specs.Ways.{TellsTooMany};
-ghost use Rattle.transcript_parts.specs.Beginnings.{Accuses};
-ghost use Rattle.transcript_parts.specs.LineReads.{GaveNothing};
-ghost use Rattle.transcript_parts.specs.declared.line_read.Ending.TheVariants.{Answered, FileEnd, NextRun};
-ghost use Rattle.transcript_lines.specs.declared.done.Done.TheVariants as done;
-ghost use Rattle.transcript_lines.specs.declared.done.Done.TheVariants.{Refused as RefusedOf};
-ghost use Rattle.node_steps.specs.declared.fault.NodeFault.TheVariants as node_fault;
+ghost use Rattle.transcript_parts.specs.{Accuses, Answered, FileEnd, GaveNothing, NextRun};
+ghost use Rattle.transcript_lines.specs.done;
+ghost use Rattle.transcript_lines.specs.{Refused as RefusedOf};
+ghost use Rattle.node_steps.specs.node_fault;
 
 use crate::all_ways::{go_on, happen_in_ways};
 use crate::counting::are_too_many;
@@ -36,9 +28,7 @@ use setup_equality::are_equal;
 use std::alloc::Global;
 use std::marker::Model;
 use transcript_lines::Done;
-use transcript_parts::{
-    Ending, LineRead, Opened, TranscriptFault, fits_first, opened_by, opened_setup, pass_line,
-};
+use transcript_parts::{Ending, LineRead, Opened, TranscriptFault, fits_first, opened_by, opened_setup, pass_line};
 
 /// What the parts so far tell: the ways in which it may have happened, those first that are preferred.
 pub(crate) struct Reading<'a> {

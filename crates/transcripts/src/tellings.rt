@@ -1,7 +1,7 @@
 //! What is told of each event of a line.
 
 ghost use Rattle.std.specs.Prelude.{◌≡◌, ◌↔◌, IsTrue, Some, length, slice_get, ℕ};
-ghost use Rattle.transcript_parts.specs.declared.line_read.EventAnswer.{EventAnswer as EventAnswerOf};
+ghost use Rattle.transcript_parts.specs.{EventAnswer as EventAnswerOf};
 ghost use Rattle.transcripts.specs.LineEvents.{EndsSeveral, HasShape, TellsSeveral, ending_at, packets_at};
 
 use crate::line_events::LineEvents;

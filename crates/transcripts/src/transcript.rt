@@ -1,11 +1,11 @@
 //! A file read as the history of a node.
 
 ghost use Rattle.std.specs.Prelude.{◌≡◌, IfErr, IfOk, []};
-ghost use Rattle.ocpi_types.specs.Setups.{party_of};
+ghost use Rattle.ocpi_types.specs.{party_of};
 ghost use Rattle.transcripts.specs.Accusing.{AccusesRightly};
 ghost use Rattle.transcripts.specs.Covering.{IsComplete};
 ghost use Rattle.transcripts.specs.Following.{IsNew, IsRead, IsTranscriptOf};
-ghost use Rattle.transcript_parts.specs.Lines.{lines_in};
+ghost use Rattle.transcript_parts.specs.{lines_in};
 ghost use Rattle.transcripts.specs.Told.{IsTold};
 ghost use Rattle.transcripts.specs.Ways.{TooManyFit};
 

@@ -1,17 +1,16 @@
 //! One way in which what a transcript tells may have happened.
 
 ghost use Rattle.std.specs.Prelude.{◌≡◌, ◌≤◌, ◌+◌, ◌++◌, ◌∷◌, ◌↔◌, Contains, IfNone, IfOk, IfSome, IsTrue, List, Ok, OnOk, [], false, length, vec_capacity};
-ghost use Rattle.histories.specs.declared.entry.Entry.{Entry as EntryOf};
-ghost use Rattle.ocpi_json.specs.NodeEventForms.{node_event_in};
-ghost use Rattle.ocpi_types.specs.Setups.{party_of};
-ghost use Rattle.ocpi_types.specs.declared.packet.Packet.{Packet as PacketOf};
-ghost use Rattle.stored_laws.specs.Nodes.{last_serial};
+ghost use Rattle.histories.specs.{Entry as EntryOf};
+ghost use Rattle.ocpi_json.specs.{node_event_in};
+ghost use Rattle.ocpi_types.specs.{Packet as PacketOf, party_of};
+ghost use Rattle.stored_laws.specs.{last_serial};
 ghost use Rattle.transcripts.specs.Exact.{OnlyGives, WouldChange};
 ghost use Rattle.transcripts.specs.Following.{FitsEntry, Gives, StandsAt, TellsMalformed, TellsRefused, TellsSkipped, opening_told, restarted};
 ghost use Rattle.transcripts.specs.Told.{IsTold};
 ghost use Rattle.transcripts.specs.Ways.{IsRepeated, Repeats};
-ghost use Rattle.transcript_parts.specs.declared.line_read.Ending.TheVariants.{Answered};
-ghost use Rattle.world_laws.specs.Laws.{IsSetup};
+ghost use Rattle.transcript_parts.specs.{Answered};
+ghost use Rattle.world_laws.specs.{IsSetup};
 
 use crate::line_events::LineEvent;
 use crate::malformed::is_same_fault;

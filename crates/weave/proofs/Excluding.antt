@@ -1,17 +1,15 @@
 -- Where there is a cause there is no interleaving, whoever is given; and what it is where nobody is.
-use Rattle.std.proofs.Common.{◌≡◌, ℕ, ◌+◌, ◌<◌, ◌≤◌, List, [], ◌∷◌, ◌++◌, length, take, drop, inl, inr, refl, sym, ap, subst, ◌∙◌, arith, append_assoc, append-nil, length-append}
-use Rattle.std.specs.Prelude.{Some, Contains, slice_get, slice_index}
+use Rattle.std.proofs.Common.{◌≡◌, ℕ, ◌+◌, ◌<◌, ◌≤◌, List, [], ◌∷◌, ◌++◌, length, take, drop, inl, inr, refl, sym, ap}
+use Rattle.std.proofs.Common.{subst, ◌∙◌, arith, append_assoc, append-nil, length-append, Some, Contains, slice_get}
+use Rattle.std.proofs.Common.{slice_index}
 use Rattle.std.proofs.lemmas.Bool.{cases_lt}
 use Rattle.std.proofs.lemmas.List.{take-append-drop}
 use Rattle.std.proofs.lemmas.List.Elements.{Contains-append_cases, Contains-append_right}
-use Rattle.ocpi_text.specs.Text.{key}
-use Rattle.ocpi_types.specs.declared.packet.Packet.{Packet}
+use Rattle.ocpi_text.specs.{key}
+use Rattle.ocpi_types.specs.{Packet}
 use Rattle.tables.proofs.Elements.{in_front, in_none, in_single}
-use Rattle.histories.specs.declared.entry.Entry.{Entry}
-use Rattle.histories.specs.declared.history.NodeHistory.{NodeHistory}
-use Rattle.histories.specs.Causes.{CameTo, IsGiven, IsGivenBefore, IsSentOtherwise, IsUnsent}
-use Rattle.histories.specs.Entries.{Delivers, packets_of, sent}
-use Rattle.histories.specs.Weaving.{AreApart, AreNumbered, IsWoven, Woven, history}
+use Rattle.histories.specs.{AreApart, AreNumbered, CameTo, Delivers, Entry, IsGiven, IsGivenBefore, IsSentOtherwise}
+use Rattle.histories.specs.{IsUnsent, IsWoven, NodeHistory, Woven, history, packets_of, sent}
 use Rattle.histories.proofs.Lists.{got_between, in_later, is_in, place_in, some_same, take_one, take_past}
 use Rattle.histories.proofs.WovenLists.{given_later, has_entry, history_elsewhere, history_here, history_join, history_next, history_past, same_key, sent_join, sent_later, sent_one}
 use Rattle.weave.specs.declared.turn.Turn.{Turn}

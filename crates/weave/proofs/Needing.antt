@@ -1,16 +1,13 @@
 -- The packets of each history by their serials, what an entry waits for, and what is told of it.
-use Rattle.std.proofs.Common.{◌≡◌, ◌≢◌, ◌⊎◌, ℕ, ◌+◌, ◌-◌, ◌<◌, List, [], ◌∷◌, ◌++◌, length, take, drop, inl, inr, refl, sym, ap, subst, ◌∙◌, arith, append_assoc, length-append}
-use Rattle.std.specs.Prelude.{None, Some, Vec, Contains, slice_get, option_map}
+use Rattle.std.proofs.Common.{◌≡◌, ◌≢◌, ◌⊎◌, ℕ, ◌+◌, ◌-◌, ◌<◌, List, [], ◌∷◌, ◌++◌, length, take, drop, inl, inr, refl}
+use Rattle.std.proofs.Common.{sym, ap, subst, ◌∙◌, arith, append_assoc, length-append, None, Some, Vec, Contains}
+use Rattle.std.proofs.Common.{slice_get, option_map}
 use Rattle.std.specs.Borrow.{Bor}
-use Rattle.std.proofs.lemmas.List.{length-map, take-append-drop}
-use Rattle.std.proofs.lemmas.Option.{slice_get-map, slice_get_past}
-use Rattle.ocpi_text.specs.Text.{key}
-use Rattle.ocpi_types.specs.declared.packet.Packet.{Packet}
-use Rattle.histories.specs.declared.entry.Entry.{Entry}
-use Rattle.histories.specs.declared.history.NodeHistory.{NodeHistory}
-use Rattle.histories.specs.Causes.{IsGiven, IsUnsent}
-use Rattle.histories.specs.Entries.{Delivers, packets_of, sent}
-use Rattle.histories.specs.Weaving.{AreApart, AreNumbered}
+use Rattle.std.proofs.lemmas.List.{take-append-drop}
+use Rattle.std.proofs.lemmas.Option.{slice_get-map}
+use Rattle.ocpi_text.specs.{key}
+use Rattle.ocpi_types.specs.{Packet}
+use Rattle.histories.specs.{AreApart, AreNumbered, Delivers, Entry, IsGiven, IsUnsent, NodeHistory, packets_of, sent}
 use Rattle.histories.proofs.Lists.{got_after, got_left, got_pushed, got_taken, got_within, is_in, place_in, some_same, stands, take_one}
 use Rattle.histories.proofs.WovenLists.{sent_join, sent_one}
 use Rattle.weave.specs.declared.needs.Gap.{Gap}
@@ -24,9 +21,6 @@ use Rattle.weave.specs.TurnFaults.{Blames, BlamesIn, BlamesPacket, BlamesTurn, C
 use Rattle.weave.specs.Needs.{AreAllNeeds, AreNeeds, AreNeedsAt, IsGivenBy, IsMissing, IsNeed, IsTable, OfNothing, OfPacket, StandsAt, now_of, row_of, sent_in}
 
 module _ {A : Type 0} (hs : List NodeHistory) (rows : List (Vec (Bor Packet) A)) (table : IsTable hs rows) where
-  pub same_size : length rows ≡ length hs
-  same_size = sym (length-map rows row_of) ∙ ap length table ∙ length-map hs sent_in
-
   -- the row of a history has all that it sent
   pub row_is : (j : ℕ) (h : NodeHistory) (v : Vec (Bor Packet) A) → slice_get hs j ≡ Some h → slice_get rows j ≡ Some v → row_of v ≡ sent_in h
   row_is j h v here at = some_same (row_of v) (sent_in h) (
@@ -39,12 +33,6 @@ found_at row serial r at above = record {
   serial_is = omega (arith, above);
   stands = slice_get-map (λ (z : Bor Packet). z.now) row (serial - 1) ∙ ap (option_map (λ (z : Bor Packet). z.now)) at;
 }
-
-pub missing_none : (packets : List Packet) (serial : ℕ) → serial ≡ 0 → IsMissing packets serial
-missing_none packets serial is k at = absurd (omega (arith, is, at))
-
-pub missing_past : (row : List (Bor Packet)) (serial : ℕ) → length row < serial → IsMissing (now_of row) serial
-missing_past row serial past k at = slice_get_past (now_of row) k (let size = length-map row (λ (z : Bor Packet). z.now) in omega (arith, past, at, size))
 
 -- ---- what is told of a packet
 

@@ -1,6 +1,6 @@
 -- What was read at a place of a list, and places that count from 0.
-use Rattle.std.proofs.Common.{zero, suc, ◌≡◌, ℕ, ◌<◌, List, length, get_or, refl, sym, ap, ◌∙◌, arith, replicate}
-use Rattle.std.specs.Prelude.{Some, slice_get, slice_index, sum}
+use Rattle.std.proofs.Common.{zero, suc, ◌≡◌, ℕ, ◌<◌, List, length, get_or, refl, sym, ap, ◌∙◌, arith, replicate, Some}
+use Rattle.std.proofs.Common.{slice_get, slice_index, sum}
 use Rattle.std.proofs.lemmas.List.Sums.{sum_by-cons}
 use Rattle.std.proofs.lemmas.Option.{get_or_from_slice_get, slice_get-get_or}
 

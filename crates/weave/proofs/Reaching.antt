@@ -1,17 +1,16 @@
 -- How a weaving goes on, and what its end says.
-use Rattle.std.proofs.Common.{zero, suc, ◌≡◌, ◌≢◌, ℕ, ◌+◌, ◌-◌, ◌<◌, ◌≤◌, List, [], ◌∷◌, ◌++◌, length, take, drop, replicate, inl, inr, refl, sym, ap, subst, ◌∙◌, arith, append_assoc, append-nil, add-zero, length-append, length-set, take_all}
-use Rattle.std.specs.Prelude.{Some, Contains, slice_get, slice_index, slice_set, sum}
+use Rattle.std.proofs.Common.{zero, suc, ◌≡◌, ◌≢◌, ℕ, ◌+◌, ◌-◌, ◌<◌, ◌≤◌, List, [], ◌∷◌, ◌++◌, length, take, drop}
+use Rattle.std.proofs.Common.{replicate, inl, inr, refl, sym, ap, subst, ◌∙◌, arith, append_assoc, append-nil, add-zero}
+use Rattle.std.proofs.Common.{length-append, length-set, take_all, Some, Contains, slice_get, slice_index, slice_set}
+use Rattle.std.proofs.Common.{sum}
 use Rattle.std.proofs.lemmas.List.{get_or-set_other, get_or-set_same, take-append-drop}
 use Rattle.std.proofs.lemmas.List.Elements.{Contains-push_cases}
 use Rattle.std.proofs.lemmas.List.Sums.{sum_by-cons, sum_by-set}
-use Rattle.ocpi_text.specs.Text.{key}
-use Rattle.ocpi_types.specs.declared.packet.Packet.{Packet}
+use Rattle.ocpi_text.specs.{key}
+use Rattle.ocpi_types.specs.{Packet}
 use Rattle.tables.proofs.Elements.{in_none}
-use Rattle.histories.specs.declared.entry.Entry.{Entry}
-use Rattle.histories.specs.declared.history.NodeHistory.{NodeHistory}
-use Rattle.histories.specs.Causes.{HasMore}
-use Rattle.histories.specs.Entries.{IsNumbered, packets_of, sent}
-use Rattle.histories.specs.Weaving.{AreApart, AreNumbered, Woven, history}
+use Rattle.histories.specs.{AreApart, AreNumbered, Entry, HasMore, IsNumbered, NodeHistory, Woven, history, packets_of}
+use Rattle.histories.specs.{sent}
 use Rattle.histories.proofs.Lists.{got_after, got_front, got_left, got_within, is_in, place_in, some_same, stands, take_one}
 use Rattle.histories.proofs.WovenLists.{history_elsewhere, history_here, same_key, sent_join, sent_one}
 use Rattle.weave.specs.declared.needs.Need.{Need}
@@ -234,14 +233,6 @@ stuck_one given hs places newest i h e n here at need less g f there is =
     let is_h : h ≡ g = some_same h g (sym here ∙ there) in
     let is_e : e ≡ f = some_same e f (sym at ∙ ap (λ (z : NodeHistory). slice_get z.entries.now (slice_index places i)) is_h ∙ is) in
     subst (IsEarly given hs newest) is_e (early_one given hs newest e n need less)
-
--- and so is one at its end
-pub end_stuck : (given : List (List ℕ)) (hs : List NodeHistory) (places newest : List ℕ) (i : ℕ) (h : NodeHistory) → slice_get hs i ≡ Some h → length h.entries.now ≤ slice_index places i → IsStuck given hs places newest i
-end_stuck given hs places newest i h here past g f there is =
-    let is_h : h ≡ g = some_same h g (sym here ∙ there) in
-    let size = ap (λ (z : NodeHistory). length z.entries.now) is_h in
-    let inside = got_within g.entries.now (slice_index places i) f is in
-    absurd (omega (arith, past, inside, size))
 
 -- who sends what an entry waits for is one of the histories
 pub sender_within : (given : List (List ℕ)) (hs : List NodeHistory) (e : Entry) (n : Need) → IsNeed given hs e n → n.sender < length hs

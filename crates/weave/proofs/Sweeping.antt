@@ -1,7 +1,7 @@
 -- A sweep over the histories, and the end of the sweeps.
 use Rattle.std.proofs.Common.{◌≡◌, ℕ, ◌+◌, ◌-◌, ◌<◌, Bool, true, false, List, length, sym, subst, arith, below_more}
 use Rattle.std.specs.Bool.{OnFalse, OnTrue}
-use Rattle.histories.specs.declared.history.NodeHistory.{NodeHistory}
+use Rattle.histories.specs.{NodeHistory}
 use Rattle.weave.specs.declared.weaving.Weaving.{Weaving}
 use Rattle.weave.specs.Progress.{IsReached, IsStuckAt}
 use Rattle.weave.specs.Reached.{total}

@@ -1,12 +1,9 @@
 -- Whatever is told, but for want of memory, there is no interleaving; and what is told where nobody is given.
-use Rattle.std.proofs.Common.{◌≡◌, ◌≢◌, ◌⊎◌, ℕ, List, [], inl, inr, refl, sym, ap, subst, ◌∙◌}
-use Rattle.std.specs.Prelude.{IfNone, None, Option, Some, slice_get}
+use Rattle.std.proofs.Common.{◌≡◌, ◌≢◌, ◌⊎◌, ℕ, List, [], inl, inr, refl, sym, ap, subst, ◌∙◌, IfNone, None, Option}
+use Rattle.std.proofs.Common.{Some, slice_get}
 use Rattle.tables.proofs.Elements.{in_none}
-use Rattle.ocpi_types.specs.declared.packet.Packet.{Packet}
-use Rattle.histories.specs.declared.history.NodeHistory.{NodeHistory}
-use Rattle.histories.specs.Causes.{AreAllGiven, CameTo, IsBlock, IsUnsent}
-use Rattle.histories.specs.Entries.{Delivers}
-use Rattle.histories.specs.Weaving.{AreApart, AreNumbered, CanInterleave}
+use Rattle.ocpi_types.specs.{Packet}
+use Rattle.histories.specs.{AreApart, AreNumbered, CameTo, CanInterleave, Delivers, IsUnsent, NodeHistory}
 use Rattle.histories.proofs.Excluding.{blocks_exclude, different_excludes, never_sent_excludes}
 use Rattle.histories.proofs.Lists.{is_in, some_same}
 use Rattle.weave.specs.declared.fault.WeaveFault.{WeaveFault}
@@ -15,7 +12,7 @@ use Rattle.weave.specs.declared.turn.Turn.{Turn}
 use Rattle.weave.specs.declared.turn_fault.TurnFault.{TurnFault}
 use Rattle.weave.specs.declared.turn_fault.TurnFault.TheVariants as turns
 use Rattle.weave.specs.Faults.{Explains, IsFirst}
-use Rattle.weave.specs.Given.{AreAllGivenWith, CanInterleaveWith, IsBlockWith, IsFrom}
+use Rattle.weave.specs.Given.{CanInterleaveWith, IsFrom}
 use Rattle.weave.specs.TurnFaults.{CameFirst, Comes, ExplainsTurns, IsSentOtherwiseBy}
 use Rattle.weave.specs.Turns.{IsOrder, IsOrderWith}
 use Rattle.weave.proofs.Excluding as given
@@ -47,21 +44,7 @@ module _ (hs : List NodeHistory) where
   pub order_of : (turns : List Turn) → IsOrderWith [] hs turns → IsOrder hs turns
   order_of turns (xs, woven, are) = (xs, given.none_given [] hs xs (λ q came from. none_from q from) woven, are)
 
-  pub block_of : (front : List ℕ) → IsBlockWith [] hs front → IsBlock hs front
-  block_of front block = record {
-    size = block.size;
-    some = block.some;
-    each = λ i h e here at. let (q, asks, waits) = block.each i h e here at in (q, asks.0, waits);
-  }
-
-  pub all_of : AreAllGivenWith [] hs → AreAllGiven hs
-  all_of all q came = all q came (none_from q)
-
   module _ (t : Turn) (q : Packet) (came : CameFirst [] hs t q) where
-    -- some packet comes by that turn
-    pub comes : Comes hs t q
-    comes = record { entry = came.entry; at = came.at; delivers = came.asks.0 }
-
     came_to : CameTo hs q
     came_to = record {
       history = came.at.history;

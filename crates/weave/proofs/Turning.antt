@@ -1,11 +1,10 @@
 -- Turns as events.
 use Rattle.std.proofs.Common.{zero, suc, ◌≡◌, ℕ, ◌+◌, List, [], ◌∷◌, ◌++◌, length, map, take, refl, sym, ap, subst, ◌∙◌}
-use Rattle.std.specs.Prelude.{Some, slice_get}
+use Rattle.std.proofs.Common.{Some, slice_get}
 use Rattle.std.proofs.lemmas.List.{map-append}
-use Rattle.histories.specs.declared.history.NodeHistory.{NodeHistory}
-use Rattle.histories.specs.Weaving.{Woven, event_of}
+use Rattle.histories.specs.{NodeHistory, Woven, event_of}
 use Rattle.histories.proofs.Lists.{some_same, take_one}
-use Rattle.ocpi_types.specs.declared.events.Event.{Event}
+use Rattle.ocpi_types.specs.{Event}
 use Rattle.weave.specs.declared.turn.Turn.{Turn}
 use Rattle.weave.specs.Turns.{AreTurns, IsTurn}
 

@@ -1,11 +1,10 @@
 -- What the next entry of each history waits for, as histories go on.
-use Rattle.std.proofs.Common.{◌≡◌, ◌≢◌, ◌⊎◌, ℕ, ◌+◌, ◌<◌, List, get_or, length, replicate, inl, inr, sym, ap, ◌∙◌, arith, length-set}
-use Rattle.std.specs.Prelude.{Option, None, Some, Vec, option_map, slice_get, slice_index, slice_set}
+use Rattle.std.proofs.Common.{◌≡◌, ◌≢◌, ◌⊎◌, ℕ, ◌+◌, ◌<◌, List, get_or, length, replicate, inl, inr, sym, ap, ◌∙◌}
+use Rattle.std.proofs.Common.{arith, length-set, Option, None, Some, Vec, option_map, slice_get, slice_index, slice_set}
 use Rattle.std.proofs.lemmas.Bool.{cases_eq}
 use Rattle.std.proofs.lemmas.List.{length-map, get_or-set_other, get_or-set_same}
 use Rattle.std.proofs.lemmas.Option.{get_or_from_slice_get, slice_get-get_or, slice_get-map}
-use Rattle.histories.specs.declared.entry.Entry.{Entry}
-use Rattle.histories.specs.declared.history.NodeHistory.{NodeHistory}
+use Rattle.histories.specs.{Entry, NodeHistory}
 use Rattle.histories.proofs.Lists.{got_within, some_same, stands}
 use Rattle.weave.specs.declared.needs.Need.{Need}
 use Rattle.weave.specs.Needs.{AreAllNeeds, IsNeed}

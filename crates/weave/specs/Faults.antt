@@ -1,10 +1,7 @@
 -- What is told where histories are not woven.
 use Rattle.std.specs.Prelude.{◌≡◌, ◌<◌, ℕ, List, Some, slice_get}
-use Rattle.ocpi_types.specs.declared.packet.Packet.{Packet}
-use Rattle.histories.specs.declared.entry.Entry.{Entry}
-use Rattle.histories.specs.declared.history.NodeHistory.{NodeHistory}
-use Rattle.histories.specs.Causes.{AreAllGiven, IsBlock, IsDifferent, IsGiven, IsNeverSent}
-use Rattle.histories.specs.Entries.{Delivers}
+use Rattle.ocpi_types.specs.{Packet}
+use Rattle.histories.specs.{AreAllGiven, Delivers, Entry, IsBlock, IsDifferent, IsGiven, IsNeverSent, NodeHistory}
 use Rattle.weave.specs.declared.fault.WeaveFault.{WeaveFault}
 use Rattle.weave.specs.declared.fault.WeaveFault.TheVariants.{Differs, Memory, NeverSent, NoOrder}
 

@@ -1,13 +1,10 @@
 -- Interleavings in which what some parties sent is taken as it came. A list of given parties has them as they are
 -- spelled.
 use Rattle.std.specs.Prelude.{◌≡◌, ℕ, List, [], ◌∷◌, ◌++◌, Some, Contains, length, slice_get, slice_index}
-use Rattle.ocpi_text.specs.Text.{key}
-use Rattle.ocpi_types.specs.declared.packet.Packet.{Packet}
-use Rattle.histories.specs.declared.entry.Entry.{Entry}
-use Rattle.histories.specs.declared.history.NodeHistory.{NodeHistory}
-use Rattle.histories.specs.Causes.{CameTo, HasMore, IsGiven, IsGivenBefore}
-use Rattle.histories.specs.Entries.{Delivers, sent}
-use Rattle.histories.specs.Weaving.{CanInterleave, Interleaves, Woven, history}
+use Rattle.ocpi_text.specs.{key}
+use Rattle.ocpi_types.specs.{Packet}
+use Rattle.histories.specs.{CameTo, CanInterleave, Delivers, Entry, HasMore, Interleaves, IsGiven, IsGivenBefore}
+use Rattle.histories.specs.{NodeHistory, Woven, history, sent}
 
 -- the packet is from a given party, in whichever case
 abbrev pub IsFrom : List (List ℕ) → Packet → Type 0

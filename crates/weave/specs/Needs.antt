@@ -1,11 +1,9 @@
 -- The packets of each history by their serials, and what each entry waits for.
 use Rattle.std.specs.Prelude.{◌≡◌, ℕ, ◌+◌, List, None, Some, Vec, length, map, slice_get}
 use Rattle.std.specs.Borrow.{Bor}
-use Rattle.ocpi_text.specs.Text.{key}
-use Rattle.ocpi_types.specs.declared.packet.Packet.{Packet}
-use Rattle.histories.specs.declared.entry.Entry.{Entry}
-use Rattle.histories.specs.declared.history.NodeHistory.{NodeHistory}
-use Rattle.histories.specs.Entries.{sent}
+use Rattle.ocpi_text.specs.{key}
+use Rattle.ocpi_types.specs.{Packet}
+use Rattle.histories.specs.{Entry, NodeHistory, sent}
 use Rattle.weave.specs.declared.needs.Need.{Need}
 use Rattle.weave.specs.Given.{Asks}
 

@@ -1,6 +1,6 @@
 -- How far a weaving is.
 use Rattle.std.specs.Prelude.{◌≡◌, ◌<◌, ◌≤◌, ℕ, List, Option, Some, Vec, length, map, slice_get, slice_index}
-use Rattle.histories.specs.declared.history.NodeHistory.{NodeHistory}
+use Rattle.histories.specs.{NodeHistory}
 use Rattle.weave.specs.declared.needs.Need.{Need}
 use Rattle.weave.specs.declared.weaving.Weaving.{Weaving}
 use Rattle.weave.specs.Reached.{IsStuck, Reached}

@@ -1,11 +1,8 @@
 -- How far histories are woven.
 use Rattle.std.specs.Prelude.{◌≡◌, ◌<◌, ◌≤◌, ℕ, List, [], Option, None, Some, Contains, length, slice_get, slice_index, sum, sum_by, take}
-use Rattle.ocpi_text.specs.Text.{key}
-use Rattle.ocpi_types.specs.declared.packet.Packet.{Packet}
-use Rattle.histories.specs.declared.entry.Entry.{Entry}
-use Rattle.histories.specs.declared.history.NodeHistory.{NodeHistory}
-use Rattle.histories.specs.Entries.{sent}
-use Rattle.histories.specs.Weaving.{Woven, history}
+use Rattle.ocpi_text.specs.{key}
+use Rattle.ocpi_types.specs.{Packet}
+use Rattle.histories.specs.{Entry, NodeHistory, Woven, history, sent}
 use Rattle.weave.specs.declared.turn.Turn.{Turn}
 use Rattle.weave.specs.Given.{Asks, IsWovenWith}
 use Rattle.weave.specs.Turns.{AreTurns}

@@ -1,13 +1,9 @@
 -- What is told where there is no order of entries, by the entries that it names. What given parties sent is taken as it
 -- came.
 use Rattle.std.specs.Prelude.{◌≡◌, ◌≢◌, ◌⊎◌, ◌<◌, ◌≤◌, ℕ, List, [], Some, Contains, length, slice_get, slice_index, take}
-use Rattle.ocpi_text.specs.Text.{key}
-use Rattle.ocpi_types.specs.declared.packet.Packet.{Packet}
-use Rattle.histories.specs.declared.entry.Entry.{Entry}
-use Rattle.histories.specs.declared.history.NodeHistory.{NodeHistory}
-use Rattle.histories.specs.Causes.{IsGiven, IsUnsent}
-use Rattle.histories.specs.Entries.{Delivers, packets_of}
-use Rattle.histories.specs.Weaving.{Woven, history}
+use Rattle.ocpi_text.specs.{key}
+use Rattle.ocpi_types.specs.{Packet}
+use Rattle.histories.specs.{Delivers, Entry, IsGiven, IsUnsent, NodeHistory, Woven, history, packets_of}
 use Rattle.weave.specs.declared.needs.Gap.{Gap}
 use Rattle.weave.specs.declared.needs.Gap.TheVariants as gap
 use Rattle.weave.specs.declared.needs.Need.{Need}

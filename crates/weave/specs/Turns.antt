@@ -1,7 +1,6 @@
 -- An order of the entries of histories, in which each is named by its history and its place there.
 use Rattle.std.specs.Prelude.{◌≡◌, ℕ, List, [], ◌∷◌, Some, slice_get}
-use Rattle.histories.specs.declared.history.NodeHistory.{NodeHistory}
-use Rattle.histories.specs.Weaving.{Interleaves, Woven}
+use Rattle.histories.specs.{Interleaves, NodeHistory, Woven}
 use Rattle.weave.specs.Given.{InterleavesWith}
 use Rattle.weave.specs.declared.turn.Turn.{Turn}
 

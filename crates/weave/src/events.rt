@@ -1,9 +1,7 @@
 //! Turns as events of a world.
 
 ghost use Rattle.std.specs.Prelude.{◌≡◌, ◌<◌, ◌++◌, ◌∷◌, [], IfOk, OnOk, Some as SomeOf, length, slice_get};
-ghost use Rattle.histories.specs.declared.entry.Entry.{Entry as EntryOf};
-ghost use Rattle.histories.specs.declared.history.NodeHistory.{NodeHistory as HistoryOf};
-ghost use Rattle.histories.specs.Weaving.{IsInterleaving, Woven, event_of, kind_of};
+ghost use Rattle.histories.specs.{Entry as EntryOf, IsInterleaving, NodeHistory as HistoryOf, Woven, event_of, kind_of};
 ghost use Rattle.weave.specs.Turns.{IsOrder, IsTurn};
 
 use crate::turn::Turn;

@@ -1,9 +1,8 @@
 //! Why histories are not woven.
 
 ghost use Rattle.std.specs.Prelude.{◌≡◌, ◌⊎◌, ◌<◌, [], IfNone, IfSome, Some as SomeOf, length, slice_get};
-ghost use Rattle.histories.specs.declared.entry.Entry.{Entry as EntryOf};
-ghost use Rattle.histories.specs.Entries.{Delivers};
-ghost use Rattle.ocpi_types.specs.declared.packet.Packet.{Packet as PacketOf};
+ghost use Rattle.histories.specs.{Delivers, Entry as EntryOf};
+ghost use Rattle.ocpi_types.specs.{Packet as PacketOf};
 ghost use Rattle.weave.specs.declared.fault.WeaveFault.TheVariants.{Differs as OfDiffers, Memory, NeverSent as OfNeverSent};
 ghost use Rattle.weave.specs.Faults.{Explains};
 ghost use Rattle.weave.specs.TurnFaults.{Comes, ExplainsTurns};

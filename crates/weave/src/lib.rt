@@ -19,7 +19,7 @@
 #![tactic(auto)]
 
 ghost use Rattle.std.specs.Prelude.{◌≢◌, [], IfErr, IfOk};
-ghost use Rattle.histories.specs.Weaving.{AreApart, AreNumbered, CanInterleave, IsInterleaving};
+ghost use Rattle.histories.specs.{AreApart, AreNumbered, CanInterleave, IsInterleaving};
 ghost use Rattle.weave.specs.declared.fault.WeaveFault.TheVariants.{Memory as OfMemory};
 ghost use Rattle.weave.specs.declared.turn_fault.TurnFault.TheVariants.{Memory as TurnsOfMemory};
 ghost use Rattle.weave.specs.Faults.{Explains};

@@ -2,12 +2,9 @@
 //! none.
 
 ghost use Rattle.std.specs.Prelude.{◌≡◌, ◌<◌, IfErr, IfNone, IfOk, IfSome, IsTrue, Contains, false, length, Some as SomeOf, slice_get};
-ghost use Rattle.ocpi_text.specs.Text.{key};
-ghost use Rattle.ocpi_types.specs.declared.packet.Packet.{Packet as PacketOf};
-ghost use Rattle.histories.specs.declared.entry.Entry.{Entry as EntryOf};
-ghost use Rattle.histories.specs.declared.history.NodeHistory.{NodeHistory as HistoryOf};
-ghost use Rattle.histories.specs.Entries.{Delivers, sent};
-ghost use Rattle.histories.specs.Weaving.{AreApart, AreNumbered};
+ghost use Rattle.ocpi_text.specs.{key};
+ghost use Rattle.ocpi_types.specs.{Packet as PacketOf};
+ghost use Rattle.histories.specs.{AreApart, AreNumbered, Delivers, Entry as EntryOf, NodeHistory as HistoryOf, sent};
 ghost use Rattle.weave.specs.Given.{Asks, IsFrom};
 ghost use Rattle.weave.specs.Needs.{AreAllNeeds, AreNeedsAt, IsGivenBy, IsMissing, IsNeed, IsTable, StandsAt, now_of, row_of, sent_in};
 ghost use Rattle.weave.specs.TurnFaults.{Blames, BlamesIn, BlamesPacket, BlamesTurn, ExplainsTurns};

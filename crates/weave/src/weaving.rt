@@ -2,9 +2,7 @@
 
 ghost use Rattle.std.specs.Prelude.{◌≡◌, ◌+◌, ◌<◌, ◌≤◌, ◌-◌, ℕ, IfErr, IfOk, List, OnOk, Some as SomeOf, length, slice_get};
 ghost use Rattle.std.specs.Bool.{OnFalse, OnTrue};
-ghost use Rattle.histories.specs.declared.entry.Entry.{Entry as EntryOf};
-ghost use Rattle.histories.specs.Causes.{HasMore};
-ghost use Rattle.histories.specs.Weaving.{AreApart, AreNumbered};
+ghost use Rattle.histories.specs.{AreApart, AreNumbered, Entry as EntryOf, HasMore};
 ghost use Rattle.weave.specs.Needs.{AreAllNeeds};
 ghost use Rattle.weave.specs.Progress.{AllStuck, AreDone, AreFirst, IsReached, IsStuckAt, IsUnderWay};
 ghost use Rattle.weave.specs.Reached.{serial_in};

@@ -1,9 +1,9 @@
 -- The parties that words name.
 use Rattle.std.proofs.Common.{◌≡◌, ℕ, ◌+◌, List, [], ◌∷◌, ◌++◌, take, sym, subst, Ok, Result, IsTrue, false, inl, inr}
+use Rattle.std.proofs.Common.{Contains, Some, slice_get}
 use Rattle.std.specs.Borrow.{Bor}
 use Rattle.std.proofs.lemmas.List.Elements.{Contains-append_cases}
-use Rattle.std.specs.Prelude.{Contains, Some, slice_get}
-use Rattle.ocpi_types.specs.declared.setup.Node.{Node}
+use Rattle.ocpi_types.specs.{Node}
 use Rattle.histories.proofs.Lists.{take_one}
 use Rattle.tables.proofs.Elements.{in_single}
 use Rattle.transcripts.specs.Told.{Told}

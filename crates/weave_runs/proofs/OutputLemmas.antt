@@ -1,34 +1,25 @@
 -- What is written of transcripts of nodes of a setup.
-use Rattle.std.proofs.Common.{◌≡◌, ◌⊎◌, ◌∙◌, ℕ, List, Option, Result, IfErr, IfOk, ap, map, sym, subst, take, arith, refl, inl, inr, Ok, Err, string_bytes}
+use Rattle.std.proofs.Common.{◌≡◌, ◌⊎◌, ◌∙◌, ℕ, List, Option, Result, IfErr, IfOk, ap, map, sym, subst, take, arith}
+use Rattle.std.proofs.Common.{refl, inl, inr, Ok, Err, string_bytes, ◌≢◌, Contains, Some, slice_get}
 use Rattle.std.proofs.lemmas.Option.{slice_get_within}
 use Rattle.std.specs.Borrow.{Bor}
 use Rattle.std.specs.Io.KnownBytes.{Appends}
-use Rattle.std.specs.Prelude.{◌≢◌, Contains, Some, slice_get}
 use Rattle.ocpi_types.specs.declared.node_events.NodeEventKind.TheVariants as event
-use Rattle.ocpi_types.specs.declared.packet.Packet.{Packet}
-use Rattle.ocpi_types.specs.declared.setup.Node.{Node}
-use Rattle.histories.specs.declared.entry.Entry.{Entry}
-use Rattle.histories.specs.declared.history.NodeHistory.{NodeHistory}
-use Rattle.histories.specs.Entries.{Delivers, packets_of}
-use Rattle.histories.specs.Weaving.{Woven, event_of}
+use Rattle.ocpi_types.specs.{Node, Packet}
+use Rattle.histories.specs.{Delivers, Entry, NodeHistory, Woven, event_of, packets_of}
 use Rattle.histories.proofs.Lists.{is_in, stands}
 use Rattle.history_laws.specs.Laws.{InterleavingsAreRuns}
-use Rattle.line_runs.specs.declared.outcome.Ran.{Ran}
-use Rattle.line_runs.specs.declared.outcome.RunFault.TheVariants.{WriteFailed}
+use Rattle.line_runs.specs.{Ran, WriteFailed}
 use Rattle.node_replay.specs.Replayed.{restart_entry}
 use Rattle.tables.proofs.Elements.{in_none}
-use Rattle.transcript_parts.specs.declared.fault.TranscriptFault.{TranscriptFault}
+use Rattle.transcript_parts.specs.{TranscriptFault}
 use Rattle.transcripts.specs.Told.{IsSource, Told}
 use Rattle.transcripts.specs.declared.source.Source.{Source}
 use Rattle.transcripts.specs.declared.source.Source.TheVariants as source
-use Rattle.weave.specs.Faults.{EntryAt}
-use Rattle.weave.specs.Given.{CanInterleaveWith, NoneGiven}
-use Rattle.weave.specs.TurnFaults.{ExplainsTurns, IsSentOtherwiseBy}
-use Rattle.weave.specs.Turns.{IsOrderWith}
-use Rattle.weave.specs.declared.turn.Turn.{Turn}
-use Rattle.weave.specs.declared.turn_fault.TurnFault.{TurnFault}
+use Rattle.weave.specs.{CanInterleaveWith, EntryAt, ExplainsTurns, IsOrderWith, IsSentOtherwiseBy, NoneGiven, Turn}
+use Rattle.weave.specs.{TurnFault}
 use Rattle.weave.specs.declared.turn_fault.TurnFault.TheVariants as weave
-use Rattle.world_laws.specs.Laws.{IsSetup}
+use Rattle.world_laws.specs.{IsSetup}
 use Rattle.weave_runs.specs.declared.fault.WeaveRunFault.{WeaveRunFault}
 use Rattle.weave_runs.specs.declared.fault.WeaveRunFault.TheVariants.{Run}
 use Rattle.weave_runs.specs.declared.told.TranscriptFile.{TranscriptFile}

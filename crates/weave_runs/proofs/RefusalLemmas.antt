@@ -1,16 +1,13 @@
 -- The lines of refusals, as they are made.
-use Rattle.std.proofs.Common.{zero, suc, ◌≡◌, ◌∙◌, ℕ, ◌+◌, List, [], ◌∷◌, ◌++◌, Bool, true, false, Option, None, bytes_eq, cond, drop, sym, subst, ap, add-one, refl}
+use Rattle.std.proofs.Common.{zero, suc, ◌≡◌, ◌∙◌, ℕ, ◌+◌, List, [], ◌∷◌, ◌++◌, Bool, false, Option, None, bytes_eq}
+use Rattle.std.proofs.Common.{cond, drop, sym, subst, ap, add-one, refl, IfNone, IfSome, Some, slice_get}
 use Rattle.std.proofs.lemmas.List.{append_assoc}
-use Rattle.std.specs.Prelude.{IfNone, IfSome, Some, slice_get}
-use Rattle.ocpi_text.specs.Text.{key}
-use Rattle.ocpi_types.specs.Setups.{node_key, party_of}
-use Rattle.ocpi_types.specs.declared.setup.Node.{Node}
+use Rattle.ocpi_text.specs.{key}
+use Rattle.ocpi_types.specs.{Node, Packet, node_key, party_of}
 use Rattle.histories.proofs.Lists.{some_same}
-use Rattle.ocpi_types.specs.declared.packet.Packet.{Packet}
-use Rattle.histories.specs.declared.entry.Entry.{Entry}
-use Rattle.histories.specs.Entries.{Delivers}
+use Rattle.histories.specs.{Delivers, Entry}
 use Rattle.transcripts.specs.Told.{Told}
-use Rattle.weave.specs.declared.turn.Turn.{Turn}
+use Rattle.weave.specs.{Turn}
 use Rattle.weave_runs.specs.declared.told.TranscriptFile.{TranscriptFile}
 use Rattle.weave_runs.specs.Refusals.{DeliversAt, IsLineOf, front_places, mark_of, marked, next_number, place_list, place_text, spelled}
 
@@ -24,12 +21,6 @@ drop_one (y ∷ xs) (suc k) x at = drop_one xs k x at ∙ ap (λ n. x ∷ drop n
 module _ (nodes : List Node) (party : List ℕ) (i : ℕ) (n : Node) (at : slice_get nodes i ≡ Some n) (so_far : spelled nodes party ≡ spelled (drop i nodes) party) where
   here : (b : Bool) → b ≡ bytes_eq (node_key n) (key party) → spelled nodes party ≡ cond b (party_of n) (spelled (drop (i + 1) nodes) party)
   here b is = so_far ∙ ap (λ ns. spelled ns party) (drop_one nodes i n at) ∙ ap (λ c. cond c (party_of n) (spelled (drop (i + 1) nodes) party)) (sym is)
-
-  pub spelled_here : true ≡ bytes_eq (node_key n) (key party) → spelled nodes party ≡ party_of n
-  spelled_here is = here true is
-
-  pub spelled_later : false ≡ bytes_eq (node_key n) (key party) → spelled nodes party ≡ spelled (drop (i + 1) nodes) party
-  spelled_later is = here false is
 
 -- ---- the next lines of files
 
@@ -101,8 +92,5 @@ module _ (told : List Told) (t : Turn) where
       line_of f line at is = record { file = f; of_file = at; name_is = refl; teller_of = u; here = here; line_is = is }
 
   module _ (files : List TranscriptFile) (name : List ℕ) (line : ℕ) where
-    pub no_file : slice_get files t.history ≡ None → IsLineOf files told t name line → ⊥
-    no_file none is = nothing_there (slice_get files t.history) is.file none is.of_file
-
     pub no_teller_of_line : slice_get told t.history ≡ None → IsLineOf files told t name line → ⊥
     no_teller_of_line none is = nothing_there (slice_get told t.history) is.teller_of none is.here

@@ -1,17 +1,14 @@
 -- A run stays one where its events spell their nodes in another case.
-use Rattle.std.proofs.Common.{◌≡◌, ◌∙◌, ℕ, List, [], ◌∷◌, map, sym, ap, subst}
-use Rattle.std.specs.Prelude.{Contains}
-use Rattle.ocpi_text.specs.Text.{key}
-use Rattle.ocpi_types.specs.declared.events.Event.{Event}
-use Rattle.ocpi_types.specs.declared.events.EventKind.{EventKind}
-use Rattle.ocpi_types.specs.declared.setup.Node.{Node}
-use Rattle.histories.specs.declared.history.NodeHistory.{NodeHistory}
-use Rattle.histories.specs.Weaving.{event_of}
+use Rattle.std.proofs.Common.{◌≡◌, ◌∙◌, ℕ, List, [], ◌∷◌, map, sym, ap, subst, Contains}
+use Rattle.ocpi_text.specs.{key}
+use Rattle.ocpi_types.specs.{Event, EventKind, Node}
+use Rattle.histories.specs.{NodeHistory, event_of}
 use Rattle.histories.proofs.Lists.{in_later}
 use Rattle.history_laws.specs.Laws.{IsRunOf}
 use Rattle.tables.proofs.Elements.{in_front}
-use Rattle.world_steps.specs.Steps.{Does, Gives, IsForNone, Loses, NoNode, NothingReaches, Outcome, Passes, Refuses, WorldRun, WorldStep}
-use Rattle.world_steps.specs.World.{IsAt, NodeState, Place, World}
+use Rattle.world_steps.specs.{Does, Gives, IsAt, IsForNone, Loses, NoNode, NodeState, NothingReaches, Outcome, Passes}
+use Rattle.world_steps.specs.{Place, Refuses, WorldRun, WorldStep}
+use Rattle.world_steps.specs.World.{World}
 use Rattle.weave_runs.specs.Steps.{Came, Delivered, Given, IsStep, Restarted, Step, entry_of, event_told}
 
 -- ---- one step

@@ -1,27 +1,21 @@
 -- The lines of entries, and those of the entries that turns name.
-use Rattle.std.proofs.Common.{◌≡◌, ◌∙◌, ℕ, ◌+◌, List, [], ◌∷◌, ◌++◌, length, take, map, sym, ap, subst, option_map, arith, refl, Ok, Err, OnOk, Result, ◌⊎◌, inl, inr}
+use Rattle.std.proofs.Common.{◌≡◌, ◌∙◌, ℕ, ◌+◌, List, [], ◌∷◌, ◌++◌, length, take, map, sym, ap, subst, option_map}
+use Rattle.std.proofs.Common.{arith, refl, Ok, Err, OnOk, Result, ◌⊎◌, inl, inr, Contains, Some, slice_get}
 use Rattle.std.proofs.lemmas.List.{append-nil, append_assoc, length-map}
 use Rattle.std.proofs.lemmas.List.Concat.{flat_map-append}
 use Rattle.std.proofs.lemmas.Option.{slice_get-map, slice_get_within}
 use Rattle.std.proofs.lemmas.List.Elements.{Contains-append_cases}
-use Rattle.std.specs.Prelude.{Contains, Some, slice_get}
-use Rattle.ocpi_types.specs.declared.node_events.NodeEventKind.{NodeEventKind}
+use Rattle.ocpi_types.specs.{NodeEventKind, Packet}
 use Rattle.ocpi_types.specs.declared.node_events.NodeEventKind.TheVariants as event
-use Rattle.ocpi_types.specs.declared.packet.Packet.{Packet}
-use Rattle.histories.specs.declared.entry.Entry.{Entry}
-use Rattle.histories.specs.declared.history.NodeHistory.{NodeHistory}
-use Rattle.histories.specs.Weaving.{Woven, event_of, kind_of}
+use Rattle.histories.specs.{Entry, NodeHistory, Woven, event_of, kind_of}
 use Rattle.histories.proofs.Lists.{some_same, stands, take_one}
 use Rattle.node_replay.specs.Replayed.{restart_entry}
 use Rattle.tables.proofs.Elements.{in_none, in_single}
-use Rattle.transcript_lines.specs.EventLines.{NodeLinesAreLines, delivery_text, restart_text}
-use Rattle.transcripts.specs.Told.{IsEventLine, IsSource, IsTold, Told}
-use Rattle.transcripts.specs.declared.source.Source.{Source}
-use Rattle.weave.specs.declared.turn.Turn.{Turn}
-use Rattle.weave.specs.Given.{InterleavesWith, IsFrom}
-use Rattle.weave.specs.Turns.{AreTurns, IsOrderWith, IsTurn}
+use Rattle.transcript_lines.specs.{NodeLinesAreLines, delivery_text, restart_text}
+use Rattle.transcripts.specs.Told.{IsEventLine, Told}
+use Rattle.weave.specs.{AreTurns, InterleavesWith, IsFrom, IsOrderWith, IsTurn, Turn}
 use Rattle.weave.proofs.Turning.{one_entry, turn_at}
-use Rattle.weave_runs.specs.Histories.{AreHistories, Lived, lived, lived_told, teller}
+use Rattle.weave_runs.specs.Histories.{AreHistories, Lived, lived, lived_told}
 use Rattle.weave_runs.specs.Steps.{AddsDelivery, AddsLine, AddsRestart, AddsStep, AddsTurn, AreNamed, AreStepsOf, Came, Delivered, Given, HasSteps, IsStep, Names, Restarted, Step, ended, entry_of, step_text, steps_text}
 
 pub on_ok : {T E P Q : Type 0} (r : Result T E) → (P → Q) → OnOk r P → OnOk r Q
@@ -84,11 +78,6 @@ module _ (given : List (List ℕ)) where
     | inr none ↦ came_other law party e line before after is none adds
   ]
 
--- what stands at the place of an entry is its source
-pub source_of : (told : List Told) (t : Turn) (x : Woven) (u : Told) (e : Entry) (source : Source) → Names told t x → slice_get told t.history ≡ Some u → slice_get u.replay.entries t.entry ≡ Some e
-    → slice_get u.sources t.entry ≡ Some source → IsTold u → IsSource (teller u) e source
-source_of told t x u e source names here there from is = is.are_sources.each t.entry e source there from
-
 -- ---- the lines of turns
 
 module _ (given : List (List ℕ)) (told : List Told) where
@@ -107,9 +96,6 @@ module _ (given : List (List ℕ)) (told : List Told) where
     | inl here ↦ subst (IsStep given) (in_single y s here) first
     | inr later ↦ each_step ts steps rest s later
   ]
-
-  pub steps_none : (line text : List ℕ) → text ≡ ended line → HasSteps given told [] line text
-  steps_none line text is = ([], tt, is ∙ sym (append-nil (ended line)))
 
   -- one line more
   pub steps_more : (turns : List Turn) (i : ℕ) (t : Turn) (line before after : List ℕ) → slice_get turns i ≡ Some t → HasSteps given told (take i turns) line before → AddsTurn given told t before after

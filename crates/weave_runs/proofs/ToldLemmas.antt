@@ -1,43 +1,31 @@
 -- The histories of transcripts of nodes of a setup are replayed from its opening, and numbered.
-use Rattle.std.proofs.Common.{◌≡◌, ◌⊎◌, ◌∙◌, ℕ, ◌+◌, List, [], ◌∷◌, ◌++◌, length, take, drop, take-append-drop, map, sym, ap, subst, option_map, arith, refl, inl, inr}
-use Rattle.std.proofs.lemmas.List.{length-append, length-map, map-append, take-append-le, take_at}
+use Rattle.std.proofs.Common.{◌≡◌, ◌⊎◌, ◌∙◌, ℕ, ◌+◌, List, [], ◌∷◌, ◌++◌, length, take, drop, take-append-drop, map}
+use Rattle.std.proofs.Common.{sym, ap, subst, option_map, arith, inl, inr, ◌≢◌, Contains, Some, slice_get}
+use Rattle.std.proofs.lemmas.List.{length-append, length-map, take-append-le, take_at}
 use Rattle.std.proofs.lemmas.List.Elements.{Contains-append_cases}
-use Rattle.std.specs.Prelude.{◌≢◌, Contains, Some, slice_get}
 use Rattle.std.proofs.lemmas.Option.{slice_get-map, slice_get_within}
-use Rattle.ocpi_text.specs.Text.{key}
-use Rattle.ocpi_types.specs.declared.setup.Node.{Node}
-use Rattle.histories.specs.declared.entry.Entry.{Entry}
-use Rattle.histories.specs.declared.history.NodeHistory.{NodeHistory}
-use Rattle.histories.specs.Weaving.{AreApart, AreNumbered}
+use Rattle.ocpi_text.specs.{key}
+use Rattle.ocpi_types.specs.{Node}
+use Rattle.histories.specs.{AreApart, AreNumbered, Entry, NodeHistory}
 use Rattle.histories.proofs.Lists.{got_pushed, got_within, is_in, place_in, some_same, stands, take_one}
 use Rattle.history_laws.specs.Laws.{AreReplayed, IsReplayed, ReplaysAreNumbered}
 use Rattle.history_laws.specs.Replays.{Replays}
-use Rattle.tables.proofs.Elements.{in_none, in_single}
+use Rattle.tables.proofs.Elements.{in_single}
 use Rattle.transcripts.specs.Accusing.{AccusesRightly}
 use Rattle.transcripts.specs.Following.{IsTranscriptOf}
 use Rattle.transcripts.specs.Told.{IsTold, Told}
 use Rattle.transcripts.specs.Ways.{TooManyFit}
-use Rattle.transcript_parts.specs.declared.fault.TranscriptFault.{TranscriptFault}
+use Rattle.transcript_parts.specs.{TranscriptFault}
 use Rattle.weave_runs.specs.Accusations.{RefusesAt}
 use Rattle.weave_runs.specs.declared.told.TranscriptFile.{TranscriptFile}
 use Rattle.weave_runs.proofs.RefusalLemmas.{drop_one}
-use Rattle.world_laws.specs.Laws.{IsSetup}
-use Rattle.world_steps.specs.World.{opening_of}
+use Rattle.world_laws.specs.{IsSetup}
+use Rattle.world_steps.specs.{opening_of}
 use Rattle.weave_runs.specs.Histories.{AreHistories, AreToldOf, AreTranscripts, Lived, lived, lived_told, state_told, teller}
 
 -- ---- one more
 
--- one transcript more, and its history
-pub history_more : (hs longer : List NodeHistory) (told : List Told) (i : ℕ) (h : NodeHistory) (t : Told) → slice_get told i ≡ Some t → AreHistories hs (take i told) → lived h ≡ lived_told t
-    → longer ≡ hs ++ h ∷ [] → AreHistories longer (take (i + 1) told)
-history_more hs longer told i h t at are same is =
-    ap (map lived) is ∙ map-append lived hs (h ∷ []) ∙ ap (λ l. l ++ lived h ∷ []) are ∙ ap (λ (x : Lived). map lived_told (take i told) ++ x ∷ []) same
-    ∙ sym (map-append lived_told (take i told) (t ∷ [])) ∙ ap (map lived_told) (sym (take_one told i t at))
-
 module _ (setup : List Node) where
-  pub none_told : AreToldOf setup []
-  none_told = record { each = λ t within. absurd (in_none t within); apart = λ i j t u here there same. cc }
-
   -- one transcript more, of a node that none before has
   pub told_more : (told : List Told) (t : Told) → AreToldOf setup told → IsTold t → t.replay.setup ≡ setup → ((x : Told) → Contains told x → key (teller x) ≢ key (teller t))
       → AreToldOf setup (told ++ t ∷ [])
@@ -57,9 +45,6 @@ module _ (setup : List Node) where
 
       apart : (i j : ℕ) (x y : Told) → slice_get (told ++ t ∷ []) i ≡ Some x → slice_get (told ++ t ∷ []) j ≡ Some y → key (teller x) ≡ key (teller y) → i ≡ j
       apart i j x y here there same = both i j x y same (got_pushed told t i x here) (got_pushed told t j y there)
-
-  pub no_transcripts : (files : List TranscriptFile) → AreTranscripts setup (take 0 files) []
-  no_transcripts files = record { size = refl; each = λ i f t here there. cc }
 
   -- one file more
   pub transcripts_more : (files : List TranscriptFile) (told : List Told) (i : ℕ) (f : TranscriptFile) (t : Told) → slice_get files i ≡ Some f → AreTranscripts setup (take i files) told

@@ -1,10 +1,8 @@
 -- How files begin, and which is refused.
 use Rattle.std.specs.Prelude.{◌≡◌, ℕ, List, [], ◌∷◌, ◌++◌, Ok}
-use Rattle.ocpi_json.specs.SetupForms.{setup_in}
-use Rattle.ocpi_types.specs.declared.setup.Node.{Node}
-use Rattle.transcript_parts.specs.declared.fault.TranscriptFault.{TranscriptFault}
-use Rattle.transcript_parts.specs.Beginnings.{Accuses, BeginsWith, IsOfOneWay}
-use Rattle.transcript_parts.specs.Lines.{lines_in}
+use Rattle.ocpi_json.specs.{setup_in}
+use Rattle.ocpi_types.specs.{Node}
+use Rattle.transcript_parts.specs.{Accuses, BeginsWith, IsOfOneWay, TranscriptFault, lines_in}
 use Rattle.transcripts.specs.Accusing.{AccusesRightly}
 use Rattle.transcripts.specs.Following.{IsTranscriptOf}
 use Rattle.transcripts.specs.Told.{Told}

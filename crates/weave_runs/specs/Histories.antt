@@ -1,14 +1,12 @@
 -- Transcripts of nodes of one setup, and their histories.
 use Rattle.std.specs.Prelude.{◌≡◌, ℕ, List, Some, Contains, length, map, slice_get, take}
-use Rattle.ocpi_text.specs.Text.{key}
-use Rattle.ocpi_types.specs.Setups.{party_of}
-use Rattle.ocpi_types.specs.declared.setup.Node.{Node}
-use Rattle.histories.specs.declared.entry.Entry.{Entry}
-use Rattle.histories.specs.declared.history.NodeHistory.{NodeHistory}
+use Rattle.ocpi_text.specs.{key}
+use Rattle.ocpi_types.specs.{Node, party_of}
+use Rattle.histories.specs.{Entry, NodeHistory}
 use Rattle.transcripts.specs.Following.{IsTranscriptOf}
 use Rattle.transcripts.specs.Told.{IsTold, Told}
 use Rattle.weave_runs.specs.declared.told.TranscriptFile.{TranscriptFile}
-use Rattle.world_steps.specs.World.{NodeState}
+use Rattle.world_steps.specs.{NodeState}
 
 -- whose node it is
 abbrev pub teller : Told → List ℕ

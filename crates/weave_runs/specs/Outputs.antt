@@ -1,18 +1,13 @@
 -- What is written of files.
 use Rattle.std.specs.Prelude.{◌≡◌, ◌⊎◌, ℕ, List, [], ◌++◌, Option, Contains, map, string_bytes}
 use Rattle.std.specs.Borrow.{Bor}
-use Rattle.ocpi_types.specs.declared.setup.Node.{Node}
-use Rattle.histories.specs.declared.history.NodeHistory.{NodeHistory}
+use Rattle.ocpi_types.specs.{Node}
+use Rattle.histories.specs.{NodeHistory}
 use Rattle.history_laws.specs.Laws.{IsRunOf}
-use Rattle.line_runs.specs.Run.{gives_front}
-use Rattle.line_runs.specs.declared.outcome.Ran.{Ran}
-use Rattle.line_runs.specs.declared.outcome.Ran.TheVariants.{Whole, WithRefusals}
-use Rattle.line_runs.specs.declared.outcome.RunFault.TheVariants.{WriteFailed}
+use Rattle.line_runs.specs.{Ran, Whole, WithRefusals, WriteFailed, gives_front}
 use Rattle.transcripts.specs.Told.{Told}
-use Rattle.transcript_parts.specs.declared.fault.TranscriptFault.{TranscriptFault}
-use Rattle.weave.specs.Given.{CameFromNone, CanInterleaveWith, InterleavesWith}
-use Rattle.weave.specs.TurnFaults.{ExplainsTurns}
-use Rattle.weave.specs.declared.turn_fault.TurnFault.{TurnFault}
+use Rattle.transcript_parts.specs.{TranscriptFault}
+use Rattle.weave.specs.{CameFromNone, CanInterleaveWith, ExplainsTurns, InterleavesWith, TurnFault}
 use Rattle.weave_runs.specs.Accusations.{Begin, RefusesFile}
 use Rattle.weave_runs.specs.Histories.{AreHistories, AreToldOf, AreTranscripts, state_told}
 use Rattle.weave_runs.specs.Parties.{AreGiven, IsWrongAmong}

@@ -1,10 +1,8 @@
 -- The parties whose packets are taken as they came, as words name them.
 use Rattle.std.specs.Prelude.{◌≡◌, ℕ, List, [], ◌∷◌, Ok, Contains}
 use Rattle.std.specs.Borrow.{Bor}
-use Rattle.ocpi_text.specs.Party.{party_at}
-use Rattle.ocpi_text.specs.Text.{key}
-use Rattle.ocpi_types.specs.Setups.{party_of}
-use Rattle.ocpi_types.specs.declared.setup.Node.{Node}
+use Rattle.ocpi_text.specs.{key, party_at}
+use Rattle.ocpi_types.specs.{Node, party_of}
 use Rattle.transcripts.specs.Told.{Told}
 use Rattle.weave_runs.specs.Histories.{teller}
 use Rattle.weave_runs.specs.declared.fault.GivenFault.{GivenFault}

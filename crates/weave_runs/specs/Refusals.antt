@@ -1,18 +1,14 @@
 -- The lines of refusals.
 use Rattle.std.specs.Prelude.{◌≡◌, ℕ, Bool, true, false, List, [], ◌∷◌, ◌++◌, Option, None, Some, bytes_eq, codes, cond, decimal, length, slice_get}
-use Rattle.ocpi_text.specs.Text.{key}
-use Rattle.ocpi_types.specs.Setups.{node_key, party_of}
-use Rattle.ocpi_types.specs.declared.setup.Node.{Node}
-use Rattle.histories.specs.declared.entry.Entry.{Entry}
-use Rattle.histories.specs.Entries.{Delivers}
-use Rattle.ocpi_types.specs.declared.packet.Packet.{Packet}
+use Rattle.ocpi_text.specs.{key}
+use Rattle.ocpi_types.specs.{Node, Packet, node_key, party_of}
+use Rattle.histories.specs.{Delivers, Entry}
 use Rattle.transcripts.specs.Told.{Told}
-use Rattle.transcript_parts.specs.declared.fault.TranscriptFault.{TranscriptFault}
-use Rattle.transcript_parts.specs.declared.fault.TranscriptFault.TheVariants as file
+use Rattle.transcript_parts.specs.{TranscriptFault}
+use Rattle.transcript_parts.specs.transcript_fault as file
 use Rattle.transcripts.specs.declared.source.Source.{Source}
 use Rattle.transcripts.specs.declared.source.Source.TheVariants.{Echoed, Restarted}
-use Rattle.weave.specs.declared.turn.Turn.{Turn}
-use Rattle.weave.specs.declared.turn_fault.TurnFault.{TurnFault}
+use Rattle.weave.specs.{Turn, TurnFault}
 use Rattle.weave.specs.declared.turn_fault.TurnFault.TheVariants as weave
 use Rattle.weave_runs.specs.declared.told.TranscriptFile.{TranscriptFile}
 

@@ -1,18 +1,16 @@
 -- The lines of a woven run, and what they stand for.
 use Rattle.std.specs.Prelude.{◌≡◌, ◌≤◌, ℕ, List, [], ◌∷◌, ◌++◌, Ok, Some, flat_map, length, slice_get}
-use Rattle.json_text.specs.Line.{max_line}
-use Rattle.ocpi_json.specs.EventForms.{event_in}
-use Rattle.ocpi_text.specs.Text.{key}
-use Rattle.ocpi_types.specs.declared.events.Event.{Event}
-use Rattle.ocpi_types.specs.declared.events.EventKind.TheVariants as kind
+use Rattle.json_text.specs.{max_line}
+use Rattle.ocpi_json.specs.{event_in}
+use Rattle.ocpi_text.specs.{key}
+use Rattle.ocpi_types.specs.{Event, Packet}
+use Rattle.ocpi_types.specs.kind
 use Rattle.ocpi_types.specs.declared.node_events.NodeEventKind.TheVariants as event
-use Rattle.ocpi_types.specs.declared.packet.Packet.{Packet}
-use Rattle.histories.specs.Weaving.{Woven, event_of, kind_of}
+use Rattle.histories.specs.{Woven, event_of, kind_of}
 use Rattle.node_replay.specs.Replayed.{restart_entry}
-use Rattle.transcript_lines.specs.EventLines.{delivery_text, restart_text}
+use Rattle.transcript_lines.specs.{delivery_text, restart_text}
 use Rattle.transcripts.specs.Told.{IsEventLine, Told}
-use Rattle.weave.specs.Given.{IsFrom}
-use Rattle.weave.specs.declared.turn.Turn.{Turn}
+use Rattle.weave.specs.{IsFrom, Turn}
 use Rattle.weave_runs.specs.Histories.{teller}
 
 -- ---- one line

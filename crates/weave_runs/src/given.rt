@@ -1,7 +1,7 @@
 //! The parties whose packets are taken as they came.
 
 ghost use Rattle.std.specs.Prelude.{Contains, IfErr, IfNone, IfOk, IfSome, IsTrue, false, ◌≡◌};
-ghost use Rattle.ocpi_types.specs.declared.setup.Node.{Node as NodeOf};
+ghost use Rattle.ocpi_types.specs.{Node as NodeOf};
 ghost use Rattle.weave_runs.specs.Parties.{AreGiven, HasFile, IfWrong, IsGiven, IsWrong, NamesNode};
 
 use crate::fault::GivenFault;

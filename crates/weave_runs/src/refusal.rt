@@ -1,7 +1,7 @@
 //! Why transcripts are not woven, as a line.
 
 ghost use Rattle.std.specs.Prelude.{◌≡◌, ◌++◌, IfNone, IfOk, IfSome, List, OnOk, length, string_bytes, ℕ};
-ghost use Rattle.ocpi_types.specs.declared.packet.Packet.{Packet as PacketOf};
+ghost use Rattle.ocpi_types.specs.{Packet as PacketOf};
 ghost use Rattle.weave.specs.declared.turn_fault.TurnFault.TheVariants.{Differs as OfDiffers, NeverSent as OfNeverSent};
 ghost use Rattle.weave_runs.specs.Refusals.{
   CanTell,

@@ -1,11 +1,11 @@
 //! A woven run as input of `play`: the setup line, and a line for each entry.
 
 ghost use Rattle.std.specs.Prelude.{◌≡◌, IfNone, IfOk, IfSome, OnOk, ℕ};
-ghost use Rattle.histories.specs.Entries.{Delivers};
+ghost use Rattle.histories.specs.{Delivers};
 ghost use Rattle.ocpi_types.specs.declared.node_events.NodeEventKind.TheVariants.{Deliver};
-ghost use Rattle.ocpi_types.specs.declared.packet.Packet.{Packet as PacketOf};
+ghost use Rattle.ocpi_types.specs.{Packet as PacketOf};
 ghost use Rattle.transcripts.specs.Told.{IsSource};
-ghost use Rattle.weave.specs.Given.{IsFrom};
+ghost use Rattle.weave.specs.{IsFrom};
 ghost use Rattle.weave_runs.specs.Steps.{AddsDelivery, AddsLine, AddsRestart, AddsStep, AddsTurn, AreNamed, HasSteps, IsNamed};
 
 use histories::Entry;

@@ -1,13 +1,13 @@
 -- What is asked of the place of a party.
 use Rattle.std.proofs.Common.{◌≡◌, ℕ, List, [], ◌∷◌, Bool, true, false, bytes_eq, cond, Option, None, Some, pos, ap, refl}
-use Rattle.handover.specs.Owed.{Account}
-use Rattle.ocpi_text.specs.Text.{key}
-use Rattle.node_core.specs.States.{owed_of, state_of}
+use Rattle.handover.specs.{Account}
+use Rattle.ocpi_text.specs.{key}
+use Rattle.node_core.specs.{owed_of, state_of}
 use Rattle.world.specs.Deliveries.{first_of}
 use Rattle.world.specs.Seen.{places_seen}
 use Rattle.world.specs.State.{owed_by, past_by}
 use Rattle.world.specs.declared.place.Place.{Place}
-use Rattle.world_steps.specs.World.{past_of}
+use Rattle.world_steps.specs.{past_of}
 use Rattle.world_steps.proofs.Places.{some_same}
 
 module _ {X : Type 0} (f : Place → X) (p : Place) (rest : Option Place) (v : X) where

@@ -1,21 +1,16 @@
 -- What an event brings to a node.
 use Rattle.std.proofs.Common.{◌≡◌, ℕ, Bool, List, refl, subst, sym}
 use Rattle.std.specs.Borrow.{Bor}
-use Rattle.node_core.specs.Inputs.{Gets}
-use Rattle.node_core.specs.declared.input.NodeInput.{NodeInput}
+use Rattle.node_core.specs.{Gets, NodeInput}
 use Rattle.node_core.specs.declared.input.NodeInput.TheVariants as input
-use Rattle.ocpi_text.specs.Text.{key}
-use Rattle.ocpi_types.specs.declared.events.ChargerEvent.{ChargerEvent}
-use Rattle.ocpi_types.specs.declared.events.EventKind.{EventKind}
-use Rattle.ocpi_types.specs.declared.events.EventKind.TheVariants as kind
-use Rattle.ocpi_types.specs.declared.events.Order.{Order}
-use Rattle.ocpi_types.specs.declared.packet.Packet.{Packet}
-use Rattle.ocpi_types.specs.declared.token.Token.{Token}
+use Rattle.ocpi_text.specs.{key}
+use Rattle.ocpi_types.specs.{ChargerEvent, EventKind, Order, Packet, Token}
+use Rattle.ocpi_types.specs.kind
 use Rattle.operator_steps.specs.Events as operator
 use Rattle.provider_steps.specs.Events as provider
-use Rattle.world.specs.Works.{Brings, BringsNothing}
-use Rattle.world_steps.specs.Network.{Input, MayArrive, OfOperator, OfProvider, Reaches}
-use Rattle.world_steps.specs.World.{NodeState, Operates, Provides, World}
+use Rattle.world.specs.Works.{Brings}
+use Rattle.world_steps.specs.{Input, MayArrive, NodeState, OfOperator, OfProvider, Operates, Provides, Reaches}
+use Rattle.world_steps.specs.World.{World}
 
 module _ (w : World) (party : List ℕ) where
   -- what each node gets is just what reaches it
@@ -107,16 +102,3 @@ module _ (w : World) (party : List ℕ) where
       nothing : (n : NodeState) → ((x : Input) → Gets n (input.Arrives at q) x → ⊥) → (x : Input) → Reaches w party n (kind.Deliver at from serial) x → ⊥
       nothing (Operates s) none x h = none (OfOperator (operator.Arrives at q.now)) refl
       nothing (Provides s) none x h = none (OfProvider (provider.Arrives at q.now)) refl
-
-  -- and where none may, nothing reaches any
-  pub no_packet : (at : ℕ) (from : List ℕ) (serial : ℕ) → ((q : Packet) → MayArrive w party from serial q → ⊥) → BringsNothing w party (kind.Deliver at from serial)
-  no_packet at from serial none (Operates s) (OfOperator x) h = none h.0 h.1
-  no_packet at from serial none (Operates s) (OfProvider x) h = h
-  no_packet at from serial none (Provides s) (OfOperator x) h = h
-  no_packet at from serial none (Provides s) (OfProvider x) h = none h.0 h.1
-
-  pub refused_brings_nothing : BringsNothing w party kind.Refused
-  refused_brings_nothing (Operates s) (OfOperator x) h = h
-  refused_brings_nothing (Operates s) (OfProvider x) h = h
-  refused_brings_nothing (Provides s) (OfOperator x) h = h
-  refused_brings_nothing (Provides s) (OfProvider x) h = h

@@ -1,15 +1,14 @@
 -- Where a party is not found, and what may be delivered.
-use Rattle.std.proofs.Common.{◌≡◌, ℕ, ◌+◌, ◌<◌, List, length, get_or, inl, inr, refl, sym, ap, subst, ◌∙◌, arith}
-use Rattle.std.specs.Prelude.{Some, slice_get, option_map}
+use Rattle.std.proofs.Common.{◌≡◌, ℕ, ◌+◌, ◌<◌, List, length, get_or, inl, inr, refl, sym, ap, subst, ◌∙◌, arith, Some}
+use Rattle.std.proofs.Common.{slice_get, option_map}
 use Rattle.std.proofs.lemmas.Bool.{cases_lt}
 use Rattle.std.proofs.lemmas.Option.{same_Some, slice_get-map, slice_get_read, slice_get_within}
-use Rattle.ocpi_text.specs.Text.{key}
-use Rattle.ocpi_types.specs.declared.packet.Packet.{Packet}
+use Rattle.ocpi_text.specs.{key}
+use Rattle.ocpi_types.specs.{Packet}
 use Rattle.world.specs.Deliveries.{IsPlaceOf}
-use Rattle.world_steps.specs.Deliveries.{IsSentTo}
+use Rattle.world_steps.specs.{IsSentTo, MayArrive}
 use Rattle.world.specs.Seen.{place_seen, places_seen}
 use Rattle.world.specs.declared.place.Place.{Place}
-use Rattle.world_steps.specs.Network.{MayArrive}
 use Rattle.world_steps.specs.World as steps
 use Rattle.world_steps.proofs.Places.{of_mapped}
 

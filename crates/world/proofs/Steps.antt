@@ -1,25 +1,18 @@
 -- What comes of a plan, and one event of a world.
-use Rattle.std.proofs.Common.{◌≡◌, ◌≢◌, ℕ, List, [], ◌∷◌, ◌++◌, drop, get_or, length, refl, sym, ap, subst, ◌∙◌}
-use Rattle.std.specs.Prelude.{Result, Ok, Err, None, Some, OnErr, Option, option_map, slice_get, slice_set}
+use Rattle.std.proofs.Common.{◌≡◌, ◌≢◌, ℕ, List, [], ◌∷◌, ◌++◌, drop, get_or, length, refl, sym, ap, subst, ◌∙◌, Result}
+use Rattle.std.proofs.Common.{Ok, Err, None, Some, OnErr, Option, option_map, slice_get, slice_set}
 use Rattle.std.proofs.Math.Seq.{map-set_same}
 use Rattle.std.proofs.lemmas.List.{drop_at, map-set}
 use Rattle.std.proofs.lemmas.Option.{same_Some, slice_get-map, slice_get_read, slice_get_within}
 use Rattle.node_core.proofs.Doing as doing
-use Rattle.node_core.specs.Inputs.{Gets}
-use Rattle.node_core.specs.States.{state_of}
+use Rattle.node_core.specs.{Gets, IsWork, MayDo, NodeInput, NodeWork, changes_by, packets_by, state_of, versions_by}
 use Rattle.node_core.specs.Works as nodes
-use Rattle.node_core.specs.Works.{IsWork, MayDo, changes_by, packets_by, versions_by}
-use Rattle.node_core.specs.declared.input.NodeInput.{NodeInput}
-use Rattle.node_core.specs.declared.work.NodeWork.{NodeWork}
 use Rattle.node_laws.proofs.Runs.{run_join}
-use Rattle.node_steps.specs.declared.fault.NodeFault.{NodeFault}
-use Rattle.ocpi_text.specs.Text.{key}
-use Rattle.ocpi_types.specs.declared.events.Event.{Event}
-use Rattle.ocpi_types.specs.declared.events.EventKind.{EventKind}
-use Rattle.ocpi_types.specs.declared.events.EventKind.TheVariants as kind
-use Rattle.ocpi_types.specs.declared.rows.Change.{Change}
-use Rattle.stored_laws.specs.Laws.{OperatorsAreWhole, ProvidersAreWhole}
-use Rattle.stored_laws.specs.Nodes.{IsWhole}
+use Rattle.node_steps.specs.{NodeFault}
+use Rattle.ocpi_text.specs.{key}
+use Rattle.ocpi_types.specs.{Change, Event, EventKind}
+use Rattle.ocpi_types.specs.kind
+use Rattle.stored_laws.specs.{IsWhole, OperatorsAreWhole, ProvidersAreWhole}
 use Rattle.world.specs.Deliveries.{IsPlaceOf}
 use Rattle.world.specs.Seen.{packets_sent, place_seen, places_seen, sent_from, told, told_in}
 use Rattle.world.specs.Works.{AsksFor, Brings, IsIdle, IsPlanned, place_after}
@@ -29,12 +22,12 @@ use Rattle.world.specs.declared.planned.Outcome.TheVariants as outcome
 use Rattle.world.specs.declared.planned.Planned.TheVariants.{Acts, Idle}
 use Rattle.world.specs.declared.planned.Sending.{Sending}
 use Rattle.world.specs.declared.planned.Told.{Told}
-use Rattle.world_laws.specs.Later.{IsLater}
-use Rattle.world_laws.specs.Laws.{IsReached, IsRight, WorldsGoOn}
-use Rattle.world_steps.specs.Network.{Input}
+use Rattle.world_laws.specs.{IsLater, IsReached, IsRight, WorldsGoOn}
+use Rattle.world_steps.specs.{Does, Gives, Input, IsAt, IsForNone, Loses, NoNode, NodeState, NothingReaches, Operates}
+use Rattle.world_steps.specs.{Passes, Place, PlaceStep, Provides, Refuses, WorldRun, WorldStep, changes_of, input_of}
+use Rattle.world_steps.specs.{opened}
 use Rattle.world_steps.specs.Steps as steps
-use Rattle.world_steps.specs.Steps.{Does, Gives, IsForNone, Loses, NoNode, NothingReaches, Passes, PlaceStep, Refuses, WorldRun, WorldStep, changes_of, input_of}
-use Rattle.world_steps.specs.World.{IsAt, NodeState, Operates, Place, Provides, World, opened}
+use Rattle.world_steps.specs.World.{World}
 use Rattle.world_steps.proofs.Places.{of_mapped, set_same}
 
 -- what the node is asked for by what an event brings

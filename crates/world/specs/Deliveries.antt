@@ -1,6 +1,6 @@
 -- The place of a party.
 use Rattle.std.specs.Prelude.{◌≡◌, ℕ, List, [], ◌∷◌, Option, None, Some, bytes_eq, cond, slice_get}
-use Rattle.ocpi_text.specs.Text.{key}
+use Rattle.ocpi_text.specs.{key}
 use Rattle.world.specs.declared.place.Place.{Place}
 
 -- the place with that number is the party's

@@ -1,9 +1,7 @@
 -- What the values of the code stand for.
 use Rattle.std.specs.Prelude.{ℕ, List, [], Option, None, Some, drop, map, slice_get}
-use Rattle.node_core.specs.States.{state_of}
-use Rattle.ocpi_types.specs.declared.packet.Packet.{Packet}
-use Rattle.ocpi_types.specs.declared.rows.Change.{Change}
-use Rattle.ocpi_types.specs.declared.sessions.Session.{Session}
+use Rattle.node_core.specs.{state_of}
+use Rattle.ocpi_types.specs.{Change, Packet, Session}
 use Rattle.world.specs.declared.past.Past.{Past}
 use Rattle.world.specs.declared.place.Place as declared
 use Rattle.world.specs.declared.planned.Outcome as outcomes
@@ -11,7 +9,8 @@ use Rattle.world.specs.declared.planned.Outcome.TheVariants as outcome
 use Rattle.world.specs.declared.planned.Sending.{Sending}
 use Rattle.world.specs.declared.planned.Told.{Told}
 use Rattle.world_steps.specs.Steps as steps
-use Rattle.world_steps.specs.World.{Place, World, past_of}
+use Rattle.world_steps.specs.{Place, past_of}
+use Rattle.world_steps.specs.World.{World}
 
 abbrev pub place_seen : declared.Place → Place
 place_seen p = record { party = p.party; node = state_of p.node; sent = p.sent.items; versions = p.versions.items }

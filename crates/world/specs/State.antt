@@ -1,12 +1,11 @@
 -- What is seen of a world, and what is asked of it.
 use Rattle.std.specs.Prelude.{ℕ, ℤ, pos, List, [], ◌∷◌, cond, bytes_eq}
-use Rattle.handover.specs.Owed.{Account}
-use Rattle.node_core.specs.States.{owed_of}
-use Rattle.ocpi_text.specs.Text.{key}
-use Rattle.ocpi_types.specs.declared.packet.Packet.{Packet}
-use Rattle.ocpi_types.specs.declared.rows.Change.{Change}
-use Rattle.ocpi_types.specs.declared.sessions.Session.{Session}
-use Rattle.world_steps.specs.World.{World, past_of}
+use Rattle.handover.specs.{Account}
+use Rattle.node_core.specs.{owed_of}
+use Rattle.ocpi_text.specs.{key}
+use Rattle.ocpi_types.specs.{Change, Packet, Session}
+use Rattle.world_steps.specs.{past_of}
+use Rattle.world_steps.specs.World.{World}
 
 -- the world, and of the last step the rows that it changed and the packets that it sent
 pub record WorldState : Type 0 where

@@ -1,20 +1,15 @@
 -- What an event brings to a node, and what the node's work leaves of its place.
 use Rattle.std.specs.Prelude.{◌≡◌, ◌≢◌, ℕ, List, ◌++◌}
-use Rattle.node_core.specs.Inputs.{Gets}
-use Rattle.node_core.specs.Works.{IsWork, node_after, packets_by, versions_by}
-use Rattle.node_core.specs.declared.input.NodeInput.{NodeInput}
-use Rattle.node_core.specs.declared.work.NodeWork.{NodeWork}
-use Rattle.node_steps.specs.declared.fault.NodeFault.{NodeFault}
-use Rattle.node_steps.specs.declared.fault.NodeFault.TheVariants.{Memory}
-use Rattle.ocpi_types.specs.declared.events.EventKind.{EventKind}
-use Rattle.ocpi_types.specs.declared.events.EventKind.TheVariants as kind
+use Rattle.node_core.specs.{Gets, IsWork, NodeInput, NodeWork, node_after, packets_by, versions_by}
+use Rattle.node_steps.specs.{Memory, NodeFault}
+use Rattle.ocpi_types.specs.{EventKind}
+use Rattle.ocpi_types.specs.kind
 use Rattle.world.specs.declared.planned.Outcome.{Outcome}
 use Rattle.world.specs.declared.planned.Outcome.TheVariants as outcome
 use Rattle.world.specs.declared.planned.Planned.{Planned}
 use Rattle.world.specs.declared.planned.Planned.TheVariants.{Acts, Idle}
-use Rattle.world_steps.specs.Network.{Input, Reaches}
-use Rattle.world_steps.specs.Steps.{NodeRefuses}
-use Rattle.world_steps.specs.World.{NodeState, Place, World}
+use Rattle.world_steps.specs.{Input, NodeRefuses, NodeState, Place, Reaches}
+use Rattle.world_steps.specs.World.{World}
 
 -- the place once the work is done
 abbrev pub place_after : NodeWork → Place → Place

@@ -1,12 +1,11 @@
 //! Work that is carried out: all memory for it is taken first, and then nothing can fail.
 
 ghost use Rattle.std.specs.Prelude.{◌≡◌, ◌≤◌, ◌+◌, ◌++◌, ◌∷◌, [], IfOk, OnErr, OnOk, length, vec_capacity};
-ghost use Rattle.node_core.specs.States.{state_of};
-ghost use Rattle.node_core.specs.Works.{MayDo, changes_by, packets_by, versions_by};
-ghost use Rattle.stored_laws.specs.Nodes.{IsWhole};
+ghost use Rattle.node_core.specs.{MayDo, changes_by, packets_by, state_of, versions_by};
+ghost use Rattle.stored_laws.specs.{IsWhole};
 ghost use Rattle.world.specs.Seen.{place_seen};
 ghost use Rattle.world.specs.Works.{place_after};
-ghost use Rattle.world_steps.specs.Steps.{all_put, version_put};
+ghost use Rattle.world_steps.specs.{all_put, version_put};
 
 use crate::place::Place;
 use node_core::NodeWork;

@@ -1,11 +1,11 @@
 //! The node of a party, and the packets that may be delivered to it.
 
 ghost use Rattle.std.specs.Prelude.{◌≡◌, ℕ, IfNone, IfSome, None, Some};
-ghost use Rattle.ocpi_types.specs.declared.packet.Packet.{Packet as PacketOf};
+ghost use Rattle.ocpi_types.specs.{Packet as PacketOf};
 ghost use Rattle.world.specs.Deliveries.{IsPlaceOf, first_of};
 ghost use Rattle.world.specs.Seen.{places_seen};
 ghost use Rattle.world.specs.declared.place.Place.{Place as PlaceOf};
-ghost use Rattle.world_steps.specs.Network.{MayArrive};
+ghost use Rattle.world_steps.specs.{MayArrive};
 
 use crate::place::Place;
 use ocpi_text::{Party, Whole};

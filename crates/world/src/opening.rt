@@ -2,8 +2,8 @@
 
 ghost use Rattle.std.specs.Prelude.{◌≡◌, Contains, IfOk};
 ghost use Rattle.world.specs.Seen.{place_seen, places_seen};
-ghost use Rattle.world_laws.specs.Laws.{IsSetup};
-ghost use Rattle.world_steps.specs.World.{opened, place_of};
+ghost use Rattle.world_laws.specs.{IsSetup};
+ghost use Rattle.world_steps.specs.{opened, place_of};
 
 use crate::place::Place;
 use node_core::Node;

@@ -1,8 +1,8 @@
 //! What an event comes to at a node. Nothing is changed here.
 
 ghost use Rattle.std.specs.Prelude.{◌≡◌, ◌≢◌, IfNone, IfOk, IfSome};
-ghost use Rattle.node_core.specs.States.{state_of};
-ghost use Rattle.ocpi_types.specs.declared.events.EventKind.TheVariants as kinds;
+ghost use Rattle.node_core.specs.{state_of};
+ghost use Rattle.ocpi_types.specs.kind as kinds;
 ghost use Rattle.world.specs.Seen.{places_seen};
 ghost use Rattle.world.specs.Works.{Brings, BringsNothing, IsPlanned};
 

@@ -1,14 +1,13 @@
 //! The world.
 
 ghost use Rattle.std.specs.Prelude.{◌≡◌, ◌≢◌, List, [], None, IfOk, OnErr, OnOk, drop};
-ghost use Rattle.ocpi_text.specs.Text.{key};
-ghost use Rattle.ocpi_types.specs.declared.events.Event.{Event as EventOf};
+ghost use Rattle.ocpi_text.specs.{key};
+ghost use Rattle.ocpi_types.specs.{Event as EventOf};
 ghost use Rattle.world.specs.Seen.{packets_sent, places_seen, told, told_in, versions_left};
 ghost use Rattle.world.specs.State.{owed_by, past_by};
-ghost use Rattle.world_laws.specs.Later.{IsLater};
-ghost use Rattle.world_laws.specs.Laws.{IsReached, IsRight};
-ghost use Rattle.world_steps.specs.Steps.{Gives, WorldRun};
-ghost use Rattle.world_steps.specs.World.{World as WorldOf, opened};
+ghost use Rattle.world_laws.specs.{IsLater, IsReached, IsRight};
+ghost use Rattle.world_steps.specs.{Gives, WorldRun, opened};
+ghost use Rattle.world_steps.specs.World.{World as WorldOf};
 
 use crate::finding::{find, of_party};
 use crate::opening::open_all;
@@ -54,7 +53,7 @@ impl Model for World {
     ghost coded = { Prim.hlevel (codes, map.code) };
 
     ghost use Rattle.world.specs.Seen.{packets_sent, places_seen};
-    ghost use Rattle.world_laws.specs.Laws.{IsReached};
+    ghost use Rattle.world_laws.specs.{IsReached};
 
     ghost view = { λ w. record { places = places_seen w.places.items; changes = w.changes.items; packets = packets_sent (places_seen w.places.items) w.sending } };
 

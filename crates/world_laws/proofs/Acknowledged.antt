@@ -1,26 +1,16 @@
 -- What is acknowledged is held: the provider that acknowledged a push came by it from the operator, and holds what it
 -- carried.
-use Rattle.std.proofs.Common.{◌≡◌, ◌⊎◌, ◌≤◌, ℕ, List, map, inl, inr, refl, sym, ap, subst, ◌∙◌, arith}
-use Rattle.std.specs.Prelude.{Some, Contains}
+use Rattle.std.proofs.Common.{◌≡◌, ◌⊎◌, ◌≤◌, ℕ, List, map, inl, inr, refl, sym, ap, subst, ◌∙◌, arith, Some, Contains}
 use Rattle.std.specs.FinMap.{get, get-empty}
-use Rattle.tables.specs.Keys.{text_number_cmp, text_pair_cmp}
+use Rattle.tables.specs.{text_number_cmp, text_pair_cmp}
 use Rattle.tables.proofs.Options.{not_both}
-use Rattle.ocpi_text.specs.Text.{key}
-use Rattle.ocpi_types.specs.Stored.{body_of_push}
-use Rattle.ocpi_types.specs.declared.cdrs.Cdr.{Cdr}
-use Rattle.ocpi_types.specs.declared.packet.Body.TheVariants as body
-use Rattle.ocpi_types.specs.declared.packet.Packet.{Packet}
-use Rattle.ocpi_types.specs.declared.replies.Ack.{Ack}
-use Rattle.ocpi_types.specs.declared.sessions.Session.{Session}
-use Rattle.ocpi_types.specs.declared.setup.Node.{Node}
-use Rattle.ocpi_types.specs.declared.stored.Push.{Push}
-use Rattle.ocpi_types.specs.declared.stored.Push.TheVariants as push
-use Rattle.ocpi_types.specs.declared.stored.Reply.{Reply}
-use Rattle.ocpi_types.specs.declared.stored.Reply.TheVariants as reply
-use Rattle.ocpi_types.specs.declared.words.SessionStatus.{SessionStatus}
-use Rattle.handover.specs.Cdrs.{cdr_key}
+use Rattle.ocpi_text.specs.{key}
+use Rattle.ocpi_types.specs.{Ack, Cdr, Node, Packet, Push, Reply, Session, SessionStatus, body_of_push}
+use Rattle.ocpi_types.specs.body
+use Rattle.ocpi_types.specs.push
+use Rattle.ocpi_types.specs.reply
+use Rattle.handover.specs.{cdr_key, session_key}
 use Rattle.handover.specs.Inbox as inbox
-use Rattle.handover.specs.Inbox.{session_key}
 use Rattle.node_laws.proofs.NodeRuns as node_runs
 use Rattle.operator_laws.specs.AsNode as operator_node
 use Rattle.operator_laws.specs.Laws as operator_laws
@@ -28,7 +18,7 @@ use Rattle.operator_laws.specs.Sessions.{WasTaken}
 use Rattle.operator_laws.proofs.nodes.NodeLaws as operator_proofs
 use Rattle.operator_laws.proofs.sessions.HandedOver.{versions_are_pushed}
 use Rattle.operator_laws.proofs.standing.AtAllTimes.{always_consistent}
-use Rattle.operator_rows.specs.Sound.{IsConsistent}
+use Rattle.operator_rows.specs.{IsConsistent}
 use Rattle.operator_rows.specs.State as operator
 use Rattle.provider_laws.specs.Held.{IsTaken}
 use Rattle.provider_laws.specs.Laws as provider_laws
@@ -41,15 +31,16 @@ use Rattle.provider_steps.specs.Events as provider_events
 use Rattle.session_laws.specs.Pasts.{past}
 use Rattle.session_laws.proofs.Growing.{pasts_are_orderly}
 use Rattle.session_laws.proofs.Sending.{sent_versions_are_past}
-use Rattle.session_state.specs.Pasts.{IsFinal}
+use Rattle.session_state.specs.{IsFinal}
 use Rattle.world_laws.specs.Agree.{AcknowledgedIsHeld, HasNoPushOfCdr, HasNoPushOfSession}
 use Rattle.world_laws.specs.Laws.{IsSetup}
 use Rattle.world_laws.specs.Nodes.{Holds, HoldsCdr, OperatorOf, ProviderOf}
 use Rattle.world_laws.proofs.NodeRuns.{OperatorAt, ProviderAt, came_to_operator, came_to_provider, line_of, operator_at, peering_of, provider_at}
 use Rattle.world_laws.proofs.Newest.{IsEarlier, last_or_earlier}
 use Rattle.world_laws.proofs.Senders.{came_to_be_answered, push_is_no_reply, run_of_operator, run_of_provider, sent_by_operator}
-use Rattle.world_steps.specs.Traces.{Histories, Traces}
-use Rattle.world_steps.specs.World.{Place, World}
+use Rattle.world_steps.specs.{Histories, Place}
+use Rattle.world_steps.specs.Traces.{Traces}
+use Rattle.world_steps.specs.World.{World}
 
 is_final : (s : SessionStatus) → inbox.IsFinal s → IsFinal s
 is_final s (inl done) = subst IsFinal (sym done) tt

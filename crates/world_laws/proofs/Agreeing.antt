@@ -1,28 +1,17 @@
 -- The answers that a provider stored are those that the operator keeps, and a start that was ACCEPTED has its session.
-use Rattle.std.proofs.Common.{◌≡◌, ◌⊎◌, ℕ, List, inl, inr, refl, sym, ap, subst, ◌∙◌}
-use Rattle.std.specs.Prelude.{Option, Some, None, Contains, IsTrue}
+use Rattle.std.proofs.Common.{◌≡◌, ◌⊎◌, ℕ, List, inl, inr, refl, sym, ap, subst, ◌∙◌, Option, Some, None, Contains}
+use Rattle.std.proofs.Common.{IsTrue}
 use Rattle.std.specs.FinMap.{contains_key, get, get-empty}
 use Rattle.std.specs.Ordering.{nat_cmp}
 use Rattle.tables.proofs.Options.{known, none_contained, not_both}
 use Rattle.node_laws.specs.Nodes as nodes
-use Rattle.ocpi_text.specs.Text.{key}
-use Rattle.ocpi_types.specs.declared.commands.StartSession.{StartSession}
-use Rattle.ocpi_types.specs.declared.packet.Body.{Body}
-use Rattle.ocpi_types.specs.declared.packet.Body.TheVariants as body
-use Rattle.ocpi_types.specs.declared.packet.Packet.{Packet}
-use Rattle.ocpi_types.specs.declared.replies.CommandResponse.{CommandResponse}
-use Rattle.ocpi_types.specs.declared.replies.CommandResult.{CommandResult}
-use Rattle.ocpi_types.specs.declared.token.CdrToken.{CdrToken}
-use Rattle.ocpi_types.specs.declared.sessions.Session.{Session}
-use Rattle.ocpi_types.specs.declared.setup.Node.{Node}
-use Rattle.ocpi_types.specs.declared.site.SiteLine.{SiteLine}
-use Rattle.ocpi_types.specs.declared.commands.Command.{Command}
-use Rattle.ocpi_types.specs.declared.commands.Command.TheVariants as command
-use Rattle.ocpi_types.specs.declared.stored.Push.TheVariants as push
-use Rattle.ocpi_types.specs.declared.stored.Reply.{Reply}
-use Rattle.ocpi_types.specs.declared.stored.Reply.TheVariants as reply
-use Rattle.ocpi_types.specs.declared.stored.SentCommand.{SentCommand}
-use Rattle.ocpi_types.specs.declared.words.CommandResultType.{CommandResultType}
+use Rattle.ocpi_text.specs.{key}
+use Rattle.ocpi_types.specs.{Body, CdrToken, Command, CommandResponse, CommandResult, CommandResultType, Node, Packet}
+use Rattle.ocpi_types.specs.{Reply, SentCommand, Session, SiteLine, StartSession}
+use Rattle.ocpi_types.specs.body
+use Rattle.ocpi_types.specs.command
+use Rattle.ocpi_types.specs.push
+use Rattle.ocpi_types.specs.reply
 use Rattle.ocpi_types.specs.declared.words.CommandResultType.TheVariants.{Accepted}
 use Rattle.operator_laws.specs.Laws as operator_laws
 use Rattle.operator_laws.specs.Replied.{Asked}
@@ -50,8 +39,9 @@ use Rattle.world_laws.specs.Nodes.{OperatorOf, ProviderOf}
 use Rattle.world_laws.proofs.NodeRuns.{FromOperator, OperatorAt, ProviderAt, came_to_operator, came_to_provider, line_of, peering_of, provider_at}
 use Rattle.world_laws.proofs.Newest.{IsEarlier, has_last, in_past, last_or_earlier}
 use Rattle.world_laws.proofs.Senders.{came_and_was_answered, command_is_no_reply, push_is_no_reply, run_of_operator, run_of_provider, sent_by_provider}
-use Rattle.world_steps.specs.Traces.{Histories, Traces}
-use Rattle.world_steps.specs.World.{Place, World}
+use Rattle.world_steps.specs.{Histories, Place}
+use Rattle.world_steps.specs.Traces.{Traces}
+use Rattle.world_steps.specs.World.{World}
 
 -- both roles read the same place out of a command
 same_url : (c : Command) → operator_acts.url_of c ≡ provider.url_of c

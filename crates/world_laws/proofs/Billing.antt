@@ -1,19 +1,14 @@
 -- What an operator bills, and what charge detail records a provider holds, in a traced world.
-use Rattle.std.proofs.Common.{◌≡◌, ◌⊎◌, ℕ, List, inl, inr, sym, ap, subst, ◌∙◌}
-use Rattle.std.specs.Prelude.{Some, None}
+use Rattle.std.proofs.Common.{◌≡◌, ◌⊎◌, ℕ, List, inl, inr, sym, ap, subst, ◌∙◌, Some, None}
 use Rattle.std.specs.List.{last_or}
 use Rattle.std.specs.FinMap.{get, get-empty}
-use Rattle.tables.specs.Keys.{text_pair_cmp}
+use Rattle.tables.specs.{text_pair_cmp}
 use Rattle.tables.proofs.Options.{not_both}
-use Rattle.ocpi_text.specs.Text.{key}
-use Rattle.ocpi_types.specs.Credits.{AreAlike}
-use Rattle.ocpi_types.specs.declared.cdrs.Cdr.{Cdr}
-use Rattle.ocpi_types.specs.declared.packet.Body.TheVariants as body
-use Rattle.ocpi_types.specs.declared.packet.Packet.{Packet}
-use Rattle.ocpi_types.specs.declared.sessions.Session.{Session}
-use Rattle.ocpi_types.specs.declared.setup.Node.{Node}
-use Rattle.ocpi_types.specs.declared.stored.Push.TheVariants as push
-use Rattle.handover.specs.Cdrs.{cdr_key}
+use Rattle.ocpi_text.specs.{key}
+use Rattle.ocpi_types.specs.{AreAlike, Cdr, Node, Packet, Session}
+use Rattle.ocpi_types.specs.body
+use Rattle.ocpi_types.specs.push
+use Rattle.handover.specs.{cdr_key}
 use Rattle.operator_laws.proofs.sessions.Bodies.{session_bodies_are_past}
 use Rattle.operator_rows.specs.State as operator
 use Rattle.provider_laws.specs.Held.{CdrCame}
@@ -28,8 +23,9 @@ use Rattle.world_laws.specs.Nodes.{HasCdr, HoldsCdr, OperatorOf}
 use Rattle.world_laws.specs.Safe.{Bills, BillsOnce}
 use Rattle.world_laws.proofs.Holding.{past_is}
 use Rattle.world_laws.proofs.NodeRuns.{FromOperator, OperatorAt, ProviderAt, came_to_provider, line_of, one_provider, operator_at, peering_of, provider_at}
-use Rattle.world_steps.specs.Traces.{Histories, Traces}
-use Rattle.world_steps.specs.World.{Place, World, past_of}
+use Rattle.world_steps.specs.{Histories, Place, past_of}
+use Rattle.world_steps.specs.Traces.{Traces}
+use Rattle.world_steps.specs.World.{World}
 
 -- a record that bills a version, without the token
 told_bills : (v : Session) (x : Cdr) → bills.Bills v x → Bills v x

@@ -1,8 +1,8 @@
 -- A list that is gathered from another, at most one element of each: what stands in it, that its elements differ, and
 -- the difference of two such sums.
 use Rattle.std.proofs.Common.{◌≡◌, ◌≢◌, ◌<◌, List, [], ◌∷◌, map, refl, sym, ap, subst, ◌∙◌, inl, inr, arith, length}
+use Rattle.std.proofs.Common.{Option, Some, None, Contains, ℤ, pos, ◌+ℤ◌, ◌-ℤ◌}
 use Rattle.std.proofs.lemmas.Int.{ints}
-use Rattle.std.specs.Prelude.{Option, Some, None, Contains, ℤ, pos, ◌+ℤ◌, ◌-ℤ◌}
 use Rattle.std.specs.List.{AllPairs, filter_map, cons_option}
 use Rattle.std.specs.declared.cmp.Ordering.{Ordering}
 use Rattle.std.specs.Cmp.{IsTotalOrder}
@@ -12,7 +12,7 @@ use Rattle.std.proofs.lemmas.List.Elements.{All-contains, Contains-append_cases,
 use Rattle.std.proofs.lemmas.List.Kept.{AllPairs-cons}
 use Rattle.tables.proofs.Elements.{all_of, first_pairs, in_front, in_none, in_single, later_pairs, no_pairs}
 use Rattle.tables.proofs.Entries.{all_apart}
-use Rattle.handover.specs.Owed.{total}
+use Rattle.handover.specs.{total}
 use Rattle.handover.proofs.Totals.{term_at}
 
 of_cons : {X : Type 0} (x y : X) (xs : List X) (P : X → Type 0) → Contains (x ∷ xs) y → P x → ((z : X) → Contains xs z → P z) → P y

@@ -1,26 +1,21 @@
 -- The pasts of sessions in a traced world are those of the operators' own runs; and what is held of a session is a
 -- version of its past.
-use Rattle.std.proofs.Common.{◌≡◌, ℕ, List, [], ◌∷◌, ◌++◌, inl, inr, refl, sym, ap, subst, ◌∙◌}
-use Rattle.std.specs.Prelude.{Some, None, Contains}
+use Rattle.std.proofs.Common.{◌≡◌, ℕ, List, [], ◌∷◌, ◌++◌, inl, inr, refl, sym, ap, subst, ◌∙◌, Some, None, Contains}
 use Rattle.std.specs.FinMap.{get, get-empty}
 use Rattle.std.specs.Str.{bytes_eq}
 use Rattle.std.specs.List.{last_or}
 use Rattle.std.proofs.lemmas.List.Elements.{filter-append}
-use Rattle.tables.specs.Keys.{text_pair_cmp}
+use Rattle.tables.specs.{text_pair_cmp}
 use Rattle.tables.proofs.Options.{not_both}
 use Rattle.node_laws.proofs.Runs.{kept_runs}
-use Rattle.ocpi_text.specs.Text.{key}
-use Rattle.ocpi_types.specs.declared.rows.Change.{Change}
-use Rattle.ocpi_types.specs.declared.rows.Change.TheVariants.{Put, Drop}
-use Rattle.ocpi_types.specs.declared.rows.Row.TheVariants as row
-use Rattle.ocpi_types.specs.declared.sessions.Session.{Session}
-use Rattle.ocpi_types.specs.declared.setup.Node.{Node}
-use Rattle.ocpi_types.specs.declared.site.Site.{Site}
-use Rattle.session_state.specs.Pasts.{IsFinal, IsOrderly}
-use Rattle.handover.specs.Inbox.{session_key}
+use Rattle.ocpi_text.specs.{key}
+use Rattle.ocpi_types.specs.{Change, Drop, Node, Put, Session, Site}
+use Rattle.ocpi_types.specs.row
+use Rattle.session_state.specs.{IsFinal, IsOrderly}
+use Rattle.handover.specs.{session_key}
 use Rattle.operator_rows.specs.State as operator
 use Rattle.operator_steps.specs.Events as operator_events
-use Rattle.operator_steps.specs.Events.{Happens}
+use Rattle.operator_steps.specs.{Happens}
 use Rattle.operator_laws.proofs.events.Doing.{does}
 use Rattle.operator_laws.proofs.standing.AtAllTimes.{always_consistent}
 use Rattle.session_laws.specs.Pasts as pasts
@@ -29,9 +24,9 @@ use Rattle.session_laws.proofs.Sending.{sent_versions_are_past}
 use Rattle.provider_rows.specs.State as provider
 use Rattle.provider_laws.specs.Held.{SessionCame}
 use Rattle.provider_laws.proofs.held.Sessions.{held_sessions_came}
-use Rattle.world_steps.specs.Steps.{NodeEvent, all_put, version_put}
-use Rattle.world_steps.specs.Traces.{Histories, Traces}
-use Rattle.world_steps.specs.World.{Place, World, past_of}
+use Rattle.world_steps.specs.{Histories, NodeEvent, Place, all_put, past_of, version_put}
+use Rattle.world_steps.specs.Traces.{Traces}
+use Rattle.world_steps.specs.World.{World}
 use Rattle.world_laws.specs.Laws.{IsSetup}
 use Rattle.world_laws.specs.Nodes.{Holds, OperatorOf}
 use Rattle.world_laws.specs.Safe.{GoesInOrder, IsOfPast}

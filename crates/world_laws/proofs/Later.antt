@@ -1,15 +1,12 @@
 -- A world to which a run goes on is later: each node goes on from the very state that it had.
-use Rattle.std.proofs.Common.{◌≡◌, ◌⊎◌, ◌<◌, ℕ, List, ◌++◌, inl, inr, refl, sym, ap, subst, ◌∙◌, arith}
-use Rattle.std.specs.Prelude.{Some, Contains, slice_get}
+use Rattle.std.proofs.Common.{◌≡◌, ◌⊎◌, ◌<◌, ℕ, List, ◌++◌, inl, inr, refl, sym, ap, subst, ◌∙◌, arith, Some, Contains}
+use Rattle.std.proofs.Common.{slice_get}
 use Rattle.std.specs.Str.{bytes_eq}
 use Rattle.std.proofs.lemmas.List.Elements.{Contains-append_left, filter-append}
 use Rattle.std.proofs.lemmas.List.Concat.{flat_map-append}
 use Rattle.std.proofs.lemmas.List.{map-append}
-use Rattle.ocpi_text.specs.Text.{key}
-use Rattle.ocpi_types.specs.declared.sessions.Session.{Session}
-use Rattle.ocpi_types.specs.declared.setup.Node.{Node}
-use Rattle.ocpi_types.specs.declared.site.SiteLine.{SiteLine}
-use Rattle.ocpi_types.specs.declared.stored.SentCommand.{SentCommand}
+use Rattle.ocpi_text.specs.{key}
+use Rattle.ocpi_types.specs.{Node, SentCommand, Session, SiteLine}
 use Rattle.node_laws.proofs.Runs.{run_join}
 use Rattle.operator_laws.specs.Laws as operator_laws
 use Rattle.operator_laws.proofs.standing.AtAllTimes as operators
@@ -33,7 +30,7 @@ use Rattle.provider_steps.proofs.PacketSteps.{packets}
 use Rattle.provider_steps.proofs.TickSteps.{ticks}
 use Rattle.provider_steps.proofs.TokenSteps.{tokens}
 use Rattle.session_laws.proofs.Billing.{records_stay}
-use Rattle.session_state.specs.Pasts.{IsOrderly}
+use Rattle.session_state.specs.{IsOrderly}
 use Rattle.world_laws.specs.Later.{IsLater as IsLaterWorld, IsLaterCommand, OperatorIsLater, OperatorKeeps, ProviderKeeps, StandsAfter}
 use Rattle.world_laws.specs.Laws.{IsSetup}
 use Rattle.world_laws.specs.Nodes.{Holds, IsPast, OperatorOf, ProviderOf}
@@ -41,9 +38,9 @@ use Rattle.world_laws.proofs.Holding.{held, orderly}
 use Rattle.world_laws.proofs.NodeRuns.{OperatorAt, OperatorGoes, OperatorTrace, ProviderAt, ProviderGoes, line_of, one_operator, operator_at, operator_goes, peering_of, provider_at, provider_goes, versions_in}
 use Rattle.world_laws.proofs.PastOrder.{stands_after}
 use Rattle.world_laws.proofs.Reserving.{newly_made}
-use Rattle.world_steps.specs.Steps.{AtOperator, all_put}
-use Rattle.world_steps.specs.Traces.{Histories, Goes, Traces, joined}
-use Rattle.world_steps.specs.World.{Place, World, past_of}
+use Rattle.world_steps.specs.{AtOperator, Goes, Histories, Place, all_put, joined, past_of}
+use Rattle.world_steps.specs.Traces.{Traces}
+use Rattle.world_steps.specs.World.{World}
 use Rattle.world_steps.proofs.Places.{got_within, stands}
 
 -- what holds of a provider at all times

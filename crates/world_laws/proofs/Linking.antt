@@ -1,13 +1,11 @@
 -- Each node of a world deals with all of the other role, and a delivery brings the packet that it names.
-use Rattle.std.proofs.Common.{zero, suc, ◌≡◌, ◌⊎◌, ℕ, ◌+◌, List, [], ◌∷◌, map, inl, inr, sym, ap, subst, ◌∙◌}
-use Rattle.std.specs.Prelude.{Some, Contains, slice_get}
+use Rattle.std.proofs.Common.{zero, suc, ◌≡◌, ◌⊎◌, ℕ, ◌+◌, List, [], ◌∷◌, map, inl, inr, sym, ap, subst, ◌∙◌, Some}
+use Rattle.std.proofs.Common.{Contains, slice_get}
 use Rattle.std.proofs.lemmas.List.Elements.{Contains-append_right}
 use Rattle.node_laws.proofs.NodeRuns.{runs_are_steps}
-use Rattle.ocpi_text.specs.Text.{key}
-use Rattle.ocpi_types.specs.declared.packet.Packet.{Packet}
-use Rattle.ocpi_types.specs.declared.setup.Node.{Node}
-use Rattle.ocpi_types.specs.declared.setup.Node.TheVariants as node
-use Rattle.ocpi_types.specs.declared.site.Site.{Site}
+use Rattle.ocpi_text.specs.{key}
+use Rattle.ocpi_types.specs.{Node, Packet, Site}
+use Rattle.ocpi_types.specs.node
 use Rattle.operator_laws.specs.AsNode as operator_node
 use Rattle.operator_laws.proofs.nodes.NodeLaws as operator_proofs
 use Rattle.operator_rows.specs.State as operator
@@ -22,9 +20,9 @@ use Rattle.world_laws.specs.Linked.{IsLinked}
 use Rattle.world_laws.specs.Nodes.{OperatorOf, ProviderOf}
 use Rattle.world_laws.proofs.NodeRuns.{OperatorAt, OperatorTrace, ProviderAt, ProviderTrace, line_of, operator_at, peering_of, provider_at, trace}
 use Rattle.world_laws.proofs.Senders.{run_of_operator, run_of_provider}
-use Rattle.world_steps.specs.Network.{MayArrive}
-use Rattle.world_steps.specs.Traces.{Histories, Traces}
-use Rattle.world_steps.specs.World.{Place, World, operators_of, providers_of}
+use Rattle.world_steps.specs.{Histories, MayArrive, Place, operators_of, providers_of}
+use Rattle.world_steps.specs.Traces.{Traces}
+use Rattle.world_steps.specs.World.{World}
 use Rattle.world_steps.proofs.Places.{is_in}
 
 -- a node of a setup is among those of its role

@@ -1,18 +1,16 @@
 -- Of an orderly past each version is the last, or comes before it and is of the same session.
-use Rattle.std.proofs.Common.{◌≡◌, ◌⊎◌, ◌<◌, ℤ, List, [], ◌∷◌, cond, inl, inr, refl, sym, subst, ◌∙◌, arith}
-use Rattle.std.specs.Prelude.{Some, None, Contains}
+use Rattle.std.proofs.Common.{◌≡◌, ◌⊎◌, ◌<◌, ℤ, List, [], ◌∷◌, cond, inl, inr, refl, sym, subst, ◌∙◌, arith, Some, None}
+use Rattle.std.proofs.Common.{Contains}
 use Rattle.std.specs.List.{last_or}
 use Rattle.std.proofs.lemmas.Slice.Eq.{bytes_eq-Decides}
 use Rattle.std.proofs.lemmas.List.Elements.{Contains-append_left, Contains-append_right}
 use Rattle.tables.proofs.Elements.{in_none, in_front, in_single}
-use Rattle.ocpi_text.specs.Text.{key}
-use Rattle.ocpi_types.specs.declared.rows.Change.{Change}
-use Rattle.ocpi_types.specs.declared.rows.Change.TheVariants.{Put}
-use Rattle.ocpi_types.specs.declared.rows.Row.TheVariants as row
-use Rattle.ocpi_types.specs.declared.sessions.Session.{Session}
-use Rattle.session_state.specs.Pasts.{Follow, IsFinal, IsOrderly, IsSame, MayFollow}
+use Rattle.ocpi_text.specs.{key}
+use Rattle.ocpi_types.specs.{Change, Put, Session}
+use Rattle.ocpi_types.specs.row
+use Rattle.session_state.specs.{Follow, IsFinal, IsOrderly, IsSame, MayFollow}
 use Rattle.operator_rows.proofs.RowChanges.{of_cons}
-use Rattle.operator_steps.specs.Events.{Event}
+use Rattle.operator_steps.specs.{Event}
 use Rattle.operator_laws.specs.Sessions.{Puts}
 use Rattle.session_laws.specs.Pasts.{past, version_put, versions_put}
 use Rattle.session_laws.proofs.Growing.{no_turn}

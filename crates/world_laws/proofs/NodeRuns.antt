@@ -1,16 +1,11 @@
 -- A node of a traced world: the run of its own that its part of the traces is, and who sent what came to it.
-use Rattle.std.proofs.Common.{◌≡◌, ◌⊎◌, ℕ, List, [], ◌∷◌, ◌++◌, map, inl, inr, refl, sym, ap, subst, ◌∙◌, arith}
-use Rattle.std.specs.Prelude.{Some, Ok, Contains, slice_get}
+use Rattle.std.proofs.Common.{◌≡◌, ◌⊎◌, ℕ, List, [], ◌∷◌, ◌++◌, map, inl, inr, refl, sym, ap, subst, ◌∙◌, arith, Some}
+use Rattle.std.proofs.Common.{Ok, Contains, slice_get}
 use Rattle.std.specs.List.{flat_map}
 use Rattle.node_laws.specs.Runs.{Run}
-use Rattle.ocpi_text.specs.Party.{party_at}
-use Rattle.ocpi_text.specs.Text.{key}
-use Rattle.ocpi_types.specs.declared.packet.Packet.{Packet}
-use Rattle.ocpi_types.specs.declared.sessions.Session.{Session}
-use Rattle.ocpi_types.specs.declared.setup.Node.{Node}
-use Rattle.ocpi_types.specs.declared.setup.Node.TheVariants as node
-use Rattle.ocpi_types.specs.declared.site.Site.{Site}
-use Rattle.ocpi_types.specs.declared.site.SiteLine.{SiteLine}
+use Rattle.ocpi_text.specs.{key, party_at}
+use Rattle.ocpi_types.specs.{Node, Packet, Session, Site, SiteLine}
+use Rattle.ocpi_types.specs.node
 use Rattle.operator_laws.specs.Laws as operator_laws
 use Rattle.operator_rows.specs.State as operator
 use Rattle.operator_steps.specs.Events as operator_events
@@ -20,9 +15,11 @@ use Rattle.provider_steps.specs.Events as provider_events
 use Rattle.world_laws.specs.Laws.{IsSetup}
 use Rattle.world_laws.specs.Nodes.{OperatorOf, ProviderOf}
 use Rattle.world_steps.specs.Steps as steps
-use Rattle.world_steps.specs.Steps.{AtOperator, AtProvider, NodeEvent, NodeStep, OperatorDoes, ProviderDoes, all_put}
-use Rattle.world_steps.specs.Traces.{Came, Histories, IsSent, Traces, Went, sent, stored}
-use Rattle.world_steps.specs.World.{NodeState, Operates, Place, Provides, World, opened, operators_of, place_of, providers_of}
+use Rattle.world_steps.specs.{AtOperator, AtProvider, Came, Histories, IsSent, NodeEvent, NodeState, NodeStep, Operates}
+use Rattle.world_steps.specs.{OperatorDoes, Place, ProviderDoes, Provides, Went, all_put, opened, operators_of}
+use Rattle.world_steps.specs.{place_of, providers_of, sent, stored}
+use Rattle.world_steps.specs.Traces.{Traces}
+use Rattle.world_steps.specs.World.{World}
 use Rattle.world_steps.proofs.Places.{got_within, of_mapped, some_same, stands}
 use Rattle.operator_laws.proofs.nodes.NodeLaws.{packets_are_addressed as operator_addressed}
 use Rattle.provider_laws.proofs.nodes.NodeLaws.{packets_are_addressed as provider_addressed}

@@ -1,24 +1,21 @@
 -- What a provider owes an operator of a traced world: the costs of the sessions of which it holds a bill, each once, less
 -- those of the sessions of which it holds a credit, each once.
 use Rattle.std.proofs.Common.{◌≡◌, ◌≢◌, ℕ, ℤ, pos, List, Bool, true, false, cond, refl, sym, ap, subst, ◌∙◌, arith}
+use Rattle.std.proofs.Common.{Option, Some, None, Contains, ◌-ℤ◌, neg_ℤ}
 use Rattle.std.proofs.lemmas.Int.{ints}
-use Rattle.std.specs.Prelude.{Option, Some, None, Contains, ◌-ℤ◌, neg_ℤ}
 use Rattle.std.specs.List.{AllPairs, filter_map, last_or}
 use Rattle.std.specs.Str.{bytes_eq}
 use Rattle.std.specs.FinMap.{get, entries}
 use Rattle.std.specs.Ordering.{eq_by_cmp}
 use Rattle.std.specs.Cmp.{eq_by_cmp_equiv}
 use Rattle.std.proofs.lemmas.Slice.Eq.{bytes_eq-Decides}
-use Rattle.tables.specs.Keys.{text_pair_cmp, text_pair_exact, text_pair_total}
+use Rattle.tables.specs.{text_pair_cmp, text_pair_exact, text_pair_total}
 use Rattle.tables.proofs.Entries.{listed, listed_only}
 use Rattle.tables.proofs.Maps.{equal_of_is_eq}
 use Rattle.tables.proofs.Options.{none_some}
-use Rattle.ocpi_text.specs.Text.{key}
-use Rattle.ocpi_types.specs.Credits.{AreAlike, is_credit}
-use Rattle.ocpi_types.specs.declared.cdrs.Cdr.{Cdr}
-use Rattle.ocpi_types.specs.declared.sessions.Session.{Session}
-use Rattle.ocpi_types.specs.declared.setup.Node.{Node}
-use Rattle.handover.specs.Owed.{Account, account_of, cost_in, seen_by}
+use Rattle.ocpi_text.specs.{key}
+use Rattle.ocpi_types.specs.{AreAlike, Cdr, Node, Session, is_credit}
+use Rattle.handover.specs.{Account, account_of, cost_in, seen_by}
 use Rattle.handover.proofs.Totals.{term_at}
 use Rattle.operator_rows.specs.State as operator
 use Rattle.provider_rows.specs.State as provider
@@ -28,8 +25,9 @@ use Rattle.world_laws.specs.Safe.{AreOfHeld, Bills, BillsOnce, EndsAs, OwesForEa
 use Rattle.world_laws.proofs.Billing.{billed, own_currency, own_keys, records, records_once}
 use Rattle.world_laws.proofs.Gathering.{gathered_apart, gathered_difference, gathered_in, gathered_of, keys_apart, nothing_total}
 use Rattle.world_laws.proofs.NodeRuns.{one_operator, one_provider}
-use Rattle.world_steps.specs.Traces.{Histories, Traces}
-use Rattle.world_steps.specs.World.{Place, World, past_of}
+use Rattle.world_steps.specs.{Histories, Place, past_of}
+use Rattle.world_steps.specs.Traces.{Traces}
+use Rattle.world_steps.specs.World.{World}
 
 -- an amount as its own account sees it, and as another does
 seen_same : (a b : Account) (z : ℤ) → a ≡ b → seen_by a b z ≡ z

@@ -1,13 +1,12 @@
 -- The order of an orderly past: by moments, and by places.
-use Rattle.std.proofs.Common.{◌≡◌, ◌⊎◌, ◌<◌, ◌≤◌, ℤ, List, [], ◌∷◌, ◌++◌, inl, inr, refl, sym, ap, subst, ◌∙◌, arith}
-use Rattle.std.specs.Prelude.{Option, Some, None, Contains}
+use Rattle.std.proofs.Common.{◌≡◌, ◌⊎◌, ◌<◌, ℤ, List, [], ◌∷◌, ◌++◌, inl, inr, refl, sym, ap, subst, ◌∙◌, arith, Option}
+use Rattle.std.proofs.Common.{Some, None, Contains}
 use Rattle.std.specs.List.{last_or}
-use Rattle.tables.proofs.Elements.{in_none, in_front}
-use Rattle.tables.proofs.Options.{none_some}
-use Rattle.ocpi_types.specs.declared.sessions.Session.{Session}
-use Rattle.session_state.specs.Pasts.{Follow, IsFinal, IsOrderly}
+use Rattle.tables.proofs.Elements.{in_none}
+use Rattle.ocpi_types.specs.{Session}
+use Rattle.session_state.specs.{Follow, IsFinal, IsOrderly}
 use Rattle.session_state.proofs.PastLemmas.{final_is_last}
-use Rattle.operator_rows.proofs.RowChanges.{in_later, of_cons}
+use Rattle.operator_rows.proofs.RowChanges.{of_cons}
 use Rattle.world_laws.specs.Later.{StandsAfter}
 
 -- what comes after a version may follow it
@@ -69,35 +68,9 @@ module _ (price : ℤ) (vs : List Session) (orderly : IsOrderly price vs) where
       by (After at) = at
       by (Before at) = absurd (let above = after_is_later price vs w v orderly at in omega (arith, below, above))
 
-  -- and two of one moment are one
-  pub one_moment : (v w : Session) → Contains vs v → Contains vs w → v.last_updated ≡ w.last_updated → v ≡ w
-  one_moment v w i j same = by (places vs v w i j)
-    where
-      by : Places vs v w → v ≡ w
-      by (Same is) = is
-      by (After at) = absurd (let above = after_is_later price vs v w orderly at in omega (arith, same, above))
-      by (Before at) = absurd (let above = after_is_later price vs w v orderly at in omega (arith, same, above))
-
 last_joined : (o : Option Session) (before : List Session) (v : Session) (after : List Session) → last_or o (before ++ v ∷ after) ≡ last_or (Some v) after
 last_joined o [] v after = refl
 last_joined o (x ∷ before) v after = last_joined (Some x) before v after
-
-last_is_in : (o : Option Session) (vs : List Session) (l : Session) → last_or o vs ≡ Some l → (o ≡ Some l) ⊎ Contains vs l
-last_is_in o [] l is = inl is
-last_is_in o (x ∷ vs) l is = by (last_is_in (Some x) vs l is)
-  where
-    by : (Some x ≡ Some l) ⊎ Contains vs l → (o ≡ Some l) ⊎ Contains (x ∷ vs) l
-    by (inl one) = let same : x ≡ l = cc in inr (subst (Contains (x ∷ vs)) same (in_front x vs))
-    by (inr i) = inr (in_later x vs l i)
-
--- the newest version of a past is one of it
-pub newest_is_in : (vs : List Session) (l : Session) → last_or None vs ≡ Some l → Contains vs l
-newest_is_in vs l is = elim (last_is_in None vs l is) [ inl none ↦ none_some l none | inr i ↦ i ]
-
--- and so it is of what is not empty, whatever came before
-last_of_more : (o : Option Session) (vs : List Session) (v l : Session) → Contains vs v → last_or o vs ≡ Some l → Contains vs l
-last_of_more o [] v l i is = absurd (in_none v i)
-last_of_more o (x ∷ vs) v l i is = newest_is_in (x ∷ vs) l is
 
 -- where a version stands in a list
 pub record StandsIn (vs : List Session) (v : Session) : Type 0 where
@@ -119,16 +92,3 @@ final_is_newest price vs v orderly i final =
     let at = stands_in vs v i in
     let none : at.after ≡ [] = final_is_last price at.before at.after v (subst (IsOrderly price) at.all orderly) final in
     ap (last_or None) at.all ∙ last_joined None at.before v at.after ∙ ap (last_or (Some v)) none
-
--- no version is later than the newest
-pub none_is_later : (price : ℤ) (vs : List Session) (v l : Session) → IsOrderly price vs → Contains vs v → last_or None vs ≡ Some l → v.last_updated ≤ l.last_updated
-none_is_later price vs v l orderly i newest = by (places vs v l i (newest_is_in vs l newest))
-  where
-    by : Places vs v l → v.last_updated ≤ l.last_updated
-    by (Same is) = let same : v.last_updated ≡ l.last_updated = ap (λ (z : Session). z.last_updated) is in omega (arith, same)
-    by (After at) = let above = after_is_later price vs v l orderly at in omega (arith, above)
-    by (Before at) =
-        let last : last_or (Some l) at.after ≡ Some l = sym (last_joined None at.before l at.after) ∙ ap (last_or None) (sym at.all) ∙ newest in
-        let follows = rest_follows price at.before l at.after (subst (IsOrderly price) at.all orderly) in
-        let above : l.last_updated < l.last_updated = follow_is_later price l at.after l follows (last_of_more (Some l) at.after v l at.later last) in
-        absurd (omega (arith, above))

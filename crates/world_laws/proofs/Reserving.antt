@@ -1,24 +1,16 @@
 -- A reservation that stands in a later world, and did not stand so in the earlier, was asked for and accepted in
 -- between, and not before its cancellation.
-use Rattle.std.proofs.Common.{◌≡◌, ◌<◌, ℕ, List, ◌∷◌, ◌++◌, refl, sym, subst, ◌∙◌, arith}
-use Rattle.std.specs.Prelude.{◌≢◌, Some, None, Contains}
+use Rattle.std.proofs.Common.{◌≡◌, ◌<◌, ℕ, List, ◌∷◌, ◌++◌, refl, sym, subst, ◌∙◌, arith, ◌≢◌, Some, None, Contains}
 use Rattle.std.specs.FinMap.{get}
 use Rattle.std.proofs.lemmas.List.Elements.{Contains-append_left, Contains-append_right}
 use Rattle.tables.proofs.Elements.{in_front}
 use Rattle.tables.proofs.Options.{none_else, not_both}
-use Rattle.ocpi_text.specs.Text.{key}
-use Rattle.ocpi_types.specs.declared.commands.CancelReservation.{CancelReservation}
-use Rattle.ocpi_types.specs.declared.commands.Command.{Command}
-use Rattle.ocpi_types.specs.declared.commands.Command.TheVariants as command
-use Rattle.ocpi_types.specs.declared.packet.Body.{Body}
-use Rattle.ocpi_types.specs.declared.packet.Body.TheVariants as body
-use Rattle.ocpi_types.specs.declared.packet.Packet.{Packet}
-use Rattle.ocpi_types.specs.declared.setup.Node.{Node}
-use Rattle.ocpi_types.specs.declared.site.SiteLine.{SiteLine}
-use Rattle.ocpi_types.specs.declared.stored.Push.TheVariants as push
-use Rattle.ocpi_types.specs.declared.stored.Reply.{Reply}
-use Rattle.ocpi_types.specs.declared.stored.Reply.TheVariants as reply
-use Rattle.ocpi_types.specs.declared.stored.Reservation.{Reservation}
+use Rattle.ocpi_text.specs.{key}
+use Rattle.ocpi_types.specs.{Body, CancelReservation, Command, Node, Packet, Reply, Reservation, SiteLine}
+use Rattle.ocpi_types.specs.command
+use Rattle.ocpi_types.specs.body
+use Rattle.ocpi_types.specs.push
+use Rattle.ocpi_types.specs.reply
 use Rattle.ocpi_types.specs.declared.words.CommandResultType.TheVariants.{Accepted}
 use Rattle.node_laws.specs.Nodes.{IsReply}
 use Rattle.node_laws.proofs.BodyKinds.{no_command, no_push}
@@ -28,17 +20,18 @@ use Rattle.operator_laws.proofs.replies.Given.{replies_were_given}
 use Rattle.operator_laws.proofs.reservations.Making.{reservations_are_made}
 use Rattle.operator_laws.proofs.events.Standing.{consistent_stays}
 use Rattle.operator_laws.proofs.standing.AtAllTimes.{kept, replies_stay, results_stay}
-use Rattle.operator_rows.specs.Sound.{IsConsistent}
-use Rattle.operator_rows.specs.State.{State, opening}
-use Rattle.operator_steps.specs.Events.{Event}
+use Rattle.operator_rows.specs.{IsConsistent, opening}
+use Rattle.operator_rows.specs.State.{State}
+use Rattle.operator_steps.specs.{Event}
 use Rattle.provider_laws.proofs.nodes.NodeLaws.{requests_agree}
 use Rattle.world_laws.specs.Later.{HasDecided, HasSent, IsNewlyMade}
 use Rattle.world_laws.specs.Laws.{IsSetup}
 use Rattle.world_laws.specs.Nodes.{ProviderOf}
 use Rattle.world_laws.proofs.NodeRuns.{OperatorAt, came_to_operator, one_provider, peering_of}
 use Rattle.world_laws.proofs.Senders.{command_is_no_reply}
-use Rattle.world_steps.specs.Traces.{Histories, Traces}
-use Rattle.world_steps.specs.World.{Place, World}
+use Rattle.world_steps.specs.{Histories, Place}
+use Rattle.world_steps.specs.Traces.{Traces}
+use Rattle.world_steps.specs.World.{World}
 
 -- what is answered is no reply
 no_reply : (r : Reply) (b : Body) → IsReplyTo r b → ¬ IsReply b

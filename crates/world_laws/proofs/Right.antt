@@ -1,8 +1,7 @@
 -- What is promised of each world of each legal run, put together from what the runs of its nodes give.
 use Rattle.std.proofs.Common.{List, ◌++◌}
 use Rattle.node_laws.proofs.Runs.{run_join}
-use Rattle.ocpi_types.specs.declared.events.Event.{Event}
-use Rattle.ocpi_types.specs.declared.setup.Node.{Node}
+use Rattle.ocpi_types.specs.{Event, Node}
 use Rattle.world_laws.specs.Laws.{IsReached, IsRight, IsSetup, WorldsAreRight, WorldsGoOn}
 use Rattle.world_laws.specs.Safe.{IsSafe}
 use Rattle.world_laws.proofs.Acknowledged.{acknowledged_is_held}
@@ -13,9 +12,9 @@ use Rattle.world_laws.proofs.Later.{is_later}
 use Rattle.world_laws.proofs.Linking.{linked}
 use Rattle.world_laws.proofs.Owing.{owed}
 use Rattle.world_laws.proofs.Starting.{started}
-use Rattle.world_steps.specs.Steps.{WorldRun, WorldStep}
-use Rattle.world_steps.specs.Traces.{Histories, Traces, joined}
-use Rattle.world_steps.specs.World.{World, opened}
+use Rattle.world_steps.specs.{Histories, WorldRun, WorldStep, joined, opened}
+use Rattle.world_steps.specs.Traces.{Traces}
+use Rattle.world_steps.specs.World.{World}
 use Rattle.world_steps.proofs.Tracing.{traced, traced_on}
 
 module _ (setup : List Node) (is_setup : IsSetup setup) (w : World) (hs : Histories) (traces : Traces setup w hs) where

@@ -1,19 +1,12 @@
 -- What came was sent by the one node of its sender's party.
-use Rattle.std.proofs.Common.{◌≡◌, ℕ, List, ◌∷◌, sym, ap, subst, ◌∙◌}
-use Rattle.std.specs.Prelude.{Contains}
+use Rattle.std.proofs.Common.{◌≡◌, ℕ, List, ◌∷◌, sym, ap, subst, ◌∙◌, Contains}
 use Rattle.std.proofs.lemmas.List.Elements.{Contains-append_right}
 use Rattle.tables.proofs.Elements.{in_front}
 use Rattle.node_laws.specs.Nodes as nodes
 use Rattle.node_laws.proofs.BodyKinds.{no_push, no_command}
-use Rattle.ocpi_text.specs.Text.{key}
-use Rattle.ocpi_types.specs.Stored.{body_of_push}
-use Rattle.ocpi_types.specs.declared.packet.Body.{Body}
-use Rattle.ocpi_types.specs.declared.packet.Body.TheVariants as body
-use Rattle.ocpi_types.specs.declared.packet.Packet.{Packet}
-use Rattle.ocpi_types.specs.declared.setup.Node.{Node}
-use Rattle.ocpi_types.specs.declared.commands.Command.{Command}
-use Rattle.ocpi_types.specs.declared.stored.Push.{Push}
-use Rattle.ocpi_types.specs.declared.stored.Reply.{Reply}
+use Rattle.ocpi_text.specs.{key}
+use Rattle.ocpi_types.specs.{Body, Command, Node, Packet, Push, Reply, body_of_push}
+use Rattle.ocpi_types.specs.body
 use Rattle.operator_laws.specs.Laws as operator_laws
 use Rattle.operator_laws.specs.Made as operator_made
 use Rattle.operator_rows.specs.State as operator
@@ -24,8 +17,9 @@ use Rattle.provider_steps.specs.Events as provider_events
 use Rattle.world_laws.specs.Laws.{IsSetup}
 use Rattle.world_laws.specs.Nodes.{OperatorOf, ProviderOf}
 use Rattle.world_laws.proofs.NodeRuns.{FromOperator, FromProvider, OperatorAt, ProviderAt, line_of, one_operator, one_provider, peering_of}
-use Rattle.world_steps.specs.Traces.{Histories, Traces}
-use Rattle.world_steps.specs.World.{Place, World}
+use Rattle.world_steps.specs.{Histories, Place}
+use Rattle.world_steps.specs.Traces.{Traces}
+use Rattle.world_steps.specs.World.{World}
 
 pub push_is_no_reply : (b : Body) (p : Push) → b ≡ body_of_push p → ¬ nodes.IsReply b
 push_is_no_reply b p is (r, same) = no_push r p (sym same ∙ is)

@@ -1,20 +1,16 @@
 -- Setups: where a node stands, and that its party is not that of another.
-use Rattle.std.proofs.Common.{zero, suc, ◌≡◌, ◌≢◌, ◌⊎◌, ℕ, ◌+◌, ◌≤◌, List, [], ◌∷◌, ◌++◌, length, map, inl, inr, refl, sym, ap, subst, ◌∙◌, arith}
-use Rattle.std.specs.Prelude.{Some, Ok, Contains, slice_get, option_map}
+use Rattle.std.proofs.Common.{zero, suc, ◌≡◌, ◌≢◌, ◌⊎◌, ℕ, ◌+◌, ◌≤◌, List, [], ◌∷◌, ◌++◌, length, map, inl, inr, refl}
+use Rattle.std.proofs.Common.{sym, ap, subst, ◌∙◌, arith, Some, Ok, Contains, slice_get, option_map}
 use Rattle.std.proofs.lemmas.List.Elements.{Contains-append_left, Contains-append_right, Contains-append_cases}
 use Rattle.std.proofs.lemmas.Option.{slice_get-map}
-use Rattle.ocpi_text.specs.Party.{party_at}
-use Rattle.ocpi_text.specs.Text.{key}
-use Rattle.ocpi_types.specs.Apart.{DifferFrom}
-use Rattle.ocpi_types.specs.Setups.{node_key, party_of}
-use Rattle.ocpi_types.specs.declared.setup.Node.{Node}
-use Rattle.ocpi_types.specs.declared.setup.Node.TheVariants as node
-use Rattle.ocpi_types.specs.declared.site.Site.{Site}
-use Rattle.provider_rows.specs.State.{ArePeers}
+use Rattle.ocpi_text.specs.{key, party_at}
+use Rattle.ocpi_types.specs.{DifferFrom, Node, Site, node_key, party_of}
+use Rattle.ocpi_types.specs.node
+use Rattle.provider_rows.specs.{ArePeers}
 use Rattle.tables.proofs.Elements.{in_front, in_none, in_single}
 use Rattle.world_laws.specs.Laws.{IsSetup}
 use Rattle.world_steps.proofs.Places.{is_in, some_same}
-use Rattle.world_steps.specs.World.{operators_of, providers_of}
+use Rattle.world_steps.specs.{operators_of, providers_of}
 
 -- a text of a list that differs from others is none of them
 not_earlier : (earlier xs : List (List ℕ)) → DifferFrom earlier xs → (i : ℕ) (x : List ℕ) → slice_get xs i ≡ Some x → Contains earlier x → ⊥

@@ -1,29 +1,27 @@
 -- A reference of a provider starts one session at most, over all operators: the packets that give it go to one
 -- operator, and there one session has it.
-use Rattle.std.proofs.Common.{◌≡◌, ℕ, List, inl, inr, sym, ap, subst, ◌∙◌}
-use Rattle.std.specs.Prelude.{Some, Contains}
+use Rattle.std.proofs.Common.{◌≡◌, ℕ, List, inl, inr, sym, ap, subst, ◌∙◌, Some, Contains}
 use Rattle.std.specs.FinMap.{get}
-use Rattle.ocpi_text.specs.Text.{key}
-use Rattle.ocpi_types.specs.declared.authorizations.Authorization.TheVariants as authorization
-use Rattle.ocpi_types.specs.declared.packet.Packet.{Packet}
-use Rattle.ocpi_types.specs.declared.setup.Node.{Node}
-use Rattle.ocpi_types.specs.declared.commands.Command.TheVariants as command
-use Rattle.ocpi_types.specs.declared.stored.Reply.TheVariants as reply
-use Rattle.ocpi_types.specs.declared.stored.SentCommand.{SentCommand}
+use Rattle.ocpi_text.specs.{key}
+use Rattle.ocpi_types.specs.authorization
+use Rattle.ocpi_types.specs.{Node, Packet, SentCommand}
+use Rattle.ocpi_types.specs.command
+use Rattle.ocpi_types.specs.reply
 use Rattle.operator_rows.specs.State as operator
 use Rattle.operator_laws.specs.Sessions as sessions
 use Rattle.operator_laws.specs.Sessions.{AreSpentOnce, GivesReference, InSession}
 use Rattle.operator_laws.proofs.sessions.Once.{references_are_spent_once}
 use Rattle.provider_rows.specs.State as provider
-use Rattle.provider_rows.specs.State.{reference_of}
+use Rattle.provider_rows.specs.{reference_of}
 use Rattle.provider_rows.proofs.KeepingTimes.{opening_consistent}
 use Rattle.provider_laws.specs.Laws as provider_laws
 use Rattle.provider_laws.specs.References.{Carrier, Carries, InCommand, InReply}
 use Rattle.provider_laws.proofs.commands.Sent.{sent_commands_stand}
 use Rattle.provider_laws.proofs.nodes.NodeLaws.{sent_replies_are_kept}
 use Rattle.provider_laws.proofs.references.Carrying.{references_have_one_carrier}
-use Rattle.world_steps.specs.Traces.{Histories, Traces}
-use Rattle.world_steps.specs.World.{Place, World}
+use Rattle.world_steps.specs.{Histories, Place}
+use Rattle.world_steps.specs.Traces.{Traces}
+use Rattle.world_steps.specs.World.{World}
 use Rattle.world_laws.specs.Laws.{IsSetup}
 use Rattle.world_laws.specs.Nodes.{ProviderOf}
 use Rattle.world_laws.specs.Safe.{Started}

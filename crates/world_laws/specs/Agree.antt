@@ -1,22 +1,18 @@
 -- What is acknowledged is held, and the answers that a provider stored are the operator's.
 use Rattle.std.specs.Prelude.{◌≡◌, ℕ, List, Some}
 use Rattle.std.specs.FinMap.{get}
-use Rattle.ocpi_text.specs.Text.{key}
-use Rattle.ocpi_types.specs.declared.cdrs.Cdr.{Cdr}
-use Rattle.ocpi_types.specs.declared.commands.StartSession.{StartSession}
-use Rattle.ocpi_types.specs.declared.replies.CommandResponse.{CommandResponse}
-use Rattle.ocpi_types.specs.declared.sessions.Session.{Session}
-use Rattle.ocpi_types.specs.declared.commands.Command.TheVariants as command
-use Rattle.ocpi_types.specs.declared.stored.Push.TheVariants as push
-use Rattle.ocpi_types.specs.declared.stored.Reply.TheVariants as reply
-use Rattle.ocpi_types.specs.declared.stored.SentCommand.{SentCommand}
-use Rattle.ocpi_types.specs.declared.words.CommandResultType.{CommandResultType}
+use Rattle.ocpi_text.specs.{key}
+use Rattle.ocpi_types.specs.{Cdr, CommandResponse, CommandResultType, SentCommand, Session, StartSession}
+use Rattle.ocpi_types.specs.command
+use Rattle.ocpi_types.specs.push
+use Rattle.ocpi_types.specs.reply
 use Rattle.ocpi_types.specs.declared.words.CommandResultType.TheVariants.{Accepted}
-use Rattle.outbox.specs.declared.push_book.Outgoing.{Outgoing}
+use Rattle.outbox.specs.{Outgoing}
 use Rattle.operator_rows.specs.State as operator
 use Rattle.provider_rows.specs.State as provider
 use Rattle.world_laws.specs.Nodes.{Holds, HoldsCdr, OperatorOf, ProviderOf}
-use Rattle.world_steps.specs.World.{Place, World}
+use Rattle.world_steps.specs.{Place}
+use Rattle.world_steps.specs.World.{World}
 
 -- no push of that session waits to be acknowledged
 abbrev pub HasNoPushOfSession : operator.State → List ℕ → Type 0

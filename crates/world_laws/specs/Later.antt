@@ -2,26 +2,18 @@
 -- stands.
 use Rattle.std.specs.Prelude.{◌≡◌, ◌≢◌, ◌⊎◌, ◌<◌, ◌++◌, ℕ, List, ◌∷◌, Some, None, Contains}
 use Rattle.std.specs.FinMap.{get}
-use Rattle.ocpi_text.specs.Text.{key}
-use Rattle.ocpi_types.specs.declared.cdrs.Cdr.{Cdr}
-use Rattle.ocpi_types.specs.declared.commands.CancelReservation.{CancelReservation}
-use Rattle.ocpi_types.specs.declared.commands.Command.{Command}
-use Rattle.ocpi_types.specs.declared.commands.Command.TheVariants as command
-use Rattle.ocpi_types.specs.declared.commands.ReserveNow.{ReserveNow}
-use Rattle.ocpi_types.specs.declared.packet.Body.TheVariants as body
-use Rattle.ocpi_types.specs.declared.packet.Packet.{Packet}
-use Rattle.ocpi_types.specs.declared.replies.CommandResponse.{CommandResponse}
-use Rattle.ocpi_types.specs.declared.sessions.Session.{Session}
-use Rattle.ocpi_types.specs.declared.stored.Reply.{Reply}
-use Rattle.ocpi_types.specs.declared.stored.Reservation.{Reservation}
-use Rattle.ocpi_types.specs.declared.stored.SentCommand.{SentCommand}
-use Rattle.ocpi_types.specs.declared.words.CommandResultType.{CommandResultType}
+use Rattle.ocpi_text.specs.{key}
+use Rattle.ocpi_types.specs.{CancelReservation, Cdr, Command, CommandResponse, CommandResultType, Packet, Reply}
+use Rattle.ocpi_types.specs.{Reservation, ReserveNow, SentCommand, Session}
+use Rattle.ocpi_types.specs.command
+use Rattle.ocpi_types.specs.body
 use Rattle.ocpi_types.specs.declared.words.CommandResultType.TheVariants.{Accepted}
 use Rattle.operator_rows.specs.State as operator
-use Rattle.operator_tables.specs.Asked.{IsAsked}
+use Rattle.operator_tables.specs.{IsAsked}
 use Rattle.provider_rows.specs.State as provider
 use Rattle.world_laws.specs.Nodes.{Holds, IsPast, OperatorOf, ProviderOf}
-use Rattle.world_steps.specs.World.{Place, World, past_of}
+use Rattle.world_steps.specs.{Place, past_of}
+use Rattle.world_steps.specs.World.{World}
 
 -- the one version stands after the other in a past
 pub record StandsAfter (versions : List Session) (v w : Session) : Type 0 where

@@ -1,15 +1,13 @@
 -- What holds of each world of each legal run.
 use Rattle.std.specs.Prelude.{◌≡◌, List, Ok, Contains}
-use Rattle.ocpi_text.specs.Party.{party_at}
-use Rattle.ocpi_types.specs.Setups.{AreNodes, party_of}
-use Rattle.ocpi_types.specs.declared.events.Event.{Event}
-use Rattle.ocpi_types.specs.declared.setup.Node.{Node}
+use Rattle.ocpi_text.specs.{party_at}
+use Rattle.ocpi_types.specs.{AreNodes, Event, Node, party_of}
 use Rattle.world_laws.specs.Agree.{AcknowledgedIsHeld, AnswersAgree}
 use Rattle.world_laws.specs.Later.{IsLater}
 use Rattle.world_laws.specs.Linked.{IsLinked}
 use Rattle.world_laws.specs.Safe.{IsSafe}
-use Rattle.world_steps.specs.Steps.{WorldRun}
-use Rattle.world_steps.specs.World.{World, opened}
+use Rattle.world_steps.specs.{WorldRun, opened}
+use Rattle.world_steps.specs.World.{World}
 
 -- one to 64 nodes, no two of one party, each a party by its form; which the types `Setup` and `Party` keep
 pub record IsSetup (setup : List Node) : Type 0 where

@@ -1,12 +1,12 @@
 -- What links the nodes of a world: whom each deals with, and what an event `deliver` brings.
 use Rattle.std.specs.Prelude.{◌≡◌, ℕ, List, Contains}
-use Rattle.ocpi_text.specs.Text.{key}
-use Rattle.ocpi_types.specs.declared.packet.Packet.{Packet}
+use Rattle.ocpi_text.specs.{key}
+use Rattle.ocpi_types.specs.{Packet}
 use Rattle.operator_rows.specs.State as operator
 use Rattle.provider_rows.specs.State as provider
 use Rattle.world_laws.specs.Nodes.{OperatorOf, ProviderOf}
-use Rattle.world_steps.specs.Network.{MayArrive}
-use Rattle.world_steps.specs.World.{Place, World}
+use Rattle.world_steps.specs.{MayArrive, Place}
+use Rattle.world_steps.specs.World.{World}
 
 pub record IsLinked (w : World) : Type 0 where
   -- each operator deals with each provider, and each provider with each operator

@@ -2,12 +2,12 @@
 -- Parties and ids are in key form here, by which they are compared.
 use Rattle.std.specs.Prelude.{◌≡◌, ℕ, List, Some, slice_get}
 use Rattle.std.specs.FinMap.{get}
-use Rattle.ocpi_text.specs.Text.{key}
-use Rattle.ocpi_types.specs.declared.cdrs.Cdr.{Cdr}
-use Rattle.ocpi_types.specs.declared.sessions.Session.{Session}
+use Rattle.ocpi_text.specs.{key}
+use Rattle.ocpi_types.specs.{Cdr, Session}
 use Rattle.operator_rows.specs.State as operator
 use Rattle.provider_rows.specs.State as provider
-use Rattle.world_steps.specs.World.{Operates, Place, Provides, World, past_of}
+use Rattle.world_steps.specs.{Operates, Place, Provides, past_of}
+use Rattle.world_steps.specs.World.{World}
 
 -- the operator of that party, and its state
 pub record OperatorOf (w : World) (o : List ℕ) (p : Place) (s : operator.State) : Type 0 where

@@ -4,17 +4,15 @@
 use Rattle.std.specs.Prelude.{◌≡◌, ◌≢◌, ◌↔◌, ℕ, ℤ, ◌-ℤ◌, Bool, true, false, List, Some, None, map, Contains, pos}
 use Rattle.std.specs.List.{AllPairs, last_or}
 use Rattle.std.specs.FinMap.{get, values}
-use Rattle.ocpi_text.specs.Text.{key}
-use Rattle.ocpi_types.specs.Credits.{AreAlike, IsBill, IsCredit, IsCreditOf, is_credit}
-use Rattle.ocpi_types.specs.declared.cdrs.Cdr.{Cdr}
-use Rattle.ocpi_types.specs.declared.sessions.Session.{Session}
-use Rattle.ocpi_types.specs.declared.words.SessionStatus.TheVariants.{Completed}
-use Rattle.handover.specs.Owed.{owed, total}
+use Rattle.ocpi_text.specs.{key}
+use Rattle.ocpi_types.specs.{AreAlike, Cdr, Completed, IsBill, IsCredit, IsCreditOf, Session, is_credit}
+use Rattle.handover.specs.{owed, total}
 use Rattle.operator_rows.specs.State as operator
 use Rattle.provider_rows.specs.State as provider
-use Rattle.session_state.specs.Pasts.{IsOrderly}
+use Rattle.session_state.specs.{IsOrderly}
 use Rattle.world_laws.specs.Nodes.{HasCdr, HasSession, Holds, HoldsCdr, IsPast, OperatorOf, ProviderOf}
-use Rattle.world_steps.specs.World.{Place, World, past_of}
+use Rattle.world_steps.specs.{Place, past_of}
+use Rattle.world_steps.specs.World.{World}
 
 -- a session of that provider that its authorization reference started
 pub record Started (w : World) (p reference o id : List ℕ) : Type 0 where

@@ -1,11 +1,11 @@
 -- What came, what was sent and what was stored in a history that goes on, and how a place goes on by it.
-use Rattle.std.proofs.Common.{◌≡◌, ◌≢◌, ◌⊎◌, ℕ, cond, List, [], ◌∷◌, ◌++◌, inl, inr, refl, sym, ap, subst, ◌∙◌, append_assoc, append-nil}
-use Rattle.std.specs.Prelude.{Contains}
+use Rattle.std.proofs.Common.{◌≡◌, ◌≢◌, ◌⊎◌, ℕ, cond, List, [], ◌∷◌, ◌++◌, inl, inr, refl, sym, ap, subst, ◌∙◌}
+use Rattle.std.proofs.Common.{append_assoc, append-nil, Contains}
 use Rattle.std.proofs.lemmas.Bool.{eq-eqb, ne_eqb}
 use Rattle.std.proofs.lemmas.Grind.{flat_map-append}
-use Rattle.std.proofs.lemmas.List.Elements.{Contains-append_left, Contains-append_right, Contains-append_cases}
+use Rattle.std.proofs.lemmas.List.Elements.{Contains-append_left, Contains-append_cases}
 use Rattle.node_laws.proofs.Runs.{run_join}
-use Rattle.ocpi_types.specs.declared.packet.Packet.{Packet}
+use Rattle.ocpi_types.specs.{Packet}
 use Rattle.tables.proofs.Elements.{in_single}
 use Rattle.world_steps.specs.Steps.{NodeEvent, NodeStep, PlaceStep, packets_of, versions_of}
 use Rattle.world_steps.specs.Traces.{Brings, Came, Went, only, sent, stored}
@@ -19,12 +19,6 @@ stored_join es fs = flat_map-append versions_of es fs
 
 pub sent_before : (es fs : List NodeEvent) (q : Packet) → Contains (sent es) q → Contains (sent (es ++ fs)) q
 sent_before es fs q h = subst (λ l. Contains l q) (sym (sent_join es fs)) (Contains-append_left (sent es) (sent fs) q h)
-
-pub came_before : (es fs : List NodeEvent) (q : Packet) → Came es q → Came (es ++ fs) q
-came_before es fs q h = (h.0, Contains-append_left es fs h.0 h.1, h.2)
-
-pub came_after : (es fs : List NodeEvent) (q : Packet) → Came fs q → Came (es ++ fs) q
-came_after es fs q h = (h.0, Contains-append_right es fs h.0 h.1, h.2)
 
 pub came_cases : (es fs : List NodeEvent) (q : Packet) → Came (es ++ fs) q → Came es q ⊎ Came fs q
 came_cases es fs q h = elim (Contains-append_cases es fs h.0 h.1) [ inl i ↦ inl (h.0, i, h.2) | inr i ↦ inr (h.0, i, h.2) ]

@@ -1,6 +1,6 @@
 -- What stands at which place of a list.
-use Rattle.std.proofs.Common.{zero, suc, ◌≡◌, ◌≢◌, ℕ, ◌<◌, List, [], ◌∷◌, length, map, refl, arith}
-use Rattle.std.specs.Prelude.{Some, Contains, slice_get, slice_set}
+use Rattle.std.proofs.Common.{zero, suc, ◌≡◌, ◌≢◌, ℕ, ◌<◌, List, [], ◌∷◌, length, map, refl, arith, Some, Contains}
+use Rattle.std.proofs.Common.{slice_get, slice_set}
 use Rattle.std.proofs.lemmas.List.Elements.{Contains-append_right}
 
 pub some_same : {X : Type 0} (x y : X) → Some x ≡ Some y → x ≡ y

@@ -1,13 +1,10 @@
 -- From a run of a world to the runs of its nodes: the one induction over worlds.
-use Rattle.std.proofs.Common.{◌≡◌, ℕ, List, [], ◌∷◌, ◌++◌, inl, inr, refl, sym, ap, subst, subst₂, ◌∙◌, arith, append_assoc, append-nil, length-set}
-use Rattle.std.specs.Prelude.{Some, Contains, slice_get, slice_set}
+use Rattle.std.proofs.Common.{◌≡◌, ℕ, List, [], ◌∷◌, ◌++◌, inl, inr, refl, sym, ap, subst, subst₂, ◌∙◌, arith}
+use Rattle.std.proofs.Common.{append_assoc, append-nil, length-set, Some, Contains, slice_get, slice_set}
 use Rattle.std.proofs.lemmas.Bool.{cases_eq}
-use Rattle.ocpi_text.specs.Text.{key}
-use Rattle.ocpi_types.specs.declared.events.Event.{Event}
-use Rattle.ocpi_types.specs.declared.events.EventKind.{EventKind}
-use Rattle.ocpi_types.specs.declared.events.EventKind.TheVariants as kind
-use Rattle.ocpi_types.specs.declared.packet.Packet.{Packet}
-use Rattle.ocpi_types.specs.declared.setup.Node.{Node}
+use Rattle.ocpi_text.specs.{key}
+use Rattle.ocpi_types.specs.{Event, EventKind, Node, Packet}
+use Rattle.ocpi_types.specs.kind
 use Rattle.operator_steps.specs.Events as operator
 use Rattle.provider_steps.specs.Events as provider
 use Rattle.tables.proofs.Elements.{in_none}

@@ -1,7 +1,7 @@
 -- Packets that may be delivered, among those that a node sent.
 use Rattle.std.specs.Prelude.{◌≡◌, ℕ, ◌+◌, List, Some, slice_get}
-use Rattle.ocpi_text.specs.Text.{key}
-use Rattle.ocpi_types.specs.declared.packet.Packet.{Packet}
+use Rattle.ocpi_text.specs.{key}
+use Rattle.ocpi_types.specs.{Packet}
 
 -- the packet stands in the list at that serial, and was sent to that party
 pub record IsSentTo (sent : List Packet) (to : List ℕ) (serial : ℕ) (q : Packet) : Type 0 where

@@ -1,7 +1,6 @@
 -- From a run of a world to the runs of its nodes.
 use Rattle.std.specs.Prelude.{List}
-use Rattle.ocpi_types.specs.declared.events.Event.{Event}
-use Rattle.ocpi_types.specs.declared.setup.Node.{Node}
+use Rattle.ocpi_types.specs.{Event, Node}
 use Rattle.world_steps.specs.Steps.{WorldRun}
 use Rattle.world_steps.specs.Traces.{Goes, Histories, Traces, joined}
 use Rattle.world_steps.specs.World.{World, opened}

@@ -1,10 +1,9 @@
 -- What reaches a node by an event. Links lose, repeat and reorder: a packet that no event delivers is lost, and a
 -- packet that was sent to a node may be delivered to it any number of times, and in any order. Nothing else arrives.
 use Rattle.std.specs.Prelude.{◌≡◌, ℕ, ◌+◌, List, Some, slice_get}
-use Rattle.ocpi_text.specs.Text.{key}
-use Rattle.ocpi_types.specs.declared.events.EventKind.{EventKind}
-use Rattle.ocpi_types.specs.declared.events.EventKind.TheVariants as kind
-use Rattle.ocpi_types.specs.declared.packet.Packet.{Packet}
+use Rattle.ocpi_text.specs.{key}
+use Rattle.ocpi_types.specs.{EventKind, Packet}
+use Rattle.ocpi_types.specs.kind
 use Rattle.operator_steps.specs.Events as operator
 use Rattle.provider_steps.specs.Events as provider
 use Rattle.world_steps.specs.World.{IsAt, NodeState, Operates, Place, Provides, World}

@@ -2,21 +2,16 @@
 use Rattle.std.specs.Prelude.{◌≡◌, ◌≢◌, ℕ, List, [], ◌∷◌, ◌++◌, slice_set}
 use Rattle.std.specs.List.{flat_map}
 use Rattle.node_laws.specs.Runs as runs
-use Rattle.node_steps.specs.declared.fault.NodeFault.{NodeFault}
-use Rattle.node_steps.specs.declared.fault.NodeFault.TheVariants.{Memory}
-use Rattle.ocpi_types.specs.declared.events.Event.{Event}
-use Rattle.ocpi_types.specs.declared.events.EventKind.TheVariants as kind
-use Rattle.ocpi_types.specs.declared.packet.Packet.{Packet}
-use Rattle.ocpi_types.specs.declared.rows.Change.{Change}
-use Rattle.ocpi_types.specs.declared.rows.Change.TheVariants.{Drop, Put}
-use Rattle.ocpi_types.specs.declared.rows.Row.TheVariants as row
-use Rattle.ocpi_types.specs.declared.sessions.Session.{Session}
+use Rattle.node_steps.specs.{Memory, NodeFault}
+use Rattle.ocpi_types.specs.{Change, Drop, Event, Packet, Put, Session}
+use Rattle.ocpi_types.specs.kind
+use Rattle.ocpi_types.specs.row
 use Rattle.operator_rows.specs.State as operator_state
-use Rattle.operator_rows.specs.Steps.{restarted}
+use Rattle.operator_rows.specs.{restarted}
 use Rattle.operator_steps.specs.Events as operator
 use Rattle.operator_steps.specs.Faults as operator_faults
 use Rattle.operator_steps.specs.Moves as operator_moves
-use Rattle.operator_steps.specs.Tick.{TickLine}
+use Rattle.operator_steps.specs.{TickLine}
 use Rattle.provider_rows.specs.State as provider_state
 use Rattle.provider_rows.specs.Steps as provider_rows
 use Rattle.provider_steps.specs.Events as provider

@@ -2,10 +2,8 @@
 use Rattle.std.specs.Prelude.{◌≡◌, ℕ, List, [], ◌∷◌, ◌++◌, Some, cond, length, nat_eq, Contains, slice_get}
 use Rattle.std.specs.List.{flat_map}
 use Rattle.node_laws.specs.Runs.{Run}
-use Rattle.ocpi_text.specs.Text.{key}
-use Rattle.ocpi_types.specs.declared.packet.Packet.{Packet}
-use Rattle.ocpi_types.specs.declared.sessions.Session.{Session}
-use Rattle.ocpi_types.specs.declared.setup.Node.{Node}
+use Rattle.ocpi_text.specs.{key}
+use Rattle.ocpi_types.specs.{Node, Packet, Session}
 use Rattle.operator_steps.specs.Events as operator
 use Rattle.provider_steps.specs.Events as provider
 use Rattle.world_steps.specs.Steps.{AtOperator, AtProvider, NodeEvent, NodeStep, packets_of, versions_of}

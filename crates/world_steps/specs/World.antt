@@ -2,12 +2,9 @@
 -- ever had.
 use Rattle.std.specs.Prelude.{◌≡◌, ℕ, List, [], ◌∷◌, Some, map, filter, slice_get, bytes_eq}
 use Rattle.std.specs.List.{flat_map}
-use Rattle.ocpi_text.specs.Text.{key}
-use Rattle.ocpi_types.specs.Setups.{party_of}
-use Rattle.ocpi_types.specs.declared.packet.Packet.{Packet}
-use Rattle.ocpi_types.specs.declared.sessions.Session.{Session}
-use Rattle.ocpi_types.specs.declared.setup.Node.{Node}
-use Rattle.ocpi_types.specs.declared.setup.Node.TheVariants as node
+use Rattle.ocpi_text.specs.{key}
+use Rattle.ocpi_types.specs.{Node, Packet, Session, party_of}
+use Rattle.ocpi_types.specs.node
 use Rattle.operator_rows.specs.State as operator
 use Rattle.provider_rows.specs.State as provider
 

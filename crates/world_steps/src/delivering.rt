@@ -1,7 +1,7 @@
 //! Which packet a delivery brings.
 
 ghost use Rattle.std.specs.Prelude.{IfNone, IfSome};
-ghost use Rattle.ocpi_types.specs.declared.packet.Packet.{Packet as PacketOf};
+ghost use Rattle.ocpi_types.specs.{Packet as PacketOf};
 ghost use Rattle.world_steps.specs.Deliveries.{IsSentTo};
 
 use ocpi_text::{Party, Whole};

@@ -1,8 +1,7 @@
-use Rattle.std.proofs.Common.{◌≡◌, map, take}
-use Rattle.std.specs.Prelude.{All}
+use Rattle.std.proofs.Common.{◌≡◌, map, take, All}
 use Rattle.cell_weaving.specs.Cells.{told_of, told_of_cell}
-use Rattle.node_cell.specs.Keepers.{keeper_of}
-use Rattle.node_history.specs.Cells.{IsCell}
+use Rattle.node_cell.specs.{keeper_of}
+use Rattle.node_history.specs.{IsCell}
 use Rattle.cell_weaving.proofs.histories_of.Given as goal
 
 abbrev pub invariant-loop-cell : goal.invariant-loop-cell

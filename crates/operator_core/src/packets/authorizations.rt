@@ -1,16 +1,12 @@
 //! What providers answer about their tokens (OCPI 2.2.1, Tokens: Real-time authorization).
 
 ghost use Rattle.std.specs.Prelude.{◌≡◌, IfOk, IfErr, IfSome, IfNone};
-ghost use Rattle.ocpi_text.specs.Text.{key};
-ghost use Rattle.ocpi_types.specs.declared.packet.Body.TheVariants as body;
-ghost use Rattle.authorization_book.specs.declared.awaited.Awaited.{Awaited as AwaitedOf};
-ghost use Rattle.node_steps.specs.Drafts.{step_of};
-ghost use Rattle.node_steps.specs.Peers.{HasPeer};
-ghost use Rattle.operator_rows.specs.FullSteps.{full_step_of};
-ghost use Rattle.operator_steps.specs.Asking.{IsAwaited};
-ghost use Rattle.operator_steps.specs.Faults.{IsDue};
-ghost use Rattle.operator_steps.specs.Moves.{PlannedBy};
-ghost use Rattle.operator_steps.specs.Steps.{Comes};
+ghost use Rattle.ocpi_text.specs.{key};
+ghost use Rattle.ocpi_types.specs.body;
+ghost use Rattle.authorization_book.specs.{Awaited as AwaitedOf};
+ghost use Rattle.node_steps.specs.{HasPeer, step_of};
+ghost use Rattle.operator_rows.specs.{full_step_of};
+ghost use Rattle.operator_steps.specs.{Comes, IsAwaited, IsDue, PlannedBy};
 ghost use Rattle.operator_core.specs.Answering.{ByAnswer};
 ghost use Rattle.operator_core.specs.Planned.{PlansActs, StopsLine};
 ghost use Rattle.operator_core.specs.Requests.{IsRequest};

@@ -1,8 +1,7 @@
 //! What a packet and a command carry, as far as an operator asks.
 
 ghost use Rattle.std.specs.Prelude.{◌≡◌, ◌↔◌, IfOk, IsTrue};
-ghost use Rattle.operator_steps.specs.Acts.{reference_of, told, url_of};
-ghost use Rattle.operator_steps.specs.Steps.{IsTaken};
+ghost use Rattle.operator_steps.specs.{IsTaken, reference_of, told, url_of};
 
 use ocpi_text::{CiText, FreeText};
 use ocpi_types::{Body, Command, CommandResult, CommandResultType};

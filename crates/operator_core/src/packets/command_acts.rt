@@ -2,17 +2,15 @@
 
 ghost use Rattle.std.specs.Prelude.{◌≡◌, ◌∷◌, [], OnOk};
 ghost use Rattle.command_book.specs.Stored as book;
-ghost use Rattle.node_steps.specs.Drafts.{HasNumbersOf, with_acts};
-ghost use Rattle.operator_steps.specs.Acts.{freed, marked, reserved, spent, used};
+ghost use Rattle.node_steps.specs.{HasNumbersOf, with_acts};
+ghost use Rattle.operator_steps.specs.{freed, marked, reserved, spent, used};
 ghost use Rattle.operator_core.specs.Requests.{decided_by, opened_by, own_by, settled_by};
 
 use crate::packets::bodies::{reference_of, told};
 use crate::packets::command_responses::respond;
 use node_steps::Draft;
 use ocpi_text::{CiKey, CiText, Moment, PartyKey};
-use ocpi_types::{
-    Boxed, Change, Command, CommandResultType, OpenCommand, Place, Push, Reservation, Row, RowKey,
-};
+use ocpi_types::{Boxed, Change, Command, CommandResultType, OpenCommand, Place, Push, Reservation, Row, RowKey};
 use operator_tables::{Decision, Request, TIMEOUT};
 use std::alloc::{AllocError, Global};
 

@@ -1,7 +1,7 @@
 //! The responses to commands (OCPI 2.2.1, Commands: CommandResponse).
 
 ghost use Rattle.std.specs.Prelude.{◌≡◌};
-ghost use Rattle.operator_steps.specs.Acts.{reply_of, responded};
+ghost use Rattle.operator_steps.specs.{reply_of, responded};
 
 use ocpi_text::{Moment, Whole};
 use ocpi_types::{CommandResponse, CommandResponseType, Reply, ResponseData};

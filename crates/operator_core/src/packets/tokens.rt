@@ -1,9 +1,9 @@
 //! The tokens that providers send (OCPI 2.2.1, Tokens: Receiver interface, PUT).
 
 ghost use Rattle.std.specs.Prelude.{◌≡◌, ℕ, List, IfOk, IfErr, OnOk};
-ghost use Rattle.ocpi_text.specs.Text.{key};
-ghost use Rattle.node_steps.specs.Drafts.{HasNumbers, step_of, with_acts};
-ghost use Rattle.operator_steps.specs.Steps.{TokenLine, acknowledgement};
+ghost use Rattle.ocpi_text.specs.{key};
+ghost use Rattle.node_steps.specs.{HasNumbers, step_of, with_acts};
+ghost use Rattle.operator_steps.specs.{TokenLine, acknowledgement};
 ghost use Rattle.operator_core.specs.Planned.{PlansActs, StopsLine};
 ghost use Rattle.operator_core.specs.Requests.{put_acts, status_of};
 

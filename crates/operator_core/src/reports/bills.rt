@@ -1,16 +1,14 @@
 //! Charge detail records (OCPI 2.2.1, CDRs: Sender interface).
 
 ghost use Rattle.std.specs.Prelude.{◌≡◌, ◌+◌, ◌∷◌, [], IfOk, IfErr, OnOk};
-ghost use Rattle.ocpi_text.specs.OwnIds.{own_id_text};
-ghost use Rattle.ocpi_text.specs.Text.{key};
-ghost use Rattle.ocpi_text.specs.declared.own_ids.OwnIdKind.TheVariants as own;
-ghost use Rattle.ocpi_types.specs.declared.rows.Change.TheVariants as change;
-ghost use Rattle.ocpi_types.specs.declared.rows.Row.TheVariants as row;
-ghost use Rattle.ocpi_types.specs.declared.stored.Push.TheVariants as push;
-ghost use Rattle.node_steps.specs.Acts.{changed, pushed};
-ghost use Rattle.node_steps.specs.Drafts.{HasNumbers, with_acts};
-ghost use Rattle.site_book.specs.Sites.{IsConnectorOf};
-ghost use Rattle.session_state.specs.Records.{cdr_of};
+ghost use Rattle.ocpi_text.specs.{key, own_id_text};
+ghost use Rattle.ocpi_text.specs.own;
+ghost use Rattle.ocpi_types.specs.change;
+ghost use Rattle.ocpi_types.specs.row;
+ghost use Rattle.ocpi_types.specs.push;
+ghost use Rattle.node_steps.specs.{HasNumbers, changed, pushed, with_acts};
+ghost use Rattle.site_book.specs.{IsConnectorOf};
+ghost use Rattle.session_state.specs.{cdr_of};
 ghost use Rattle.operator_core.specs.Bills.{CannotBill, IsBillOf, IsLocationOf, bill_acts};
 
 use crate::operator::Operator;

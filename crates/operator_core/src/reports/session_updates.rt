@@ -1,13 +1,11 @@
 //! What a charge point's report makes of a session (OCPI 2.2.1, Sessions: Session object, SessionStatus).
 
 ghost use Rattle.std.specs.Prelude.{◌≡◌, ◌≢◌, ◌≤◌, IfOk, IfErr, OnOk};
-ghost use Rattle.ocpi_text.specs.Text.{key};
-ghost use Rattle.ocpi_text.specs.Whole.{max_whole};
-ghost use Rattle.ocpi_types.specs.declared.words.SessionStatus.TheVariants.{Completed};
-ghost use Rattle.node_steps.specs.Drafts.{step_of};
-ghost use Rattle.node_steps.specs.Peers.{HasPeer};
-ghost use Rattle.site_book.specs.Sites.{IsConnectorOf};
-ghost use Rattle.operator_steps.specs.Moves.{AreInRange, step_of_acts};
+ghost use Rattle.ocpi_text.specs.{key, max_whole};
+ghost use Rattle.ocpi_types.specs.{Completed};
+ghost use Rattle.node_steps.specs.{HasPeer, step_of};
+ghost use Rattle.site_book.specs.{IsConnectorOf};
+ghost use Rattle.operator_steps.specs.{AreInRange, step_of_acts};
 ghost use Rattle.operator_core.specs.Bills.{IsRecorded, StopsEarly, completed_acts};
 ghost use Rattle.operator_core.specs.Planned.{PlansActs, StopsActs, version_acts};
 

@@ -1,18 +1,14 @@
 //! The tokens that drivers show (OCPI 2.2.1, Tokens: Real-time authorization).
 
 ghost use Rattle.std.specs.Prelude.{◌≡◌, ◌⊎◌, ◌+◌, ◌∷◌, [], IfOk, IfErr};
-ghost use Rattle.ocpi_text.specs.Text.{key};
-ghost use Rattle.ocpi_types.specs.declared.packet.Body.TheVariants as body;
-ghost use Rattle.authorization_book.specs.declared.waiting.Waiting.TheVariants.{Begins};
-ghost use Rattle.node_steps.specs.Acts.{asked};
-ghost use Rattle.node_steps.specs.Drafts.{HasNumbers, with_acts};
-ghost use Rattle.node_steps.specs.Peers.{HasPeer};
-ghost use Rattle.operator_rows.specs.FullSteps.{full_step_of};
-ghost use Rattle.operator_steps.specs.Asking.{IsAsked, question};
-ghost use Rattle.operator_steps.specs.Charger.{Shows, ShowsNone};
-ghost use Rattle.operator_steps.specs.Moves.{PlannedBy};
+ghost use Rattle.ocpi_text.specs.{key};
+ghost use Rattle.ocpi_types.specs.body;
+ghost use Rattle.authorization_book.specs.{Begins};
+ghost use Rattle.node_steps.specs.{HasNumbers, HasPeer, asked, with_acts};
+ghost use Rattle.operator_rows.specs.{full_step_of};
+ghost use Rattle.operator_steps.specs.{IsAsked, PlannedBy, Shows, ShowsNone, question};
 ghost use Rattle.operator_core.specs.Planned.{StopsWork};
-ghost use Rattle.session_tables.specs.declared.shown.Shown.TheVariants.{Nothing};
+ghost use Rattle.session_tables.specs.{Nothing};
 
 use crate::operator::Operator;
 use authorization_book::{Awaited, Waiting};

@@ -1,11 +1,9 @@
 //! The step in which one session begins.
 
 ghost use Rattle.std.specs.Prelude.{◌≡◌, ◌+◌, Contains, length, IfOk, IfErr, OnOk};
-ghost use Rattle.ocpi_text.specs.Text.{key};
-ghost use Rattle.node_steps.specs.Drafts.{HasNumbers, step_of, with_acts};
-ghost use Rattle.node_steps.specs.Peers.{HasPeer};
-ghost use Rattle.operator_steps.specs.declared.ending.Ending.{Ending as EndingOf};
-ghost use Rattle.operator_steps.specs.Ends.{IsOpen};
+ghost use Rattle.ocpi_text.specs.{key};
+ghost use Rattle.node_steps.specs.{HasNumbers, HasPeer, step_of, with_acts};
+ghost use Rattle.operator_steps.specs.{Ending as EndingOf, IsOpen};
 ghost use Rattle.operator_core.specs.Planned.{BeginsWith, PlansActs, StopsLine, begins_acts};
 
 use crate::operator::Operator;

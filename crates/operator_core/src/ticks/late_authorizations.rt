@@ -2,14 +2,13 @@
 
 ghost use Rattle.std.specs.Prelude.{◌≡◌, ◌≤◌, ◌+◌, ℕ, Contains, IsTrue, length, map as list_map, IfOk, IfErr};
 ghost use Rattle.std.specs.FinMap as map;
-ghost use Rattle.ocpi_text.specs.Text.{key};
-ghost use Rattle.ocpi_text.specs.Whole.{max_whole};
-ghost use Rattle.authorization_book.specs.declared.waiting.Waiting.TheVariants.{Ends};
-ghost use Rattle.node_steps.specs.Peers.{HasPeer};
-ghost use Rattle.operator_steps.specs.TickFacts.{IsLeftUnanswered};
+ghost use Rattle.ocpi_text.specs.{key, max_whole};
+ghost use Rattle.authorization_book.specs.{Ends};
+ghost use Rattle.node_steps.specs.{HasPeer};
+ghost use Rattle.operator_steps.specs.{IsLeftUnanswered};
 ghost use Rattle.operator_core.specs.Happenings.{is_number, is_replaced, unreplaced};
 ghost use Rattle.operator_core.specs.Planned.{AreBeginnings, AreNewSessions, CannotNumber};
-ghost use Rattle.session_tables.specs.declared.beginning.Beginning.{Beginning as BeginningOf};
+ghost use Rattle.session_tables.specs.{Beginning as BeginningOf};
 
 use crate::operator::Operator;
 use crate::sessions::Begun;

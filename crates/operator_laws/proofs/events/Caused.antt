@@ -1,56 +1,39 @@
 -- Each change of each line has its cause: line by line, act by act.
 use Rattle.std.proofs.Common.{◌≡◌, ◌⊎◌, ◌+◌, ℕ, List, [], ◌∷◌, ◌++◌, map, inl, inr, refl, sym, ap, subst, ◌∙◌, arith}
-use Rattle.std.specs.Prelude.{Option, Some, None, Contains, Bool, cond, true, false, nat_eq}
+use Rattle.std.proofs.Common.{Option, Some, None, Contains, Bool, cond, true, false, nat_eq}
 use Rattle.std.specs.FinMap.{get}
 use Rattle.std.proofs.lemmas.List.Elements.{Contains-append_cases, Contains-append_left, Contains-append_right}
 use Rattle.tables.proofs.Elements.{in_none, in_front, in_single, in_map}
-use Rattle.ocpi_text.specs.Text.{key}
-use Rattle.ocpi_types.specs.declared.authorizations.Authorization.{Authorization}
-use Rattle.ocpi_types.specs.declared.cdrs.Cdr.{Cdr}
-use Rattle.ocpi_types.specs.declared.events.ChargerEvent.{ChargerEvent}
-use Rattle.ocpi_types.specs.declared.packet.Body.TheVariants as body
-use Rattle.ocpi_types.specs.declared.packet.Packet.{Packet}
-use Rattle.ocpi_types.specs.declared.rows.Row.TheVariants as row
-use Rattle.ocpi_types.specs.declared.rows.RowKey.TheVariants as keys
-use Rattle.ocpi_types.specs.declared.rows.Change.{Change}
-use Rattle.ocpi_types.specs.declared.rows.Change.TheVariants.{Put, Drop}
-use Rattle.ocpi_types.specs.declared.rows.Counter.TheVariants as counter
-use Rattle.ocpi_types.specs.declared.sessions.Session.{Session}
-use Rattle.ocpi_types.specs.declared.commands.Command.{Command}
-use Rattle.ocpi_types.specs.declared.stored.OpenCommand.{OpenCommand}
-use Rattle.ocpi_types.specs.declared.stored.Push.TheVariants as push
-use Rattle.ocpi_types.specs.declared.stored.Reply.{Reply}
-use Rattle.authorization_book.specs.declared.awaited.Awaited.{Awaited}
-use Rattle.reservation_book.specs.declared.standing.Standing.{Standing}
-use Rattle.node_steps.specs.Acts.{Act, acknowledged, all_changes, answered, changed, repeated}
-use Rattle.node_steps.specs.Drafts.{count_change}
-use Rattle.node_steps.specs.Peers.{IsPeer}
+use Rattle.ocpi_text.specs.{key}
+use Rattle.ocpi_types.specs.{Authorization, Change, ChargerEvent, Command, Drop, OpenCommand, Packet, Put, Reply}
+use Rattle.ocpi_types.specs.{Session}
+use Rattle.ocpi_types.specs.body
+use Rattle.ocpi_types.specs.row
+use Rattle.ocpi_types.specs.keys
+use Rattle.ocpi_types.specs.counter
+use Rattle.authorization_book.specs.{Awaited}
+use Rattle.reservation_book.specs.{Standing}
+use Rattle.node_steps.specs.{Act, IsPeer, acknowledged, all_changes, answered, changed, count_change, repeated}
 use Rattle.node_steps.proofs.Gathering.{changes_append}
-use Rattle.operator_rows.specs.State.{State, IsSpent}
+use Rattle.operator_rows.specs.{IsSpent}
+use Rattle.operator_rows.specs.State.{State}
 use Rattle.operator_rows.proofs.RowChanges.{in_later, of_cons}
-use Rattle.session_tables.specs.declared.beginning.Beginning.{Beginning}
-use Rattle.session_tables.specs.Answers.{BeginsByAnswer, Decided}
-use Rattle.operator_steps.specs.declared.ending.Ending.{Ending}
-use Rattle.operator_steps.specs.Acts.{spent, used}
+use Rattle.session_tables.specs.{Beginning, BeginsByAnswer, Decided}
+use Rattle.operator_steps.specs.{AnswerActs, AreUnanswered, Arrives, Asks, ChargerLine, CreditLine, Deadlines, Ending}
+use Rattle.operator_steps.specs.{Expiries, Input, IsBegun, IsBilled, IsOfSite, IsOpen, PacketLine, Reports, Resends}
+use Rattle.operator_steps.specs.{Restarts, Serves, ServiceLine, TickLine, Ticks, TimeOut, Timeouts, TokenLine, Work}
+use Rattle.operator_steps.specs.{acknowledgement, end_acts, ends_acts, expired_acts, numbered_sessions, request_of}
+use Rattle.operator_steps.specs.{spent, used, versioned}
 use Rattle.operator_steps.specs.Asking as asking
-use Rattle.operator_steps.specs.Asking.{AnswerActs, AreUnanswered, Deadlines, IsAnswered, IsAwaited}
 use Rattle.operator_steps.specs.Charger as charger
-use Rattle.operator_steps.specs.Charger.{ChargerLine}
 use Rattle.operator_steps.specs.Credits as credits
-use Rattle.operator_steps.specs.Credits.{CreditLine, next_credit}
-use Rattle.operator_steps.specs.Ends.{IsOfSite, IsOpen, end_acts, ends_acts, expired_acts}
-use Rattle.operator_steps.specs.Events.{Input, Arrives, Serves, Reports, Credits, Ticks, Restarts, Asks}
-use Rattle.operator_steps.specs.Moves.{Work}
+use Rattle.operator_steps.specs.Events.{Credits}
 use Rattle.operator_steps.specs.Service as service
-use Rattle.operator_steps.specs.Service.{ServiceLine}
 use Rattle.operator_steps.specs.Sessions as sessions
-use Rattle.operator_steps.specs.Sessions.{IsBegun, IsBilled, IsMoved, IsVersioned, numbered_sessions, replaced, versioned}
 use Rattle.operator_steps.specs.Steps as lines
-use Rattle.operator_steps.specs.Steps.{PacketLine, TokenLine, acknowledgement}
-use Rattle.operator_steps.specs.Tick.{Expiries, Resends, TickLine, TimeOut, Timeouts, request_of}
 use Rattle.operator_steps.proofs.Orderly.{AreOrderly, orderly_kinds}
 use Rattle.operator_steps.proofs.Resending.{resent_leave}
-use Rattle.operator_laws.proofs.events.Causes.{Cause, Crediting, Replying, TakesToken}
+use Rattle.operator_laws.proofs.events.Causes.{Cause, Replying, TakesToken}
 use Rattle.operator_laws.proofs.events.Decided.{AllOf, all_acts, all_in, decided_caused}
 
 -- an open command that ends
@@ -295,21 +278,6 @@ module _ (s : State) (i : Input) (acts : List Act) where
           ]
         ]
       ]
-
--- each record that the order to take a bill back puts is the credit of that bill
-pub credit_puts : (s : State) (at : ℕ) (session : List ℕ) (acts : List Act) → CreditLine s at session acts → (x : Cdr) → Contains (all_changes acts) (Put (row.Cdr x)) →
-    Crediting s (Credits at session) x
-credit_puts s at session acts (credits.NothingToCredit none is) x i = absurd (in_none (Put (row.Cdr x)) (subst (λ l. Contains (all_changes l) (Put (row.Cdr x))) is i))
-credit_puts s at session acts (credits.Credited bill to h later is) x i =
-    let credit : Cdr = next_credit at bill in
-    let stored : List Change = Put (row.Cdr credit) ∷ [] in
-    elim (of_cons (Put (row.Push (s.rows.request + 1) to (push.PostCdr credit))) stored (Put (row.Cdr x)) (subst (λ l. Contains (all_changes l) (Put (row.Cdr x))) is i)) [
-      | inl pushes ↦ absurd (cc)
-      | inr puts ↦
-          let both : Put (row.Cdr credit) ≡ Put (row.Cdr x) = in_single (Put (row.Cdr credit)) (Put (row.Cdr x)) puts in
-          let same : x ≡ credit = cc in
-          record { at = at; session = session; ordered = refl; bill = bill; to = to; credits = h; later = later; record_is = same }
-    ]
 
 -- what an input asks for has its causes
 pub asked_caused : (s : State) (i : Input) (work : Work) → Asks s i work → (c : Change) → Contains (all_changes work.acts) c → Cause s i work.acts c

@@ -2,38 +2,23 @@
 -- changes; a law asks for the cause of a row, and need not know which acts there are.
 use Rattle.std.specs.Prelude.{◌≡◌, ◌≢◌, ◌<◌, ℕ, List, Some, None, Contains, ⊤}
 use Rattle.std.specs.FinMap.{get}
-use Rattle.ocpi_text.specs.Moment.{last_moment}
-use Rattle.ocpi_text.specs.Text.{key}
-use Rattle.ocpi_types.specs.declared.cdrs.Cdr.{Cdr}
-use Rattle.ocpi_types.specs.declared.commands.ReserveNow.{ReserveNow}
-use Rattle.ocpi_types.specs.declared.packet.Body.TheVariants as body
-use Rattle.ocpi_types.specs.declared.packet.Packet.{Packet}
-use Rattle.ocpi_types.specs.declared.rows.Counter.{Counter}
-use Rattle.ocpi_types.specs.declared.rows.Counter.TheVariants as counter
-use Rattle.ocpi_types.specs.declared.rows.Row.TheVariants as row
-use Rattle.ocpi_types.specs.declared.rows.RowKey.TheVariants as keys
-use Rattle.ocpi_types.specs.declared.rows.Change.{Change}
-use Rattle.ocpi_types.specs.declared.rows.Change.TheVariants.{Put, Drop}
-use Rattle.ocpi_types.specs.declared.commands.Command.{Command}
-use Rattle.ocpi_types.specs.declared.commands.Command.TheVariants as command
-use Rattle.ocpi_types.specs.declared.stored.OpenCommand.{OpenCommand}
-use Rattle.ocpi_types.specs.declared.stored.Reply.{Reply}
-use Rattle.ocpi_types.specs.declared.stored.Reservation.{Reservation}
-use Rattle.ocpi_types.specs.declared.words.CommandResultType.{CommandResultType}
+use Rattle.ocpi_text.specs.{key, last_moment}
+use Rattle.ocpi_types.specs.{Cdr, Change, Command, CommandResultType, Counter, Drop, OpenCommand, Packet, Put, Reply}
+use Rattle.ocpi_types.specs.{Reservation, ReserveNow, Token}
+use Rattle.ocpi_types.specs.body
+use Rattle.ocpi_types.specs.counter
+use Rattle.ocpi_types.specs.row
+use Rattle.ocpi_types.specs.keys
+use Rattle.ocpi_types.specs.command
 use Rattle.ocpi_types.specs.declared.words.CommandResultType.TheVariants.{Accepted}
-use Rattle.ocpi_types.specs.declared.token.Token.{Token}
-use Rattle.reservation_book.specs.Refusals.{IsInTime}
-use Rattle.token_desk.specs.Putting.{IsNewer}
-use Rattle.node_steps.specs.Acts.{Act, all_changes}
-use Rattle.node_steps.specs.Peers.{IsPeer}
+use Rattle.reservation_book.specs.{IsInTime}
+use Rattle.token_desk.specs.{IsNewer}
+use Rattle.node_steps.specs.{Act, IsPeer, all_changes}
 use Rattle.operator_rows.specs.State.{State}
-use Rattle.operator_rows.specs.Sound.{IsSound}
-use Rattle.operator_tables.specs.Asked.{IsAsked}
-use Rattle.operator_tables.specs.declared.decision.Decision.{Decision}
-use Rattle.operator_steps.specs.Acts.{decided_acts, reply_of}
-use Rattle.operator_steps.specs.Credits.{CreditsTo, next_credit}
-use Rattle.operator_steps.specs.Events.{Input, Arrives, Credits}
-use Rattle.operator_steps.specs.Steps.{IsDecided, TokenLine}
+use Rattle.operator_rows.specs.{IsSound}
+use Rattle.operator_tables.specs.{Decision, IsAsked}
+use Rattle.operator_steps.specs.{Arrives, CreditsTo, Input, IsDecided, TokenLine, decided_acts, next_credit, reply_of}
+use Rattle.operator_steps.specs.Events.{Credits}
 use Rattle.operator_steps.proofs.Orderly.{AreOrderly}
 use Rattle.operator_laws.specs.Laws.{IsReplyTo}
 use Rattle.operator_laws.specs.References.{Uses}

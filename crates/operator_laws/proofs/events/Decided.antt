@@ -1,33 +1,27 @@
 -- Each change of a decision on a command has its cause.
-use Rattle.std.proofs.Common.{◌≡◌, ◌≢◌, ℕ, List, [], ◌∷◌, ◌++◌, inl, inr, refl, sym, ap, subst, ◌∙◌, arith}
-use Rattle.std.specs.Prelude.{Option, Some, None, Contains, ⊤}
+use Rattle.std.proofs.Common.{◌≡◌, ◌≢◌, ℕ, List, [], ◌∷◌, ◌++◌, inl, inr, refl, sym, ap, subst, ◌∙◌, arith, Option}
+use Rattle.std.proofs.Common.{Some, None, Contains}
+use Rattle.std.specs.Prelude.{⊤}
 use Rattle.std.specs.FinMap.{get}
 use Rattle.tables.proofs.Elements.{in_front, in_none}
 use Rattle.tables.proofs.Options.{none_some}
-use Rattle.ocpi_text.specs.Text.{key}
-use Rattle.ocpi_types.specs.declared.packet.Body.{Body}
-use Rattle.ocpi_types.specs.declared.packet.Body.TheVariants as body
-use Rattle.ocpi_types.specs.declared.rows.Place.{Place}
-use Rattle.ocpi_types.specs.declared.rows.Row.TheVariants as row
-use Rattle.ocpi_types.specs.declared.rows.Change.{Change}
-use Rattle.ocpi_types.specs.declared.rows.Change.TheVariants.{Put}
-use Rattle.ocpi_types.specs.declared.commands.Command.{Command}
-use Rattle.ocpi_types.specs.declared.stored.OpenCommand.{OpenCommand}
-use Rattle.ocpi_types.specs.declared.stored.Reply.{Reply}
-use Rattle.ocpi_types.specs.declared.words.CommandResultType.{CommandResultType}
+use Rattle.ocpi_text.specs.{key}
+use Rattle.ocpi_types.specs.{Body, Change, Command, CommandResultType, OpenCommand, Place, Put, Reply}
+use Rattle.ocpi_types.specs.body
+use Rattle.ocpi_types.specs.row
 use Rattle.ocpi_types.specs.declared.words.CommandResultType.TheVariants.{Accepted}
 use Rattle.command_book.specs.Stored as book
-use Rattle.reservation_book.specs.Refusals.{IsInTime}
-use Rattle.node_steps.specs.Acts.{Act, all_changes, answered}
+use Rattle.reservation_book.specs.{IsInTime}
+use Rattle.node_steps.specs.{Act, all_changes, answered}
 use Rattle.node_steps.proofs.Gathering.{changes_append}
-use Rattle.operator_rows.specs.State.{State, IsSpent}
+use Rattle.operator_rows.specs.{IsSpent}
+use Rattle.operator_rows.specs.State.{State}
 use Rattle.operator_rows.proofs.RowChanges.{of_cons}
-use Rattle.operator_tables.specs.declared.decision.Decision.{Decision}
-use Rattle.operator_tables.specs.declared.decision.Decision.TheVariants as decision
-use Rattle.operator_tables.specs.Outcomes.{Opens, Starts, Tells}
+use Rattle.operator_tables.specs.{Decision, Opens, Starts, Tells}
+use Rattle.operator_tables.specs.decision
 use Rattle.operator_tables.proofs.Lines.{all_tell}
-use Rattle.operator_steps.specs.Acts.{deadline, decided_acts, opened, reference_of, reply_of, settled, spent, url_of, used}
-use Rattle.operator_steps.specs.Events.{Input}
+use Rattle.operator_steps.specs.{Input, deadline, decided_acts, opened, reference_of, reply_of, settled, spent, url_of}
+use Rattle.operator_steps.specs.{used}
 use Rattle.operator_steps.proofs.DecidedSteps.{decided_orderly, unended}
 use Rattle.operator_steps.proofs.Orderly.{AreOrderly}
 use Rattle.operator_laws.specs.Laws.{IsReplyTo}
@@ -142,10 +136,6 @@ module _ (s : State) (i : Input) (acts : List Act) (h : DecidesIt s i acts) wher
       spends = λ reference uses. subst (λ z. Contains (all_changes acts) (Put (row.Spent p z))) uses.2
           (within (decision.Started place reservation) is (Put (row.Spent p (key uses.0))) (start_spends h.to p n (reply_of h.at (decision.Started place reservation)) o reservation (reference_of h.command) uses.0 uses.1));
     }
-
-    spent_caused : (reference : Option (List ℕ)) → reference_of h.command ≡ reference → AllOf Why (all_changes (spent p reference))
-    spent_caused None named = tt
-    spent_caused (Some x) named = (unspent_of x named, tt)
 
     started_caused : (used_one reference : Option (List ℕ)) → reference_of h.command ≡ reference → AllOf Why (all_changes ((used p used_one ++ (opened p n o ∷ spent p reference)) ++ []))
     started_caused None None named = (start_caused, tt)

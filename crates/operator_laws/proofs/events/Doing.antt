@@ -1,32 +1,24 @@
 -- What an event does: the acts that it comes to, the causes of what they change, and what its changes make of the rows.
 use Rattle.std.proofs.Common.{◌≡◌, ◌≢◌, ◌⊎◌, ◌+◌, ◌≤◌, ℕ, List, [], length, refl, inl, inr, sym, ap, subst, ◌∙◌, arith}
-use Rattle.std.specs.Prelude.{None, Contains}
+use Rattle.std.proofs.Common.{None, Contains}
 use Rattle.std.specs.FinMap.{get}
 use Rattle.std.proofs.lemmas.List.Elements.{Contains-append_cases, Contains-append_right}
 use Rattle.tables.proofs.Elements.{in_none}
-use Rattle.ocpi_text.specs.Text.{key}
-use Rattle.ocpi_text.specs.Whole.{max_whole}
-use Rattle.ocpi_types.specs.Rows.{key_of}
-use Rattle.ocpi_types.specs.declared.cdrs.Cdr.{Cdr}
-use Rattle.ocpi_types.specs.declared.rows.Row.{Row}
-use Rattle.ocpi_types.specs.declared.rows.Row.TheVariants as row
-use Rattle.ocpi_types.specs.declared.rows.RowKey.TheVariants as keys
-use Rattle.ocpi_types.specs.declared.rows.Change.{Change}
-use Rattle.ocpi_types.specs.declared.rows.Change.TheVariants.{Put, Drop}
-use Rattle.ocpi_types.specs.declared.rows.Counter.{Counter}
-use Rattle.ocpi_types.specs.declared.rows.Counter.TheVariants as counter
-use Rattle.ocpi_types.specs.declared.sessions.Session.{Session}
-use Rattle.node_steps.specs.Acts.{Act, all_changes, all_messages, all_requests}
-use Rattle.node_steps.specs.Drafts.{Counters, Step, count_changes, counted}
-use Rattle.node_steps.specs.Messages.{Message, numbered}
+use Rattle.ocpi_text.specs.{key, max_whole}
+use Rattle.ocpi_types.specs.{Cdr, Change, Counter, Drop, Put, Row, Session, key_of}
+use Rattle.ocpi_types.specs.row
+use Rattle.ocpi_types.specs.keys
+use Rattle.ocpi_types.specs.counter
+use Rattle.node_steps.specs.{Act, Counters, Message, Step, all_changes, all_messages, all_requests, count_changes}
+use Rattle.node_steps.specs.{counted, numbered}
 use Rattle.operator_rows.specs.State.{Rows, State}
-use Rattle.operator_rows.specs.Stored.{AreApart, changed_all, change_key}
-use Rattle.operator_rows.specs.Rows.{AreChanges, HasRow}
-use Rattle.operator_rows.specs.Sound.{IsConsistent, MayChangeAll}
-use Rattle.operator_rows.specs.Steps.{IsNext, MayFollow, MayFollowFull, restarted}
+use Rattle.operator_rows.specs.{AreApart, AreChanges, HasRow, IsConsistent, IsNext, MayChangeAll, MayFollow}
+use Rattle.operator_rows.specs.{MayFollowFull, change_key, changed_all, restarted}
 use Rattle.operator_rows.proofs.RowChanges.{row_changes}
-use Rattle.operator_steps.specs.Events.{Event, Happens, Done, Restarted, Refused, Input, Arrives, Serves, Reports, Credits, Ticks, Restarts, Asks, event_out}
-use Rattle.operator_steps.specs.Moves.{AreInRange, Out, StepBy, Work, counters_of, idle, step_of_acts, step_of_work}
+use Rattle.operator_steps.specs.{AreInRange, Arrives, Asks, Done, Event, Happens, Input, Out, Refused, Reports}
+use Rattle.operator_steps.specs.{Restarted, Restarts, Serves, StepBy, Ticks, Work, counters_of, event_out, idle}
+use Rattle.operator_steps.specs.{step_of_acts, step_of_work}
+use Rattle.operator_steps.specs.Events.{Credits}
 use Rattle.operator_steps.proofs.Counts.{counters_in, counters_stay}
 use Rattle.operator_steps.proofs.Fitting.{numbered_for, rows_after}
 use Rattle.operator_steps.proofs.Orderly.{AreOrderly, AreUncounted, IsOfStep, of_counters, orderly_apart}

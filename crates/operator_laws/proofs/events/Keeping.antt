@@ -1,24 +1,16 @@
 -- What an event keeps of what stood before it.
-use Rattle.std.proofs.Common.{◌≡◌, ◌≢◌, ◌⊎◌, ◌≤◌, ℕ, List, inl, inr, sym, ap, subst, ◌∙◌, arith}
-use Rattle.std.specs.Prelude.{Some, None, Contains}
+use Rattle.std.proofs.Common.{◌≡◌, ◌≢◌, ◌⊎◌, ◌≤◌, ℕ, List, inl, inr, sym, ap, subst, ◌∙◌, arith, Some, None, Contains}
 use Rattle.std.specs.FinMap.{get}
 use Rattle.tables.proofs.Options.{not_both}
-use Rattle.ocpi_text.specs.Text.{key}
-use Rattle.ocpi_types.specs.Rows.{key_of}
-use Rattle.ocpi_types.specs.declared.rows.Row.{Row}
-use Rattle.ocpi_types.specs.declared.rows.Row.TheVariants as row
-use Rattle.ocpi_types.specs.declared.rows.RowKey.TheVariants as keys
-use Rattle.ocpi_types.specs.declared.rows.Change.{Change}
-use Rattle.ocpi_types.specs.declared.rows.Change.TheVariants.{Put, Drop}
-use Rattle.ocpi_types.specs.declared.stored.OpenCommand.{OpenCommand}
-use Rattle.ocpi_types.specs.declared.stored.Reply.{Reply}
-use Rattle.ocpi_types.specs.declared.words.CommandResultType.{CommandResultType}
+use Rattle.ocpi_text.specs.{key}
+use Rattle.ocpi_types.specs.{Change, CommandResultType, Drop, OpenCommand, Put, Reply, Row, key_of}
+use Rattle.ocpi_types.specs.row
+use Rattle.ocpi_types.specs.keys
 use Rattle.reservation_book.specs.Rows as booked
-use Rattle.node_steps.specs.Acts.{Act, all_changes}
+use Rattle.node_steps.specs.{Act, all_changes}
 use Rattle.operator_rows.specs.State.{State}
-use Rattle.operator_rows.specs.Stored.{change_key}
-use Rattle.operator_rows.specs.Sound.{IsConsistent, IsSound}
-use Rattle.operator_steps.specs.Events.{Event, Input}
+use Rattle.operator_rows.specs.{IsConsistent, IsSound, change_key}
+use Rattle.operator_steps.specs.{Event, Input}
 use Rattle.operator_steps.proofs.Orderly.{AreOrderly}
 use Rattle.operator_laws.proofs.events.Causes.{Answering, Cause, DecidesIt, Marking, Opening}
 use Rattle.operator_laws.proofs.events.Decided.{replying}

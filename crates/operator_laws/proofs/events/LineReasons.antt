@@ -1,72 +1,47 @@
 -- The reasons of what each line changes.
-use Rattle.std.proofs.Common.{◌≡◌, ◌+◌, ◌≤◌, ◌<◌, ℕ, ℤ, List, [], ◌∷◌, ◌++◌, map, inl, inr, refl, sym, ap, subst, ◌∙◌, arith}
-use Rattle.std.specs.Prelude.{Option, Some, None, Contains, Bool, cond, true, false, nat_eq, length}
+use Rattle.std.proofs.Common.{◌≡◌, ◌+◌, ◌≤◌, ◌<◌, ℕ, ℤ, List, [], ◌∷◌, ◌++◌, map, inl, inr, refl, sym, ap, subst, ◌∙◌}
+use Rattle.std.proofs.Common.{arith, Option, Some, None, Contains, Bool, cond, true, false, nat_eq, length}
 use Rattle.std.specs.FinMap.{get}
 use Rattle.std.proofs.lemmas.Bool.{eqb-true}
 use Rattle.tables.proofs.Elements.{in_single}
 use Rattle.tables.proofs.Options.{none_some}
-use Rattle.ocpi_text.specs.Text.{key}
-use Rattle.ocpi_types.specs.declared.authorizations.Authorization.{Authorization}
-use Rattle.ocpi_types.specs.declared.cdrs.Cdr.{Cdr}
-use Rattle.ocpi_types.specs.declared.commands.StartSession.{StartSession}
-use Rattle.ocpi_types.specs.declared.events.ChargerEvent.{ChargerEvent}
-use Rattle.ocpi_types.specs.declared.events.ChargerEvent.TheVariants as event
-use Rattle.ocpi_types.specs.declared.packet.Body.TheVariants as body
-use Rattle.ocpi_types.specs.declared.packet.Packet.{Packet}
-use Rattle.ocpi_types.specs.declared.rows.Row.TheVariants as row
-use Rattle.ocpi_types.specs.declared.rows.RowKey.TheVariants as keys
-use Rattle.ocpi_types.specs.declared.rows.Change.{Change}
-use Rattle.ocpi_types.specs.declared.rows.Change.TheVariants.{Put, Drop}
-use Rattle.ocpi_types.specs.declared.rows.Counter.TheVariants as counter
-use Rattle.ocpi_types.specs.declared.sessions.Session.{Session}
-use Rattle.ocpi_types.specs.declared.site.Connector.{Connector}
-use Rattle.ocpi_types.specs.declared.site.Evse.{Evse}
-use Rattle.ocpi_types.specs.declared.site.Location.{Location}
-use Rattle.ocpi_types.specs.declared.token.Token.{Token}
-use Rattle.ocpi_types.specs.declared.words.AuthMethod.TheVariants as how
-use Rattle.ocpi_types.specs.declared.commands.Command.TheVariants as command
-use Rattle.ocpi_types.specs.declared.stored.OpenCommand.{OpenCommand}
-use Rattle.ocpi_types.specs.declared.stored.Push.TheVariants as push
-use Rattle.ocpi_types.specs.declared.words.CommandResultType.{CommandResultType}
-use Rattle.ocpi_types.specs.declared.words.CommandResultType.TheVariants as result
-use Rattle.ocpi_types.specs.declared.words.TokenType.{TokenType}
-use Rattle.authorization_book.specs.declared.awaited.Awaited.{Awaited}
-use Rattle.reservation_book.specs.declared.standing.Standing.{Standing}
-use Rattle.token_desk.specs.declared.answers.Swipe.{Swipe}
-use Rattle.token_desk.specs.declared.answers.Swipe.TheVariants as shown
-use Rattle.node_steps.specs.Acts.{Act, acknowledged, all_changes, all_messages, answered, changed, push_message, pushed}
-use Rattle.node_steps.specs.Drafts.{count_change}
-use Rattle.node_steps.specs.Peers.{IsPeer}
-use Rattle.operator_rows.specs.State.{State, IsSpent}
-use Rattle.operator_rows.specs.Sound.{IsConsistent, IsOwnStart}
-use Rattle.operator_tables.specs.declared.decision.Decision.{Decision}
-use Rattle.operator_tables.specs.declared.decision.Decision.TheVariants as decision
-use Rattle.operator_tables.specs.Outcomes.{IsAbout, Tells}
+use Rattle.ocpi_text.specs.{key}
+use Rattle.ocpi_types.specs.{Authorization, Cdr, Change, ChargerEvent, CommandResultType, Connector, Drop, Evse}
+use Rattle.ocpi_types.specs.{Location, OpenCommand, Packet, Put, Session, StartSession, Token, TokenType}
+use Rattle.ocpi_types.specs.event
+use Rattle.ocpi_types.specs.body
+use Rattle.ocpi_types.specs.row
+use Rattle.ocpi_types.specs.keys
+use Rattle.ocpi_types.specs.counter
+use Rattle.ocpi_types.specs.how
+use Rattle.ocpi_types.specs.command
+use Rattle.ocpi_types.specs.push
+use Rattle.ocpi_types.specs.result
+use Rattle.authorization_book.specs.{Awaited}
+use Rattle.reservation_book.specs.{Standing}
+use Rattle.token_desk.specs.{Swipe}
+use Rattle.token_desk.specs.told as shown
+use Rattle.node_steps.specs.{Act, IsPeer, acknowledged, all_changes, all_messages, answered, changed, count_change}
+use Rattle.node_steps.specs.{push_message, pushed}
+use Rattle.operator_rows.specs.{IsConsistent, IsOwnStart, IsSpent}
+use Rattle.operator_rows.specs.State.{State}
+use Rattle.operator_tables.specs.{Decision, IsAbout, Tells}
+use Rattle.operator_tables.specs.decision
 use Rattle.operator_tables.proofs.Lines.{all_tell}
-use Rattle.session_tables.specs.declared.beginning.Beginning.{Beginning}
-use Rattle.session_tables.specs.declared.shown.Shown.TheVariants as shows
-use Rattle.session_tables.specs.Beginnings.{begins, cdr_token_of}
-use Rattle.session_tables.specs.Answers.{BeginsByAnswer, Decided}
-use Rattle.session_tables.specs.Moves.{Makes}
+use Rattle.session_tables.specs.{Beginning, BeginsByAnswer, Decided, Makes, SwipeLine, begins, cdr_token_of, told_by}
+use Rattle.session_tables.specs.shown as shows
 use Rattle.session_tables.specs.Swipes as swipes
-use Rattle.session_tables.specs.Swipes.{SwipeLine, told_by}
-use Rattle.operator_steps.specs.declared.ending.Ending.{Ending}
-use Rattle.operator_steps.specs.Acts.{decided_acts, reference_of, reply_of, settled, spent, url_of, used, opened}
-use Rattle.operator_steps.specs.Asking.{AnswerActs}
+use Rattle.operator_steps.specs.{AnswerActs, AreLeftUnanswered, Arrives, Asks, ChargerLine, CreditLine, Ending, Input}
+use Rattle.operator_steps.specs.{IsBegun, IsLeftUnanswered, IsStarted, IsTickOf, PacketLine, Reports, Restarts, Serves}
+use Rattle.operator_steps.specs.{ServiceLine, Shows, Ticks, TokenLine, Work, all_resent, decided_acts, ends_acts}
+use Rattle.operator_steps.specs.{expired_acts, first_of, next_credit, numbered_sessions, opened, outcome, reference_of}
+use Rattle.operator_steps.specs.{reply_of, settled, spent, url_of, used}
 use Rattle.operator_steps.specs.Charger as charger
-use Rattle.operator_steps.specs.Charger.{ChargerLine, IsStarted, Shows, outcome}
 use Rattle.operator_steps.specs.Credits as credits
-use Rattle.operator_steps.specs.Credits.{CreditLine, next_credit}
-use Rattle.operator_steps.specs.Ends.{all_resent, ends_acts, expired_acts}
-use Rattle.operator_steps.specs.Events.{Input, Arrives, Serves, Reports, Credits, Ticks, Restarts, Asks}
-use Rattle.operator_steps.specs.Moves.{Work}
+use Rattle.operator_steps.specs.Events.{Credits}
 use Rattle.operator_steps.specs.Service as service
-use Rattle.operator_steps.specs.Service.{ServiceLine}
-use Rattle.operator_steps.specs.Sessions.{IsBegun, first_of, numbered_sessions}
 use Rattle.operator_steps.specs.Steps as lines
-use Rattle.operator_steps.specs.Steps.{PacketLine, TokenLine}
 use Rattle.operator_steps.specs.TickFacts as late
-use Rattle.operator_steps.specs.TickFacts.{AreLeftUnanswered, IsLeftUnanswered, IsTickOf}
 use Rattle.operator_steps.proofs.Resending.{resent_leave}
 use Rattle.operator_laws.proofs.events.Causes.{DecidesIt}
 use Rattle.operator_laws.proofs.events.Decided.{AllOf, all_acts, all_in}

@@ -1,23 +1,18 @@
 -- One change of a row: it puts it, or leaves what stands under other keys. Of the rows of sessions, of tokens and of
 -- counters this is not said here: those of sessions are told apart by their ids alone, and nothing else is read from
 -- them.
-use Rattle.std.proofs.Common.{◌≡◌, ◌≢◌, ◌↔◌, ◌⊎◌, inl, inr, refl, sym, ap, ◌∙◌}
-use Rattle.std.specs.Prelude.{Some, ⊤}
+use Rattle.std.proofs.Common.{◌≡◌, ◌≢◌, ◌↔◌, ◌⊎◌, inl, inr, refl, sym, ap, ◌∙◌, Some}
+use Rattle.std.specs.Prelude.{⊤}
 use Rattle.std.specs.declared.cmp.Ordering.{Ordering}
 use Rattle.std.specs.Cmp.{IsTotalOrder, nat_cmp_total}
 use Rattle.std.specs.FinMap.{FinMap, IsAntisymmetric, nat_cmp-IsAntisymmetric, get, insert, remove}
-use Rattle.tables.specs.Keys.{text_total, text_exact, text_number_total, text_number_exact, text_pair_total, text_pair_exact}
+use Rattle.tables.specs.{text_exact, text_number_exact, text_number_total, text_pair_exact, text_pair_total, text_total}
 use Rattle.tables.proofs.Maps.{get-insert_same, get-insert_other, of_remove, get-remove_other, told}
-use Rattle.ocpi_types.specs.Rows.{key_of}
-use Rattle.ocpi_types.specs.declared.rows.Row.{Row}
-use Rattle.ocpi_types.specs.declared.rows.Row.TheVariants as row
-use Rattle.ocpi_types.specs.declared.rows.RowKey.{RowKey}
-use Rattle.ocpi_types.specs.declared.rows.RowKey.TheVariants as keys
-use Rattle.ocpi_types.specs.declared.rows.Change.{Change}
-use Rattle.ocpi_types.specs.declared.rows.Change.TheVariants.{Put, Drop}
+use Rattle.ocpi_types.specs.{Change, Drop, Put, Row, RowKey, key_of}
+use Rattle.ocpi_types.specs.row
+use Rattle.ocpi_types.specs.keys
 use Rattle.operator_rows.specs.State.{Rows}
-use Rattle.operator_rows.specs.Stored.{put_row, drop_row, changed, change_key}
-use Rattle.operator_rows.specs.Rows.{HasRow}
+use Rattle.operator_rows.specs.{HasRow, change_key, changed, drop_row, put_row}
 
 -- rows that an operator keeps, but for tokens, sessions, charge detail records and counters
 abbrev pub IsOwn : Row → Type 0

@@ -1,41 +1,30 @@
 -- Each change of each line has its reason, where what holds at all times holds.
-use Rattle.std.proofs.Common.{◌≡◌, ◌+◌, ◌≤◌, ◌<◌, ℕ, List, [], ◌∷◌, ◌++◌, inl, refl, sym, ap, subst, arith}
-use Rattle.std.specs.Prelude.{Option, Some, None, Contains}
+use Rattle.std.proofs.Common.{◌≡◌, ◌+◌, ◌≤◌, ◌<◌, ℕ, List, [], ◌∷◌, ◌++◌, inl, refl, sym, ap, subst, arith, Option}
+use Rattle.std.proofs.Common.{Some, None, Contains}
 use Rattle.std.specs.FinMap.{get}
 use Rattle.std.proofs.lemmas.List.Elements.{Contains-append_left, Contains-append_right}
 use Rattle.tables.proofs.Elements.{in_front}
-use Rattle.ocpi_text.specs.Text.{key}
-use Rattle.ocpi_types.specs.declared.cdrs.Cdr.{Cdr}
-use Rattle.ocpi_types.specs.declared.commands.StartSession.{StartSession}
-use Rattle.ocpi_types.specs.declared.rows.Row.TheVariants as row
-use Rattle.ocpi_types.specs.declared.rows.RowKey.TheVariants as keys
-use Rattle.ocpi_types.specs.declared.rows.Change.{Change}
-use Rattle.ocpi_types.specs.declared.rows.Change.TheVariants.{Put, Drop}
-use Rattle.ocpi_types.specs.declared.rows.Counter.TheVariants as counter
-use Rattle.ocpi_types.specs.declared.sessions.Session.{Session}
-use Rattle.ocpi_types.specs.declared.commands.Command.{Command}
-use Rattle.ocpi_types.specs.declared.commands.Command.TheVariants as command
-use Rattle.ocpi_types.specs.declared.stored.Push.TheVariants as push
-use Rattle.ocpi_types.specs.declared.words.CommandResultType.{CommandResultType}
-use Rattle.ocpi_types.specs.declared.words.CommandResultType.TheVariants as result
-use Rattle.ocpi_types.specs.declared.words.SessionStatus.TheVariants.{Completed}
-use Rattle.node_steps.specs.Acts.{Act, acknowledged, all_changes, all_messages, changed, pushed, push_message}
-use Rattle.outbox.specs.Pushes.{IsReplaced, subject}
-use Rattle.node_steps.specs.Messages.{Message}
+use Rattle.ocpi_text.specs.{key}
+use Rattle.ocpi_types.specs.{Cdr, Change, Command, CommandResultType, Completed, Drop, Put, Session, StartSession}
+use Rattle.ocpi_types.specs.row
+use Rattle.ocpi_types.specs.keys
+use Rattle.ocpi_types.specs.counter
+use Rattle.ocpi_types.specs.command
+use Rattle.ocpi_types.specs.push
+use Rattle.ocpi_types.specs.result
+use Rattle.node_steps.specs.{Act, Message, acknowledged, all_changes, all_messages, changed, push_message, pushed}
+use Rattle.outbox.specs.{IsReplaced, subject}
 use Rattle.node_steps.proofs.Gathering.{messages_append}
 use Rattle.operator_rows.specs.State.{State}
 use Rattle.operator_rows.proofs.RowChanges.{in_later}
-use Rattle.session_tables.specs.declared.beginning.Beginning.{Beginning}
-use Rattle.operator_steps.specs.declared.ending.Ending.{Ending}
-use Rattle.operator_steps.specs.Acts.{settled, told, url_of, used}
-use Rattle.operator_steps.specs.Ends.{end_acts, ends_acts, url_in}
-use Rattle.operator_steps.specs.Events.{Input}
+use Rattle.session_tables.specs.{Beginning}
+use Rattle.operator_steps.specs.{Ending, Input, IsBegun, IsBilled, IsVersioned, end_acts, ends_acts, first_of, next_cdr}
+use Rattle.operator_steps.specs.{settled, told, url_in, url_of, used, versioned}
 use Rattle.operator_steps.specs.Sessions as sessions
-use Rattle.operator_steps.specs.Sessions.{IsBegun, IsBilled, IsVersioned, first_of, next_cdr, numbered_cdrs, replaced, versioned}
 use Rattle.operator_laws.proofs.events.Decided.{AllOf, all_acts}
 use Rattle.operator_laws.proofs.events.Caused.{IsEnd, in_first, in_second}
 use Rattle.operator_laws.proofs.events.Reasons as reasons
-use Rattle.operator_laws.proofs.events.Reasons.{BeginsFor, BegunBy, Pushing, Reason, Resulting, Stems, Versioning}
+use Rattle.operator_laws.proofs.events.Reasons.{BeginsFor, BegunBy, Pushing, Reason, Stems, Versioning}
 
 module _ (s : State) (i : Input) (acts : List Act) where
   abbrev pub Why : Change → Type 0
@@ -57,9 +46,6 @@ module _ (s : State) (i : Input) (acts : List Act) where
     changes = λ c j. h.changes c (in_second xs ys c j);
     messages = λ m j. h.messages m (subst (λ l. Contains l m) (sym (messages_append xs ys)) (Contains-append_right (all_messages xs) (all_messages ys) m j));
   }
-
-  pub part_is : (xs ys : List Act) → xs ≡ ys → IsPart xs → IsPart ys
-  part_is xs ys e h = subst IsPart e h
 
   -- a version is pushed and stored
   module _ (at last : ℕ) (to : List ℕ) (v : Session) (peer : Contains s.providers to) (same : key to ≡ key v.cdr_token.party) (above : s.rows.request ≤ last) (why : Versioning s i acts v) where

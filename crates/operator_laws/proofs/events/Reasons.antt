@@ -3,45 +3,26 @@
 -- there are.
 use Rattle.std.specs.Prelude.{◌≡◌, ◌⊎◌, ◌≤◌, ◌<◌, ◌+◌, ℕ, List, [], ◌∷◌, Some, None, Contains, ⊤}
 use Rattle.std.specs.FinMap.{get}
-use Rattle.ocpi_text.specs.OwnIds.{own_id_text}
-use Rattle.ocpi_text.specs.Text.{key}
-use Rattle.ocpi_text.specs.declared.own_ids.OwnIdKind.TheVariants as own
-use Rattle.ocpi_types.specs.Stored.{body_of_push, body_of_reply}
-use Rattle.ocpi_types.specs.declared.authorizations.Authorization.TheVariants.{Done}
-use Rattle.ocpi_types.specs.declared.authorizations.AuthorizationInfo.{AuthorizationInfo}
-use Rattle.ocpi_types.specs.declared.authorizations.Authorize.{Authorize}
-use Rattle.ocpi_types.specs.declared.cdrs.Cdr.{Cdr}
-use Rattle.ocpi_types.specs.declared.cdrs.CdrLocation.{CdrLocation}
-use Rattle.ocpi_types.specs.declared.commands.StartSession.{StartSession}
-use Rattle.ocpi_types.specs.declared.packet.Body.TheVariants as body
-use Rattle.ocpi_types.specs.declared.packet.Packet.{Packet}
-use Rattle.ocpi_types.specs.declared.replies.Ack.{Ack}
-use Rattle.ocpi_types.specs.declared.rows.Counter.TheVariants as counter
-use Rattle.ocpi_types.specs.declared.rows.Row.TheVariants as row
-use Rattle.ocpi_types.specs.declared.rows.RowKey.TheVariants as keys
-use Rattle.ocpi_types.specs.declared.rows.Change.{Change}
-use Rattle.ocpi_types.specs.declared.rows.Change.TheVariants.{Put, Drop}
-use Rattle.ocpi_types.specs.declared.sessions.Session.{Session}
-use Rattle.ocpi_types.specs.declared.commands.Command.{Command}
-use Rattle.ocpi_types.specs.declared.commands.Command.TheVariants as command
-use Rattle.ocpi_types.specs.declared.stored.OpenCommand.{OpenCommand}
-use Rattle.ocpi_types.specs.declared.stored.Push.{Push}
-use Rattle.ocpi_types.specs.declared.stored.Push.TheVariants as push
-use Rattle.ocpi_types.specs.declared.stored.Reply.{Reply}
-use Rattle.ocpi_types.specs.declared.words.AuthMethod.TheVariants as how
-use Rattle.ocpi_types.specs.declared.words.CommandResultType.{CommandResultType}
+use Rattle.ocpi_text.specs.{key, own_id_text}
+use Rattle.ocpi_text.specs.own
+use Rattle.ocpi_types.specs.{Ack, AuthorizationInfo, Authorize, Cdr, CdrLocation, Change, Command, CommandResultType}
+use Rattle.ocpi_types.specs.{Completed, Done, Drop, OpenCommand, Packet, Pending, Push, Put, Reply, Session}
+use Rattle.ocpi_types.specs.{StartSession, body_of_push, body_of_reply}
+use Rattle.ocpi_types.specs.body
+use Rattle.ocpi_types.specs.counter
+use Rattle.ocpi_types.specs.row
+use Rattle.ocpi_types.specs.keys
+use Rattle.ocpi_types.specs.command
+use Rattle.ocpi_types.specs.push
+use Rattle.ocpi_types.specs.how
 use Rattle.ocpi_types.specs.declared.words.CommandResultType.TheVariants.{Accepted}
-use Rattle.ocpi_types.specs.declared.words.SessionStatus.TheVariants.{Completed, Pending}
-use Rattle.session_state.specs.Records.{cdr_of}
-use Rattle.session_tables.specs.Beginnings.{cdr_token_of}
-use Rattle.outbox.specs.Outbox.{IsTo}
-use Rattle.outbox.specs.Pushes.{subject, subject_of}
-use Rattle.outbox.specs.declared.push_book.Outgoing.{Outgoing}
-use Rattle.node_steps.specs.Acts.{Act, all_changes, all_messages, asked, push_message}
-use Rattle.node_steps.specs.Messages.{Message}
-use Rattle.operator_rows.specs.State.{State, IsSpent}
-use Rattle.operator_steps.specs.Acts.{reference_of, told, url_of}
-use Rattle.operator_steps.specs.Events.{Input, Arrives}
+use Rattle.session_state.specs.{cdr_of}
+use Rattle.session_tables.specs.{cdr_token_of}
+use Rattle.outbox.specs.{IsTo, Outgoing, subject, subject_of}
+use Rattle.node_steps.specs.{Act, Message, all_changes, all_messages, asked, push_message}
+use Rattle.operator_rows.specs.{IsSpent}
+use Rattle.operator_rows.specs.State.{State}
+use Rattle.operator_steps.specs.{Arrives, Input, reference_of, told, url_of}
 use Rattle.operator_laws.proofs.events.Causes.{Crediting, DecidesIt}
 
 module _ (s : State) (i : Input) (acts : List Act) where

@@ -1,25 +1,18 @@
 -- What becomes of a row, whatever changes are made: one that stands was put or stood before, and one that no change is
 -- of stays.
-use Rattle.std.proofs.Common.{◌≡◌, ◌≢◌, ◌⊎◌, List, [], ◌∷◌, inl, inr, refl, sym, ap, subst, ◌∙◌}
-use Rattle.std.specs.Prelude.{Contains, ℕ}
+use Rattle.std.proofs.Common.{◌≡◌, ◌≢◌, ◌⊎◌, List, [], ◌∷◌, inl, inr, refl, sym, ap, subst, ◌∙◌, Contains, ℕ}
 use Rattle.std.specs.Cmp.{nat_cmp_total}
 use Rattle.std.specs.FinMap.{get, empty, nat_cmp-IsAntisymmetric}
-use Rattle.tables.specs.Keys.{text_total, text_exact, text_number_total, text_number_exact, text_pair_total, text_pair_exact}
+use Rattle.tables.specs.{text_exact, text_number_exact, text_number_total, text_pair_exact, text_pair_total, text_total}
 use Rattle.tables.proofs.Elements.{in_none, in_front}
 use Rattle.tables.proofs.Maps.{told}
-use Rattle.ocpi_types.specs.Rows.{key_of}
-use Rattle.ocpi_types.specs.declared.rows.Row.{Row}
-use Rattle.ocpi_types.specs.declared.rows.Row.TheVariants as row
-use Rattle.ocpi_types.specs.declared.rows.RowKey.{RowKey}
-use Rattle.ocpi_types.specs.declared.rows.RowKey.TheVariants as keys
-use Rattle.ocpi_types.specs.declared.rows.Change.{Change}
-use Rattle.ocpi_types.specs.declared.rows.Change.TheVariants.{Put, Drop}
-use Rattle.ocpi_types.specs.declared.rows.Counter.{Counter}
-use Rattle.ocpi_types.specs.declared.rows.Counter.TheVariants.{Serial, Request, Session, Cdr, Reference}
+use Rattle.ocpi_types.specs.{Change, Counter, Drop, Put, Reference, Request, Row, RowKey, Serial, key_of}
+use Rattle.ocpi_types.specs.row
+use Rattle.ocpi_types.specs.keys
+use Rattle.ocpi_types.specs.declared.rows.Counter.TheVariants.{Session, Cdr}
 use Rattle.session_book.specs.Stored.{no_rows}
 use Rattle.operator_rows.specs.State.{Rows}
-use Rattle.operator_rows.specs.Stored.{AreApart, changed, changed_all, change_key, counted}
-use Rattle.operator_rows.specs.Rows.{HasRow}
+use Rattle.operator_rows.specs.{AreApart, HasRow, change_key, changed, changed_all, counted}
 use Rattle.operator_rows.proofs.RowChanges.{each_of, in_later, of_cons}
 pub use Rattle.operator_laws.proofs.events.OneChange.{IsOwn}
 use Rattle.operator_laws.proofs.events.OneChange.{One, one_drop, one_put}

@@ -1,58 +1,42 @@
 -- Why each message of each line is said.
 use Rattle.std.proofs.Common.{◌≡◌, ◌⊎◌, ◌+◌, ℕ, List, [], ◌∷◌, ◌++◌, map, inl, inr, refl, sym, ap, subst, ◌∙◌, arith}
-use Rattle.std.specs.Prelude.{Option, Some, None, Contains, Bool, ⊤, cond, true, false, nat_eq, length}
+use Rattle.std.proofs.Common.{Option, Some, None, Contains, Bool, cond, true, false, nat_eq, length}
+use Rattle.std.specs.Prelude.{⊤}
 use Rattle.std.specs.FinMap.{get}
 use Rattle.std.proofs.lemmas.List.Elements.{Contains-append_cases, Contains-append_left, Contains-append_right}
 use Rattle.tables.proofs.Elements.{in_none, in_single}
-use Rattle.ocpi_text.specs.Text.{key}
-use Rattle.ocpi_types.specs.Stored.{body_of_push, body_of_reply}
-use Rattle.ocpi_types.specs.declared.authorizations.Authorize.{Authorize}
-use Rattle.ocpi_types.specs.declared.events.ChargerEvent.{ChargerEvent}
-use Rattle.ocpi_types.specs.declared.packet.Body.TheVariants as body
-use Rattle.ocpi_types.specs.declared.packet.Packet.{Packet}
-use Rattle.ocpi_types.specs.declared.rows.Row.TheVariants as row
-use Rattle.ocpi_types.specs.declared.rows.Change.{Change}
-use Rattle.ocpi_types.specs.declared.rows.Change.TheVariants.{Put}
-use Rattle.ocpi_types.specs.declared.rows.Counter.TheVariants as counter
-use Rattle.ocpi_types.specs.declared.sessions.Session.{Session}
-use Rattle.ocpi_types.specs.declared.commands.Command.{Command}
-use Rattle.ocpi_types.specs.declared.stored.Push.{Push}
-use Rattle.ocpi_types.specs.declared.stored.Push.TheVariants as push
-use Rattle.ocpi_types.specs.declared.stored.Reply.{Reply}
-use Rattle.ocpi_types.specs.declared.token.Token.{Token}
-use Rattle.ocpi_types.specs.declared.words.CommandResultType.{CommandResultType}
+use Rattle.ocpi_text.specs.{key}
+use Rattle.ocpi_types.specs.{Authorize, Change, ChargerEvent, Command, CommandResultType, Packet, Push, Put, Reply}
+use Rattle.ocpi_types.specs.{Session, Token, body_of_push, body_of_reply}
+use Rattle.ocpi_types.specs.body
+use Rattle.ocpi_types.specs.row
+use Rattle.ocpi_types.specs.counter
+use Rattle.ocpi_types.specs.push
 use Rattle.command_book.specs.Stored as book
-use Rattle.outbox.specs.declared.push_book.Outgoing.{Outgoing}
-use Rattle.reservation_book.specs.declared.standing.Standing.{Standing}
-use Rattle.node_steps.specs.Acts.{Act, acknowledged, all_changes, all_messages, answered, asked, changed, pushed}
-use Rattle.node_steps.specs.Drafts.{count_change}
-use Rattle.node_steps.specs.Messages.{Message}
-use Rattle.node_steps.specs.Peers.{IsPeer}
+use Rattle.outbox.specs.{Outgoing}
+use Rattle.reservation_book.specs.{Standing}
+use Rattle.node_steps.specs.{Act, IsPeer, Message, acknowledged, all_changes, all_messages, answered, asked, changed}
+use Rattle.node_steps.specs.{count_change, pushed}
 use Rattle.node_steps.proofs.Gathering.{messages_append}
 use Rattle.operator_rows.specs.State.{State}
-use Rattle.operator_rows.specs.Sound.{IsConsistent}
-use Rattle.session_tables.specs.declared.beginning.Beginning.{Beginning}
-use Rattle.operator_tables.specs.declared.decision.Decision.{Decision}
-use Rattle.operator_tables.specs.declared.decision.Decision.TheVariants as decision
-use Rattle.operator_steps.specs.declared.ending.Ending.{Ending}
-use Rattle.operator_steps.specs.Acts.{own_acts, reference_of, reply_of, settled, settled_if, spent, told, url_of, used}
-use Rattle.operator_steps.specs.Asking.{AnswerActs, IsAsked}
+use Rattle.operator_rows.specs.{IsConsistent}
+use Rattle.session_tables.specs.{Beginning}
+use Rattle.operator_tables.specs.{Decision}
+use Rattle.operator_tables.specs.decision
+use Rattle.operator_steps.specs.{AnswerActs, AreLeftUnanswered, Arrives, Asks, ChargerLine, CreditLine, Ending, Input}
+use Rattle.operator_steps.specs.{IsAsked, IsBegun, IsBilled, IsTickOf, IsVersioned, PacketLine, Reports, Restarts}
+use Rattle.operator_steps.specs.{Serves, ServiceLine, Ticks, TokenLine, Work, acknowledgement, all_resent, end_acts}
+use Rattle.operator_steps.specs.{ends_acts, expired_acts, first_of, next_cdr, next_credit, numbered_sessions, own_acts}
+use Rattle.operator_steps.specs.{reference_of, reply_of, resent_acts, settled, settled_if, spent, told, url_in, url_of}
+use Rattle.operator_steps.specs.{used, versioned}
 use Rattle.operator_steps.specs.Asking as asking
 use Rattle.operator_steps.specs.Charger as charger
-use Rattle.operator_steps.specs.Charger.{ChargerLine}
 use Rattle.operator_steps.specs.Credits as credits
-use Rattle.operator_steps.specs.Credits.{CreditLine, next_credit}
-use Rattle.operator_steps.specs.Ends.{all_resent, end_acts, ends_acts, expired_acts, resent_acts, url_in}
-use Rattle.operator_steps.specs.Events.{Input, Arrives, Serves, Reports, Credits, Ticks, Restarts, Asks}
-use Rattle.operator_steps.specs.Moves.{Work}
+use Rattle.operator_steps.specs.Events.{Credits}
 use Rattle.operator_steps.specs.Service as service
-use Rattle.operator_steps.specs.Service.{ServiceLine}
 use Rattle.operator_steps.specs.Sessions as sessions
-use Rattle.operator_steps.specs.Sessions.{IsBegun, IsBilled, IsVersioned, first_of, next_cdr, numbered_sessions, versioned}
 use Rattle.operator_steps.specs.Steps as lines
-use Rattle.operator_steps.specs.Steps.{PacketLine, TokenLine, acknowledgement}
 use Rattle.operator_steps.specs.TickFacts as late
-use Rattle.operator_steps.specs.TickFacts.{AreLeftUnanswered, IsTickOf}
 use Rattle.operator_laws.proofs.events.Caused.{in_first, in_second}
 use Rattle.operator_laws.proofs.events.Facts.{stages_see}
 use Rattle.operator_laws.proofs.events.Reasons as reasons

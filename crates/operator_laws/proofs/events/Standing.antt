@@ -1,20 +1,15 @@
 -- What holds of an operator at all times is kept by each event.
-use Rattle.std.proofs.Common.{◌≡◌, ◌⊎◌, ℕ, List, inl, inr, sym, ap, subst, ◌∙◌}
-use Rattle.std.specs.Prelude.{Some}
+use Rattle.std.proofs.Common.{◌≡◌, ◌⊎◌, ℕ, List, inl, inr, sym, ap, subst, ◌∙◌, Some}
 use Rattle.std.specs.FinMap.{get, get-empty}
-use Rattle.tables.specs.Keys.{text_number_cmp}
+use Rattle.tables.specs.{text_number_cmp}
 use Rattle.tables.proofs.Options.{not_both}
-use Rattle.ocpi_types.specs.declared.packet.Packet.{Packet}
-use Rattle.ocpi_types.specs.declared.rows.Row.TheVariants as row
-use Rattle.ocpi_types.specs.declared.rows.Change.TheVariants.{Put}
-use Rattle.ocpi_types.specs.declared.site.SiteLine.{SiteLine}
-use Rattle.ocpi_types.specs.declared.stored.OpenCommand.{OpenCommand}
-use Rattle.node_steps.specs.Acts.{Act}
-use Rattle.operator_rows.specs.State.{State, opening}
-use Rattle.operator_rows.specs.Sound.{IsConsistent}
+use Rattle.ocpi_types.specs.{OpenCommand, Packet, Put, SiteLine}
+use Rattle.ocpi_types.specs.row
+use Rattle.node_steps.specs.{Act}
+use Rattle.operator_rows.specs.{IsConsistent, opening}
+use Rattle.operator_rows.specs.State.{State}
 use Rattle.operator_rows.proofs.KeepingTimes.{follow_full_consistent, opening_consistent, restarted_consistent}
-use Rattle.operator_steps.specs.Events.{Arrives, Event, Happens, Done, Restarted, Refused, Input}
-use Rattle.operator_steps.specs.Moves.{Out, step_of_work}
+use Rattle.operator_steps.specs.{Arrives, Done, Event, Happens, Input, Out, Refused, Restarted, step_of_work}
 use Rattle.operator_laws.specs.Laws.{HoldsAlways, IsOfParty}
 use Rattle.operator_laws.specs.References.{AreSpent, Carries, HaveOneCarrier, Uses}
 use Rattle.operator_laws.proofs.events.Causes.{DecidesIt, Opening}

@@ -1,9 +1,9 @@
 -- The packets of messages, and the messages of packets.
 use Rattle.std.proofs.Common.{◌≡◌, zero, suc, ℕ, ◌+◌, List, [], ◌∷◌, length, inl, inr, refl, sym, ap, subst, arith}
-use Rattle.std.specs.Prelude.{Some, Contains, slice_get}
+use Rattle.std.proofs.Common.{Some, Contains, slice_get}
 use Rattle.tables.proofs.Elements.{in_none, in_front}
-use Rattle.ocpi_types.specs.declared.packet.Packet.{Packet}
-use Rattle.node_steps.specs.Messages.{Message, numbered}
+use Rattle.ocpi_types.specs.{Packet}
+use Rattle.node_steps.specs.{Message, numbered}
 use Rattle.operator_rows.proofs.RowChanges.{in_later, of_cons}
 
 abbrev pub message_of : Packet → Message

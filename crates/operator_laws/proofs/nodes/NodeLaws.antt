@@ -1,28 +1,26 @@
 -- The laws of nodes, of an operator.
-use Rattle.std.proofs.Common.{◌≡◌, ◌⊎◌, ◌+◌, zero, suc, ℕ, List, [], ◌∷◌, ◌++◌, map, inl, inr, refl, sym, ap, subst, ◌∙◌, arith}
-use Rattle.std.specs.Prelude.{Some, Contains, slice_get}
+use Rattle.std.proofs.Common.{◌≡◌, ◌⊎◌, ◌+◌, zero, suc, ℕ, List, [], ◌∷◌, ◌++◌, map, inl, inr, refl, sym, ap, subst}
+use Rattle.std.proofs.Common.{◌∙◌, arith, Some, Contains, slice_get}
 use Rattle.std.specs.Option.{option_map}
 use Rattle.std.specs.FinMap.{get, get-empty}
 use Rattle.std.specs.Ordering.{nat_cmp}
 use Rattle.std.proofs.lemmas.List.Elements.{Contains-append_cases}
 use Rattle.tables.proofs.Elements.{in_none, in_front, in_single}
 use Rattle.tables.proofs.Options.{not_both}
-use Rattle.ocpi_types.specs.Stored.{body_of_push}
-use Rattle.ocpi_types.specs.declared.packet.Packet.{Packet}
-use Rattle.ocpi_types.specs.declared.packet.Body.{Body}
-use Rattle.ocpi_types.specs.declared.packet.Body.TheVariants as body
-use Rattle.ocpi_types.specs.declared.site.SiteLine.{SiteLine}
-use Rattle.ocpi_types.specs.declared.stored.Push.{Push}
-use Rattle.ocpi_types.specs.declared.stored.Push.TheVariants as push
+use Rattle.ocpi_types.specs.{Body, Packet, Push, SiteLine, body_of_push}
+use Rattle.ocpi_types.specs.body
+use Rattle.ocpi_types.specs.push
 use Rattle.node_laws.specs.Nodes.{Request, AreAboutSame, AreGiven, IsSettled, Acknowledged, Replaced, Responded, Resulted, Sessions, Tokens, exchanged, request_of}
 use Rattle.node_laws.specs.Laws as nodes
 use Rattle.node_laws.proofs.BodyKinds.{command_or_push}
 use Rattle.node_laws.proofs.NodeRuns as laws
 use Rattle.node_laws.proofs.Lists.{in_joined}
-use Rattle.operator_rows.specs.State.{State, opening}
+use Rattle.operator_rows.specs.{opening}
+use Rattle.operator_rows.specs.State.{State}
 use Rattle.operator_rows.proofs.KeepingTimes.{opening_consistent}
 use Rattle.operator_rows.proofs.RowChanges.{in_later, of_cons}
-use Rattle.operator_steps.specs.Events.{Arrives, Credits, Event, Input, Reports, Restarts, Serves, Ticks}
+use Rattle.operator_steps.specs.{Arrives, Event, Input, Reports, Restarts, Serves, Ticks}
+use Rattle.operator_steps.specs.Events.{Credits}
 use Rattle.operator_laws.specs.AsNode.{node, came_in, exchange, pushed_request, RunsAreNodeRuns, PacketsAreAddressed, PushesWereSent}
 use Rattle.operator_laws.specs.Laws.{Acknowledged as WasAcknowledged, Came, IsOfParty, IsPushed, IsResultOrRecord, Numbered, PushesStand, RequestsAgree, Run, SentRepliesAreKept, sent}
 use Rattle.operator_laws.proofs.events.Doing.{does}

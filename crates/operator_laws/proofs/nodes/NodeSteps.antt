@@ -1,38 +1,27 @@
 -- Each event of an operator is a step of a node.
-use Rattle.std.proofs.Common.{◌≡◌, ◌⊎◌, ◌+◌, ◌≤◌, ◌<◌, ℕ, List, [], ◌∷◌, length, inl, inr, refl, sym, ap, subst, ◌∙◌, arith}
-use Rattle.std.specs.Prelude.{Option, Some, None, Contains, is_some, slice_get}
+use Rattle.std.proofs.Common.{◌≡◌, ◌⊎◌, ◌+◌, ◌≤◌, ◌<◌, ℕ, List, [], ◌∷◌, length, inl, inr, refl, sym, ap, subst, ◌∙◌}
+use Rattle.std.proofs.Common.{arith, Option, Some, None, Contains, is_some, slice_get}
 use Rattle.std.specs.Option.{option_map}
 use Rattle.std.specs.FinMap.{get}
 use Rattle.tables.proofs.Elements.{in_front, in_single}
 use Rattle.tables.proofs.Options.{none_some}
-use Rattle.ocpi_text.specs.Text.{key}
-use Rattle.ocpi_types.specs.Stored.{body_of_push, body_of_reply}
-use Rattle.ocpi_types.specs.declared.packet.Body.{Body}
-use Rattle.ocpi_types.specs.declared.packet.Packet.{Packet}
-use Rattle.ocpi_types.specs.declared.rows.Change.{Change}
-use Rattle.ocpi_types.specs.declared.rows.Change.TheVariants.{Put, Drop}
-use Rattle.ocpi_types.specs.declared.rows.Row.TheVariants as row
-use Rattle.ocpi_types.specs.declared.rows.RowKey.TheVariants as keys
-use Rattle.ocpi_types.specs.declared.sessions.Session.{Session}
-use Rattle.ocpi_types.specs.declared.stored.Push.{Push}
-use Rattle.ocpi_types.specs.declared.stored.Push.TheVariants as push
-use Rattle.ocpi_types.specs.declared.stored.Reply.{Reply}
-use Rattle.ocpi_types.specs.declared.stored.Reply.TheVariants as reply
-use Rattle.ocpi_types.specs.declared.words.TokenType.{TokenType}
-use Rattle.ocpi_types.specs.declared.words.TokenType.TheVariants as type
-use Rattle.outbox.specs.Pushes.{subject, subject_of, type_number}
-use Rattle.outbox.specs.declared.push_book.Outgoing.{Outgoing}
-use Rattle.outbox.specs.declared.push_book.Subject.{Subject}
-use Rattle.node_steps.specs.Acts.{all_changes, all_messages, all_requests, push_message}
-use Rattle.node_steps.specs.Messages.{Message}
+use Rattle.ocpi_text.specs.{key}
+use Rattle.ocpi_types.specs.{Body, Change, Drop, Packet, Push, Put, Reply, Session, TokenType, body_of_push}
+use Rattle.ocpi_types.specs.{body_of_reply}
+use Rattle.ocpi_types.specs.row
+use Rattle.ocpi_types.specs.keys
+use Rattle.ocpi_types.specs.push
+use Rattle.ocpi_types.specs.reply
+use Rattle.ocpi_types.specs.type
+use Rattle.outbox.specs.{Outgoing, Subject, subject, subject_of, type_number}
+use Rattle.node_steps.specs.{Message, all_changes, all_messages, all_requests, push_message}
 use Rattle.node_laws.specs.Nodes as node_specs
 use Rattle.node_laws.specs.Nodes.{AreAboutSame, AreGiven, Answers, CountsPackets, IsAnswer, IsMade, IsOwn, IsReply, IsRepeated, IsSettled, KeepsReplies, KeepsRequests, NodeStep, Request, request_of}
 use Rattle.node_laws.proofs.BodyKinds.{asked_once, no_push, one_reply, reply_or_repeated}
 use Rattle.node_laws.proofs.Joining.{one_value}
 use Rattle.operator_rows.specs.State.{State}
-use Rattle.operator_rows.specs.Stored.{change_key}
-use Rattle.operator_rows.specs.Sound.{IsConsistent}
-use Rattle.operator_steps.specs.Events.{Event, Input}
+use Rattle.operator_rows.specs.{IsConsistent, change_key}
+use Rattle.operator_steps.specs.{Event, Input}
 use Rattle.operator_laws.specs.AsNode.{node, came_in, exchange, pushed_request, StepsAreNodeSteps}
 use Rattle.operator_laws.specs.Laws.{IsReplyTo}
 use Rattle.operator_laws.proofs.events.Causes.{Answering}

@@ -1,11 +1,10 @@
 -- A reference of a provider opens one start at most.
-use Rattle.std.proofs.Common.{zero, suc, ◌≡◌, ◌≢◌, ℕ, List, [], ◌∷◌, refl, sym, ap, subst}
-use Rattle.std.specs.Prelude.{Some, slice_get}
+use Rattle.std.proofs.Common.{zero, suc, ◌≡◌, ◌≢◌, ℕ, List, [], ◌∷◌, refl, sym, ap, subst, Some, slice_get}
 use Rattle.std.specs.FinMap.{get}
-use Rattle.ocpi_types.specs.declared.rows.Row.TheVariants as row
-use Rattle.ocpi_types.specs.declared.rows.Change.TheVariants.{Put}
+use Rattle.ocpi_types.specs.row
+use Rattle.ocpi_types.specs.{Put}
 use Rattle.operator_rows.specs.State.{State}
-use Rattle.operator_steps.specs.Events.{Event}
+use Rattle.operator_steps.specs.{Event}
 use Rattle.operator_laws.specs.Laws.{OneStart, Opens, Run}
 use Rattle.operator_laws.proofs.events.Causes.{Opening}
 use Rattle.operator_laws.proofs.events.Doing.{Does, does, put_by, put_stands}

@@ -1,26 +1,20 @@
 -- An event that answers a request decides it: its packet, its command and its reply are those of the decision.
-use Rattle.std.proofs.Common.{◌≡◌, ◌⊎◌, ℕ, List, inl, inr, sym, ap, subst, ◌∙◌}
-use Rattle.std.specs.Prelude.{Option, Some, None, Contains}
+use Rattle.std.proofs.Common.{◌≡◌, ◌⊎◌, ℕ, List, inl, inr, sym, ap, subst, ◌∙◌, Option, Some, None, Contains}
 use Rattle.std.specs.FinMap.{get}
 use Rattle.tables.proofs.Elements.{in_front}
 use Rattle.tables.proofs.Options.{not_both}
-use Rattle.ocpi_text.specs.Text.{key}
-use Rattle.ocpi_types.specs.declared.packet.Body.TheVariants as body
-use Rattle.ocpi_types.specs.declared.packet.Packet.{Packet}
-use Rattle.ocpi_types.specs.declared.rows.Row.TheVariants as row
-use Rattle.ocpi_types.specs.declared.rows.Change.TheVariants.{Put}
-use Rattle.ocpi_types.specs.declared.commands.Command.{Command}
-use Rattle.ocpi_types.specs.declared.stored.Reply.{Reply}
-use Rattle.ocpi_types.specs.declared.stored.Reply.TheVariants as reply
+use Rattle.ocpi_text.specs.{key}
+use Rattle.ocpi_types.specs.body
+use Rattle.ocpi_types.specs.{Command, CommandResponseType, Packet, Put, Reply}
+use Rattle.ocpi_types.specs.row
+use Rattle.ocpi_types.specs.reply
 use Rattle.ocpi_types.specs.declared.replies.CommandResponse.TheVariants as response
-use Rattle.ocpi_types.specs.declared.words.CommandResponseType.{CommandResponseType}
-use Rattle.node_steps.specs.Acts.{Act, all_changes}
+use Rattle.node_steps.specs.{Act, all_changes}
 use Rattle.operator_rows.specs.State.{State}
 use Rattle.operator_tables.proofs.Bodies.{same_command}
 use Rattle.operator_tables.proofs.Lines.{all_tell}
-use Rattle.operator_tables.specs.Outcomes.{Tells}
-use Rattle.operator_steps.specs.Acts.{refusal, reply_of, responded}
-use Rattle.operator_steps.specs.Events.{Arrives, Event, Input}
+use Rattle.operator_tables.specs.{Tells}
+use Rattle.operator_steps.specs.{Arrives, Event, Input, refusal, reply_of, responded}
 use Rattle.operator_laws.specs.Replied.{AnswersIt}
 use Rattle.operator_laws.proofs.events.Causes.{Answering, DecidesIt}
 use Rattle.operator_laws.proofs.events.Doing.{Does, put_stands, stood_or_put}

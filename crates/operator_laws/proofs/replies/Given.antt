@@ -1,14 +1,13 @@
 -- Each kept reply was given by an event of the run.
-use Rattle.std.proofs.Common.{◌≡◌, ◌⊎◌, ℕ, List, [], ◌∷◌, inl, inr, refl, sym, ap, subst, ◌∙◌}
-use Rattle.std.specs.Prelude.{Option, Some, None}
+use Rattle.std.proofs.Common.{◌≡◌, ◌⊎◌, ℕ, List, [], ◌∷◌, inl, inr, refl, sym, ap, subst, ◌∙◌, Option, Some, None}
 use Rattle.std.specs.FinMap.{get, get-empty}
-use Rattle.tables.specs.Keys.{text_number_cmp}
+use Rattle.tables.specs.{text_number_cmp}
 use Rattle.tables.proofs.Options.{not_both}
-use Rattle.ocpi_text.specs.Text.{key}
-use Rattle.ocpi_types.specs.declared.packet.Packet.{Packet}
-use Rattle.ocpi_types.specs.declared.stored.Reply.{Reply}
-use Rattle.operator_rows.specs.State.{State, opening}
-use Rattle.operator_steps.specs.Events.{Arrives, Event, Happens}
+use Rattle.ocpi_text.specs.{key}
+use Rattle.ocpi_types.specs.{Packet, Reply}
+use Rattle.operator_rows.specs.{opening}
+use Rattle.operator_rows.specs.State.{State}
+use Rattle.operator_steps.specs.{Arrives, Event, Happens}
 use Rattle.operator_laws.specs.Laws.{IsReplyTo, Run}
 use Rattle.operator_laws.specs.Made.{IsAnsweredIn, RepliesWereGiven}
 use Rattle.operator_laws.specs.Replied.{AnswersIt}

@@ -1,28 +1,21 @@
 -- What stands because a command made it, over runs: reservations, and open commands.
-use Rattle.std.proofs.Common.{◌≡◌, ◌⊎◌, ◌<◌, ℕ, List, [], ◌∷◌, inl, inr, refl, sym, ap, subst, ◌∙◌, arith}
-use Rattle.std.specs.Prelude.{Some, Contains}
+use Rattle.std.proofs.Common.{◌≡◌, ◌⊎◌, ◌<◌, ℕ, List, [], ◌∷◌, inl, inr, refl, sym, ap, subst, ◌∙◌, arith, Some}
+use Rattle.std.proofs.Common.{Contains}
 use Rattle.std.specs.FinMap.{get}
 use Rattle.tables.proofs.Elements.{in_none}
 use Rattle.tables.proofs.Options.{not_both}
-use Rattle.ocpi_text.specs.Text.{key}
-use Rattle.ocpi_types.specs.declared.commands.CancelReservation.{CancelReservation}
-use Rattle.ocpi_types.specs.declared.commands.Command.TheVariants as command
-use Rattle.ocpi_types.specs.declared.commands.ReserveNow.{ReserveNow}
-use Rattle.ocpi_types.specs.declared.packet.Body.TheVariants as body
-use Rattle.ocpi_types.specs.declared.packet.Packet.{Packet}
-use Rattle.ocpi_types.specs.declared.rows.Row.TheVariants as row
-use Rattle.ocpi_types.specs.declared.rows.Change.TheVariants.{Put}
-use Rattle.ocpi_types.specs.declared.stored.OpenCommand.{OpenCommand}
-use Rattle.ocpi_types.specs.declared.stored.Reply.{Reply}
-use Rattle.ocpi_types.specs.declared.stored.Reservation.{Reservation}
+use Rattle.ocpi_text.specs.{key}
+use Rattle.ocpi_types.specs.{CancelReservation, OpenCommand, Packet, Put, Reply, Reservation, ReserveNow}
+use Rattle.ocpi_types.specs.command
+use Rattle.ocpi_types.specs.body
+use Rattle.ocpi_types.specs.row
 use Rattle.ocpi_types.specs.declared.words.CommandResultType.TheVariants.{Accepted}
-use Rattle.reservation_book.specs.Refusals.{IsInTime}
+use Rattle.reservation_book.specs.{IsInTime}
 use Rattle.node_laws.proofs.Runs.{made_runs}
 use Rattle.operator_rows.specs.State.{State}
 use Rattle.operator_rows.proofs.RowChanges.{of_cons}
-use Rattle.operator_tables.specs.Asked.{IsAsked}
-use Rattle.operator_steps.specs.Acts.{reply_of}
-use Rattle.operator_steps.specs.Events.{Arrives, Event, Happens}
+use Rattle.operator_tables.specs.{IsAsked}
+use Rattle.operator_steps.specs.{Arrives, Event, Happens, reply_of}
 use Rattle.operator_laws.specs.Laws.{Run}
 use Rattle.operator_laws.specs.Replied.{AnswersIt, IsMarked, ReservationsAreAskedFor}
 use Rattle.operator_laws.specs.Made.{IsAnsweredIn, ReservationsAreMade, IsCommandOf, OpenCommandsCame, OpenedCommandsCame}

@@ -1,29 +1,22 @@
 -- Marks: a reservation is made only above them, and what was answered about a reservation sets them.
-use Rattle.std.proofs.Common.{zero, suc, ◌≡◌, ◌≢◌, ◌≤◌, ◌<◌, ℕ, List, [], ◌∷◌, inl, inr, refl, sym, ap, subst, ◌∙◌, arith, add-one}
-use Rattle.std.specs.Prelude.{Some, None, Contains, slice_get}
+use Rattle.std.proofs.Common.{zero, suc, ◌≡◌, ◌≢◌, ◌≤◌, ◌<◌, ℕ, List, [], ◌∷◌, inl, inr, refl, sym, ap, subst, ◌∙◌}
+use Rattle.std.proofs.Common.{arith, add-one, Some, None, Contains, slice_get}
 use Rattle.std.specs.FinMap.{get}
 use Rattle.std.proofs.Math.Nat.{lt_of_not-le}
 use Rattle.std.proofs.lemmas.Bool.{cases_order}
 use Rattle.tables.proofs.Options.{known, not_both}
-use Rattle.ocpi_text.specs.Text.{key}
-use Rattle.ocpi_types.specs.declared.commands.CancelReservation.{CancelReservation}
-use Rattle.ocpi_types.specs.declared.commands.ReserveNow.{ReserveNow}
-use Rattle.ocpi_types.specs.declared.packet.Packet.{Packet}
-use Rattle.ocpi_types.specs.declared.rows.Row.TheVariants as row
-use Rattle.ocpi_types.specs.declared.rows.Change.TheVariants.{Put}
-use Rattle.ocpi_types.specs.declared.commands.Command.{Command}
-use Rattle.ocpi_types.specs.declared.commands.Command.TheVariants as command
-use Rattle.ocpi_types.specs.declared.stored.Reply.{Reply}
+use Rattle.ocpi_text.specs.{key}
+use Rattle.ocpi_types.specs.{CancelReservation, Command, Packet, Put, Reply, ReserveNow}
+use Rattle.ocpi_types.specs.row
+use Rattle.ocpi_types.specs.command
 use Rattle.ocpi_types.specs.declared.words.CommandResponseType.TheVariants.{Accepted}
 use Rattle.reservation_book.specs.Rows as booked
-use Rattle.reservation_book.specs.Refusals.{IsInTime}
-use Rattle.node_steps.specs.Acts.{all_changes}
+use Rattle.reservation_book.specs.{IsInTime}
+use Rattle.node_steps.specs.{all_changes}
 use Rattle.operator_rows.specs.State.{State}
-use Rattle.operator_tables.specs.declared.decision.Decision.{Decision}
-use Rattle.operator_tables.specs.declared.decision.Decision.TheVariants as decision
-use Rattle.operator_tables.specs.Outcomes.{IsAbout, Tells}
-use Rattle.operator_steps.specs.Acts.{decided_acts, reply_of, responded}
-use Rattle.operator_steps.specs.Events.{Event}
+use Rattle.operator_tables.specs.{Decision, IsAbout, Tells}
+use Rattle.operator_tables.specs.decision
+use Rattle.operator_steps.specs.{Event, decided_acts, reply_of, responded}
 use Rattle.operator_laws.specs.Laws.{Reserves, ReservationsAreNewer, Run, SetsMark}
 use Rattle.operator_laws.specs.Replied.{CancellationsAreMarked, IsMarked, ReservationsAreMarked}
 use Rattle.operator_laws.proofs.events.Causes.{DecidesIt, Marking, Reserving}

@@ -1,27 +1,20 @@
 -- An accepted command is open or has its result.
-use Rattle.std.proofs.Common.{◌≡◌, ◌⊎◌, ◌++◌, ℕ, List, [], ◌∷◌, inl, inr, refl, sym, ap, subst, ◌∙◌, arith}
-use Rattle.std.specs.Prelude.{Option, Some, None, Contains}
+use Rattle.std.proofs.Common.{◌≡◌, ◌⊎◌, ◌++◌, ℕ, List, [], ◌∷◌, inl, inr, refl, sym, ap, subst, ◌∙◌, arith, Option}
+use Rattle.std.proofs.Common.{Some, None, Contains}
 use Rattle.std.specs.FinMap.{get, get-empty}
-use Rattle.tables.specs.Keys.{text_number_cmp}
+use Rattle.tables.specs.{text_number_cmp}
 use Rattle.tables.proofs.Options.{not_both}
-use Rattle.ocpi_text.specs.Text.{key}
-use Rattle.ocpi_types.specs.declared.packet.Packet.{Packet}
-use Rattle.ocpi_types.specs.declared.rows.Row.TheVariants as row
-use Rattle.ocpi_types.specs.declared.rows.Change.{Change}
-use Rattle.ocpi_types.specs.declared.rows.Change.TheVariants.{Put}
-use Rattle.ocpi_types.specs.declared.stored.OpenCommand.{OpenCommand}
-use Rattle.ocpi_types.specs.declared.stored.Reply.{Reply}
+use Rattle.ocpi_text.specs.{key}
+use Rattle.ocpi_types.specs.{Change, CommandResultType, OpenCommand, Packet, Put, Reply}
+use Rattle.ocpi_types.specs.row
 use Rattle.ocpi_types.specs.declared.words.CommandResponseType.TheVariants.{Accepted}
-use Rattle.ocpi_types.specs.declared.words.CommandResultType.{CommandResultType}
 use Rattle.command_book.specs.Stored as book
-use Rattle.node_steps.specs.Acts.{Act, all_changes, answered}
-use Rattle.operator_rows.specs.State.{State, opening}
-use Rattle.operator_rows.specs.Sound.{IsConsistent}
-use Rattle.operator_tables.specs.declared.decision.Decision.{Decision}
-use Rattle.operator_tables.specs.declared.decision.Decision.TheVariants as decision
-use Rattle.operator_tables.specs.Outcomes.{Tells}
-use Rattle.operator_steps.specs.Acts.{deadline, decided_acts, opened, reference_of, reply_of, responded, spent, used}
-use Rattle.operator_steps.specs.Events.{Event}
+use Rattle.node_steps.specs.{Act, all_changes, answered}
+use Rattle.operator_rows.specs.{IsConsistent, opening}
+use Rattle.operator_rows.specs.State.{State}
+use Rattle.operator_tables.specs.{Decision, Tells}
+use Rattle.operator_tables.specs.decision
+use Rattle.operator_steps.specs.{Event, deadline, decided_acts, opened, reference_of, reply_of, responded, spent, used}
 use Rattle.operator_laws.specs.Laws.{IsReplyTo}
 use Rattle.operator_laws.specs.Replied.{AcceptedIsOpenOrSettled, IsOpenNow, IsSettled}
 use Rattle.operator_laws.proofs.events.Causes.{DecidesIt}

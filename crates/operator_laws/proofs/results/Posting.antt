@@ -1,31 +1,23 @@
 -- A result that was sent is the one that is kept for its command, and is posted where that command says.
-use Rattle.std.proofs.Common.{◌≡◌, ℕ, List, [], ◌∷◌, inl, inr, sym, ap, subst, ◌∙◌}
-use Rattle.std.specs.Prelude.{Some, Contains}
+use Rattle.std.proofs.Common.{◌≡◌, ℕ, List, [], ◌∷◌, inl, inr, sym, ap, subst, ◌∙◌, Some, Contains}
 use Rattle.std.specs.FinMap.{get, get-empty}
 use Rattle.std.specs.Ordering.{nat_cmp}
 use Rattle.std.proofs.lemmas.List.Elements.{Contains-append_cases}
-use Rattle.tables.specs.Keys.{text_number_cmp}
+use Rattle.tables.specs.{text_number_cmp}
 use Rattle.tables.proofs.Elements.{in_none, in_front}
 use Rattle.tables.proofs.Options.{not_both}
-use Rattle.ocpi_text.specs.Text.{key}
-use Rattle.ocpi_types.specs.Stored.{body_of_push}
-use Rattle.ocpi_types.specs.declared.packet.Body.TheVariants as body
-use Rattle.ocpi_types.specs.declared.packet.Packet.{Packet}
-use Rattle.ocpi_types.specs.declared.replies.CommandResult.{CommandResult}
-use Rattle.ocpi_types.specs.declared.rows.Row.TheVariants as row
-use Rattle.ocpi_types.specs.declared.rows.Change.TheVariants.{Put}
-use Rattle.ocpi_types.specs.declared.commands.Command.{Command}
-use Rattle.ocpi_types.specs.declared.stored.OpenCommand.{OpenCommand}
-use Rattle.ocpi_types.specs.declared.stored.Push.{Push}
-use Rattle.ocpi_types.specs.declared.stored.Push.TheVariants as push
-use Rattle.outbox.specs.declared.push_book.Outgoing.{Outgoing}
+use Rattle.ocpi_text.specs.{key}
+use Rattle.ocpi_types.specs.{Command, CommandResult, OpenCommand, Packet, Push, Put, body_of_push}
+use Rattle.ocpi_types.specs.body
+use Rattle.ocpi_types.specs.row
+use Rattle.ocpi_types.specs.push
+use Rattle.outbox.specs.{Outgoing}
 use Rattle.node_laws.proofs.BodyKinds.{asked_once, no_push}
-use Rattle.operator_rows.specs.State.{State, opening}
-use Rattle.operator_rows.specs.Sound.{IsConsistent}
+use Rattle.operator_rows.specs.{IsConsistent, opening}
+use Rattle.operator_rows.specs.State.{State}
 use Rattle.operator_rows.proofs.KeepingTimes.{opening_consistent}
 use Rattle.operator_rows.proofs.RowChanges.{in_later}
-use Rattle.operator_steps.specs.Acts.{told, url_of}
-use Rattle.operator_steps.specs.Events.{Arrives, Event, Happens}
+use Rattle.operator_steps.specs.{Arrives, Event, Happens, told, url_of}
 use Rattle.operator_laws.specs.Laws.{Came, Run, SentResultsAreKept, sent}
 use Rattle.operator_laws.specs.Replied.{Asked, ResultsArePosted}
 use Rattle.operator_laws.proofs.events.Doing.{Does, does, put_now, stood_or_put}

@@ -1,27 +1,21 @@
 -- A start that has the result ACCEPTED began a session.
-use Rattle.std.proofs.Common.{◌≡◌, ◌⊎◌, ℕ, List, [], ◌∷◌, inl, inr, refl, sym, ap, subst, ◌∙◌}
-use Rattle.std.specs.Prelude.{None, Some, Contains}
+use Rattle.std.proofs.Common.{◌≡◌, ◌⊎◌, ℕ, List, [], ◌∷◌, inl, inr, refl, sym, ap, subst, ◌∙◌, None, Some, Contains}
 use Rattle.std.specs.FinMap.{get}
 use Rattle.std.proofs.lemmas.List.Elements.{Contains-append_right}
 use Rattle.tables.proofs.Elements.{in_front}
 use Rattle.tables.proofs.Options.{none_contained, not_both}
-use Rattle.ocpi_text.specs.Text.{key}
-use Rattle.ocpi_types.specs.declared.commands.StartSession.{StartSession}
-use Rattle.ocpi_types.specs.declared.packet.Packet.{Packet}
-use Rattle.ocpi_types.specs.declared.rows.Change.TheVariants.{Put}
-use Rattle.ocpi_types.specs.declared.rows.Row.TheVariants as row
-use Rattle.ocpi_types.specs.declared.commands.Command.TheVariants as command
-use Rattle.ocpi_types.specs.declared.stored.OpenCommand.{OpenCommand}
-use Rattle.ocpi_types.specs.declared.stored.Reply.{Reply}
-use Rattle.ocpi_types.specs.declared.words.CommandResultType.{CommandResultType}
+use Rattle.ocpi_text.specs.{key}
+use Rattle.ocpi_types.specs.{CommandResultType, OpenCommand, Packet, Put, Reply, StartSession}
+use Rattle.ocpi_types.specs.row
+use Rattle.ocpi_types.specs.command
 use Rattle.ocpi_types.specs.declared.words.CommandResultType.TheVariants.{Accepted}
-use Rattle.node_steps.specs.Acts.{all_changes}
-use Rattle.operator_rows.specs.State.{State, opening}
-use Rattle.operator_rows.specs.Sound.{IsConsistent}
+use Rattle.node_steps.specs.{all_changes}
+use Rattle.operator_rows.specs.{IsConsistent, opening}
+use Rattle.operator_rows.specs.State.{State}
 use Rattle.operator_rows.proofs.KeepingTimes.{opening_consistent}
 use Rattle.operator_rows.proofs.RowChanges.{in_later}
 use Rattle.operator_tables.proofs.Bodies as bodies
-use Rattle.operator_steps.specs.Events.{Event, Happens}
+use Rattle.operator_steps.specs.{Event, Happens}
 use Rattle.operator_laws.specs.Laws.{Run}
 use Rattle.operator_laws.specs.Sessions.{AcceptedStartsHaveSessions, BeganIn}
 use Rattle.operator_laws.proofs.events.Causes.{DecidesIt}

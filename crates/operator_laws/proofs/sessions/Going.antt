@@ -1,30 +1,20 @@
 -- How what is stored of sessions goes on: a session stands for good, in a version that may follow the one before it,
 -- and so does each charge detail record, unchanged.
-use Rattle.std.proofs.Common.{◌≡◌, ◌⊎◌, ◌≤◌, zero, suc, ℕ, List, inl, inr, refl, sym, ap, subst, ◌∙◌, arith}
-use Rattle.std.specs.Prelude.{Some, Contains}
+use Rattle.std.proofs.Common.{◌≡◌, ◌⊎◌, ◌≤◌, zero, suc, ℕ, List, inl, inr, refl, sym, ap, subst, ◌∙◌, arith, Some}
+use Rattle.std.proofs.Common.{Contains}
 use Rattle.std.specs.FinMap.{get}
 use Rattle.tables.proofs.Elements.{of_map}
 use Rattle.tables.proofs.Options.{not_both}
-use Rattle.ocpi_text.specs.Text.{key}
-use Rattle.ocpi_types.specs.Rows.{key_of}
-use Rattle.ocpi_types.specs.declared.cdrs.Cdr.{Cdr}
-use Rattle.ocpi_types.specs.declared.rows.Change.{Change}
-use Rattle.ocpi_types.specs.declared.rows.Change.TheVariants.{Put, Drop}
-use Rattle.ocpi_types.specs.declared.rows.Counter.{Counter}
-use Rattle.ocpi_types.specs.declared.rows.Counter.TheVariants as counter
-use Rattle.ocpi_types.specs.declared.rows.Row.{Row}
-use Rattle.ocpi_types.specs.declared.rows.Row.TheVariants as row
-use Rattle.ocpi_types.specs.declared.rows.RowKey.{RowKey}
-use Rattle.ocpi_types.specs.declared.rows.RowKey.TheVariants as keys
-use Rattle.ocpi_types.specs.declared.sessions.Session.{Session}
-use Rattle.session_state.specs.Pasts.{IsSame, MayFollow}
-use Rattle.node_steps.specs.Acts.{all_changes}
+use Rattle.ocpi_text.specs.{key}
+use Rattle.ocpi_types.specs.{Cdr, Change, Counter, Drop, Put, Row, RowKey, Session, key_of}
+use Rattle.ocpi_types.specs.counter
+use Rattle.ocpi_types.specs.row
+use Rattle.ocpi_types.specs.keys
+use Rattle.session_state.specs.{IsSame, MayFollow}
+use Rattle.node_steps.specs.{all_changes}
 use Rattle.operator_rows.specs.State.{State}
-use Rattle.operator_rows.specs.Rows.{HasRow}
-use Rattle.operator_rows.specs.Stored.{change_key}
-use Rattle.operator_rows.specs.Sound.{IsConsistent}
-use Rattle.operator_rows.specs.Steps.{IsNextOf}
-use Rattle.operator_steps.specs.Events.{Event, Happens}
+use Rattle.operator_rows.specs.{HasRow, IsConsistent, IsNextOf, change_key}
+use Rattle.operator_steps.specs.{Event, Happens}
 use Rattle.operator_laws.specs.Laws.{Run}
 use Rattle.operator_laws.specs.Sessions.{NumbersNeverFall, SessionsStay}
 use Rattle.operator_laws.proofs.events.Causes.{Cause}

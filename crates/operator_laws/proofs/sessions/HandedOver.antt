@@ -1,35 +1,25 @@
 -- The newest version of each session, and each charge detail record, is pushed until it is acknowledged.
-use Rattle.std.proofs.Common.{◌≡◌, ◌⊎◌, ℕ, List, [], ◌∷◌, inl, inr, sym, ap, subst, ◌∙◌, arith}
-use Rattle.std.specs.Prelude.{Some, Contains, is_some}
+use Rattle.std.proofs.Common.{◌≡◌, ◌⊎◌, ℕ, List, [], ◌∷◌, inl, inr, sym, ap, subst, ◌∙◌, arith, Some, Contains, is_some}
 use Rattle.std.specs.FinMap.{get, get-empty}
 use Rattle.std.specs.Ordering.{nat_cmp}
 use Rattle.std.proofs.lemmas.List.Elements.{Contains-append_left, Contains-append_right}
-use Rattle.tables.specs.Keys.{text_cmp}
+use Rattle.tables.specs.{text_cmp}
 use Rattle.tables.proofs.Elements.{in_front, in_none}
 use Rattle.tables.proofs.Options.{not_both}
-use Rattle.ocpi_text.specs.Text.{key}
-use Rattle.ocpi_types.specs.Stored.{body_of_push}
-use Rattle.ocpi_types.specs.declared.cdrs.Cdr.{Cdr}
-use Rattle.ocpi_types.specs.declared.packet.Body.TheVariants as body
-use Rattle.ocpi_types.specs.declared.packet.Packet.{Packet}
-use Rattle.ocpi_types.specs.declared.replies.Ack.{Ack}
-use Rattle.ocpi_types.specs.declared.rows.Change.{Change}
-use Rattle.ocpi_types.specs.declared.rows.Change.TheVariants.{Put, Drop}
-use Rattle.ocpi_types.specs.declared.rows.Row.TheVariants as row
-use Rattle.ocpi_types.specs.declared.rows.RowKey.TheVariants as keys
-use Rattle.ocpi_types.specs.declared.sessions.Session.{Session}
-use Rattle.ocpi_types.specs.declared.stored.Push.{Push}
-use Rattle.ocpi_types.specs.declared.stored.Push.TheVariants as push
-use Rattle.outbox.specs.Pushes.{subject_of}
-use Rattle.outbox.specs.declared.push_book.Outgoing.{Outgoing}
-use Rattle.node_steps.specs.Acts.{all_changes, push_message}
-use Rattle.node_steps.specs.Messages.{Message}
+use Rattle.ocpi_text.specs.{key}
+use Rattle.ocpi_types.specs.{Ack, Cdr, Change, Drop, Packet, Push, Put, Session, body_of_push}
+use Rattle.ocpi_types.specs.body
+use Rattle.ocpi_types.specs.row
+use Rattle.ocpi_types.specs.keys
+use Rattle.ocpi_types.specs.push
+use Rattle.outbox.specs.{Outgoing, subject_of}
+use Rattle.node_steps.specs.{Message, all_changes, push_message}
 use Rattle.node_laws.proofs.Joining.{one_value}
-use Rattle.operator_rows.specs.State.{State, opening}
-use Rattle.operator_rows.specs.Sound.{IsConsistent}
+use Rattle.operator_rows.specs.{IsConsistent, opening}
+use Rattle.operator_rows.specs.State.{State}
 use Rattle.operator_rows.proofs.KeepingTimes.{opening_consistent}
 use Rattle.operator_rows.proofs.RowChanges.{in_later, of_cons}
-use Rattle.operator_steps.specs.Events.{Arrives, Event}
+use Rattle.operator_steps.specs.{Arrives, Event}
 use Rattle.operator_laws.specs.Laws.{Came, Run, sent}
 use Rattle.operator_laws.specs.Sessions.{IsPushStanding, VersionsArePushed, WasTaken}
 use Rattle.operator_laws.proofs.events.Doing.{Does, does, put_now, stays_or, stood_or_put}

@@ -1,31 +1,24 @@
 -- The ids of sessions and of charge detail records are those of numbers that were given; a credit has that of its
 -- bill, marked.
-use Rattle.std.proofs.Common.{◌≡◌, ◌+◌, ◌≤◌, ℕ, List, inl, inr, refl, sym, ap, subst, ◌∙◌, arith}
-use Rattle.std.specs.Prelude.{Some, Contains}
+use Rattle.std.proofs.Common.{◌≡◌, ◌+◌, ◌≤◌, ℕ, List, inl, inr, refl, sym, ap, subst, ◌∙◌, arith, Some, Contains}
 use Rattle.std.specs.Cmp.{nat_cmp_total}
 use Rattle.std.specs.FinMap.{get, get-empty, nat_cmp-IsAntisymmetric}
-use Rattle.tables.specs.Keys.{text_cmp}
+use Rattle.tables.specs.{text_cmp}
 use Rattle.tables.proofs.Maps.{told}
 use Rattle.tables.proofs.Options.{not_both}
-use Rattle.ocpi_text.specs.OwnIds.{own_id_text}
-use Rattle.ocpi_text.specs.Text.{key}
-use Rattle.ocpi_text.specs.Whole.{max_whole}
-use Rattle.ocpi_text.specs.declared.own_ids.OwnIdKind.{OwnIdKind}
-use Rattle.ocpi_text.specs.declared.own_ids.OwnIdKind.TheVariants as own
-use Rattle.ocpi_types.specs.Credits.{credit_id, is_credit}
-use Rattle.ocpi_types.specs.declared.cdrs.Cdr.{Cdr}
-use Rattle.ocpi_types.specs.declared.rows.Change.TheVariants.{Put}
-use Rattle.ocpi_types.specs.declared.rows.Counter.TheVariants as counter
-use Rattle.ocpi_types.specs.declared.rows.Row.TheVariants as row
-use Rattle.ocpi_types.specs.declared.sessions.Session.{Session}
+use Rattle.ocpi_text.specs.{OwnIdKind, key, max_whole, own_id_text}
+use Rattle.ocpi_text.specs.own
+use Rattle.ocpi_types.specs.{Cdr, Put, Session, credit_id, is_credit}
+use Rattle.ocpi_types.specs.counter
+use Rattle.ocpi_types.specs.row
 use Rattle.session_book.specs.Numbers.{id_key}
 use Rattle.session_book.proofs.OwnIds.{ids_differ}
-use Rattle.stored_rows.specs.Records.{record_id_text}
-use Rattle.node_steps.specs.Acts.{all_changes}
-use Rattle.operator_rows.specs.State.{State, opening}
-use Rattle.operator_rows.specs.Sound.{IsConsistent}
+use Rattle.stored_rows.specs.{record_id_text}
+use Rattle.node_steps.specs.{all_changes}
+use Rattle.operator_rows.specs.{IsConsistent, opening}
+use Rattle.operator_rows.specs.State.{State}
 use Rattle.operator_rows.proofs.KeepingTimes.{opening_consistent}
-use Rattle.operator_steps.specs.Events.{Event}
+use Rattle.operator_steps.specs.{Event}
 use Rattle.operator_laws.specs.Sessions.{IdsAreGiven, IsGivenId, IsGivenRecord}
 use Rattle.operator_laws.proofs.events.Causes.{Crediting}
 use Rattle.operator_laws.proofs.events.Doing.{Does, does, put_now}

@@ -1,35 +1,25 @@
 -- Each reference of a provider is carried by one of its open starts or of its sessions at most, is spent, and came
 -- from it.
-use Rattle.std.proofs.Common.{◌≡◌, ◌≢◌, ◌+◌, ℕ, List, [], ◌∷◌, inl, inr, refl, sym, ap, subst, ◌∙◌}
-use Rattle.std.specs.Prelude.{Option, Some, Contains}
+use Rattle.std.proofs.Common.{◌≡◌, ◌≢◌, ◌+◌, ℕ, List, [], ◌∷◌, inl, inr, refl, sym, ap, subst, ◌∙◌, Option, Some}
+use Rattle.std.proofs.Common.{Contains}
 use Rattle.std.specs.FinMap.{get, get-empty}
-use Rattle.tables.specs.Keys.{text_cmp, text_number_cmp}
+use Rattle.tables.specs.{text_cmp, text_number_cmp}
 use Rattle.tables.proofs.Elements.{in_front, in_map}
 use Rattle.tables.proofs.Options.{none_some, not_both}
-use Rattle.ocpi_text.specs.OwnIds.{own_id_text}
-use Rattle.ocpi_text.specs.Text.{key}
-use Rattle.ocpi_text.specs.declared.own_ids.OwnIdKind.TheVariants as own
-use Rattle.ocpi_types.specs.declared.authorizations.Authorization.TheVariants.{Done}
-use Rattle.ocpi_types.specs.declared.authorizations.AuthorizationInfo.{AuthorizationInfo}
-use Rattle.ocpi_types.specs.declared.commands.StartSession.{StartSession}
-use Rattle.ocpi_types.specs.declared.packet.Body.TheVariants as body
-use Rattle.ocpi_types.specs.declared.packet.Packet.{Packet}
-use Rattle.ocpi_types.specs.declared.rows.Change.TheVariants.{Put, Drop}
-use Rattle.ocpi_types.specs.declared.rows.Row.TheVariants as row
-use Rattle.ocpi_types.specs.declared.rows.RowKey.TheVariants as keys
-use Rattle.ocpi_types.specs.declared.sessions.Session.{Session}
-use Rattle.ocpi_types.specs.declared.site.SiteLine.{SiteLine}
-use Rattle.ocpi_types.specs.declared.commands.Command.{Command}
-use Rattle.ocpi_types.specs.declared.commands.Command.TheVariants as command
-use Rattle.ocpi_types.specs.declared.stored.OpenCommand.{OpenCommand}
-use Rattle.node_steps.specs.Acts.{all_changes}
-use Rattle.operator_rows.specs.State.{State, IsSpent, Spent, opening}
-use Rattle.operator_rows.specs.Stored.{change_key}
-use Rattle.operator_rows.specs.Sound.{IsConsistent}
+use Rattle.ocpi_text.specs.{key, own_id_text}
+use Rattle.ocpi_text.specs.own
+use Rattle.ocpi_types.specs.{AuthorizationInfo, Command, Done, Drop, OpenCommand, Packet, Put, Session, SiteLine}
+use Rattle.ocpi_types.specs.{StartSession}
+use Rattle.ocpi_types.specs.body
+use Rattle.ocpi_types.specs.row
+use Rattle.ocpi_types.specs.keys
+use Rattle.ocpi_types.specs.command
+use Rattle.node_steps.specs.{all_changes}
+use Rattle.operator_rows.specs.{IsConsistent, IsSpent, Spent, change_key, opening}
+use Rattle.operator_rows.specs.State.{State}
 use Rattle.operator_rows.proofs.KeepingTimes.{opening_consistent}
 use Rattle.operator_rows.proofs.RowChanges.{in_later}
-use Rattle.operator_steps.specs.Acts.{reference_of}
-use Rattle.operator_steps.specs.Events.{Arrives, Event, Happens}
+use Rattle.operator_steps.specs.{Arrives, Event, Happens, reference_of}
 use Rattle.operator_laws.specs.Laws.{Came, Run}
 use Rattle.operator_laws.specs.References.{Uses}
 use Rattle.operator_laws.specs.Sessions.{Carrier, InStart, InSession, GivesReference, HasReference, IsCarriedBy, ReferencesAreSpentOnce}

@@ -1,14 +1,13 @@
 -- Whether one of the changes is of the row of a session, of a charge detail record, or of one of their counters.
-use Rattle.std.proofs.Common.{◌≡◌, ◌≢◌, ◌⊎◌, ℕ, List, [], ◌∷◌, inl, inr, refl, sym, ap, ◌∙◌}
-use Rattle.std.specs.Prelude.{Contains, ⊤}
-use Rattle.tables.specs.Keys.{text_pair_total, text_pair_exact}
+use Rattle.std.proofs.Common.{◌≡◌, ◌≢◌, ◌⊎◌, ℕ, List, [], ◌∷◌, inl, inr, refl, sym, ap, ◌∙◌, Contains}
+use Rattle.std.specs.Prelude.{⊤}
+use Rattle.tables.specs.{text_pair_exact, text_pair_total}
 use Rattle.tables.proofs.Elements.{in_none, in_front}
 use Rattle.tables.proofs.Maps.{told}
-use Rattle.ocpi_types.specs.declared.rows.Change.{Change}
-use Rattle.ocpi_types.specs.declared.rows.Counter.TheVariants as counter
-use Rattle.ocpi_types.specs.declared.rows.RowKey.{RowKey}
-use Rattle.ocpi_types.specs.declared.rows.RowKey.TheVariants as keys
-use Rattle.operator_rows.specs.Stored.{AreApart, change_key}
+use Rattle.ocpi_types.specs.{Change, RowKey}
+use Rattle.ocpi_types.specs.counter
+use Rattle.ocpi_types.specs.keys
+use Rattle.operator_rows.specs.{AreApart, change_key}
 use Rattle.operator_rows.proofs.RowChanges.{each_of, in_later, of_cons}
 
 -- the keys of such rows

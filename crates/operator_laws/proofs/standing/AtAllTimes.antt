@@ -1,12 +1,11 @@
 -- What holds at all times, over runs; and what is kept for good.
-use Rattle.std.proofs.Common.{◌≡◌, ℕ, List, arith}
-use Rattle.std.specs.Prelude.{Some}
+use Rattle.std.proofs.Common.{◌≡◌, ℕ, List, arith, Some}
 use Rattle.std.specs.FinMap.{get}
-use Rattle.ocpi_types.specs.declared.site.SiteLine.{SiteLine}
+use Rattle.ocpi_types.specs.{SiteLine}
 use Rattle.node_laws.proofs.Runs.{kept_runs}
-use Rattle.operator_rows.specs.State.{State, opening}
-use Rattle.operator_rows.specs.Sound.{IsConsistent}
-use Rattle.operator_steps.specs.Events.{Event, Happens}
+use Rattle.operator_rows.specs.{IsConsistent, opening}
+use Rattle.operator_rows.specs.State.{State}
+use Rattle.operator_steps.specs.{Event, Happens}
 use Rattle.operator_laws.specs.Laws.{Run, AlwaysConsistent, HoldsAlways, ReferencesHaveOneCarrier, CarriedReferencesAreSpent, RepliesStay, ResultsStay, MarksNeverFall}
 use Rattle.operator_laws.specs.Replied.{IsMarked, SpentStays}
 use Rattle.operator_laws.proofs.events.Doing.{does}

@@ -2,11 +2,10 @@
 
 ghost use Rattle.std.specs.Prelude.{◌≡◌, ◌≤◌, None, IfOk, IfErr};
 ghost use Rattle.std.specs.FinMap as map;
-ghost use Rattle.ocpi_text.specs.Text.{key};
-ghost use Rattle.ocpi_text.specs.Whole.{max_whole};
-ghost use Rattle.ocpi_types.specs.declared.events.Order.TheVariants as orders;
-ghost use Rattle.node_steps.specs.declared.fault.NodeFault.TheVariants.{UnknownToken};
-ghost use Rattle.provider_steps.specs.Orders.{IsOwnToken};
+ghost use Rattle.ocpi_text.specs.{key, max_whole};
+ghost use Rattle.ocpi_types.specs.order as orders;
+ghost use Rattle.node_steps.specs.{UnknownToken};
+ghost use Rattle.provider_steps.specs.{IsOwnToken};
 ghost use Rattle.provider_core.specs.Planned.{ReferWithin};
 ghost use Rattle.provider_core.specs.Making.{IsPrepared, IsUnprepared, before_of};
 

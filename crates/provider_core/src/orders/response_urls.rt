@@ -1,8 +1,8 @@
 //! To where the result of a command is posted (OCPI 2.2.1, Commands: response_url).
 
 ghost use Rattle.std.specs.Prelude.{◌≡◌, IfOk, Ok};
-ghost use Rattle.ocpi_text.specs.Text.{free_text};
-ghost use Rattle.provider_steps.specs.Acts.{own_url};
+ghost use Rattle.ocpi_text.specs.{free_text};
+ghost use Rattle.provider_steps.specs.{own_url};
 
 use ocpi_text::{FreeText, Party, TextFault, Whole};
 use std::alloc::{AllocError, Global};

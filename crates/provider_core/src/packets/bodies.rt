@@ -1,8 +1,8 @@
 //! What the body of a packet carries, as far as a provider asks.
 
 ghost use Rattle.std.specs.Prelude.{◌≡◌, ◌↔◌, IsTrue, OnOk};
-ghost use Rattle.node_steps.specs.Drafts.{with_acts};
-ghost use Rattle.provider_steps.specs.Packets.{IsTaken};
+ghost use Rattle.node_steps.specs.{with_acts};
+ghost use Rattle.provider_steps.specs.{IsTaken};
 ghost use Rattle.provider_core.specs.Answering.{taken_acts};
 
 use node_steps::Draft;

@@ -2,8 +2,8 @@
 
 ghost use Rattle.std.specs.Prelude.{IfSome, IfNone};
 ghost use Rattle.std.specs.Prelude.{◌≡◌};
-ghost use Rattle.ocpi_types.specs.declared.packet.Body.TheVariants as body;
-ghost use Rattle.provider_steps.specs.Packets.{IsRequest};
+ghost use Rattle.ocpi_types.specs.body;
+ghost use Rattle.provider_steps.specs.{IsRequest};
 ghost use Rattle.provider_core.specs.Answering.{Decides, HasNumber, LacksNumber};
 
 use crate::packets::answer_kinds::Answer;

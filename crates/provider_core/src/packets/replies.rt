@@ -1,15 +1,12 @@
 //! The replies to requests (OCPI 2.2.1, Transport and format: Response format; Tokens: AuthorizationInfo object).
 
 ghost use Rattle.std.specs.Prelude.{◌≡◌, IfOk};
-ghost use Rattle.provider_steps.specs.Acts.{acknowledgement};
+ghost use Rattle.provider_steps.specs.{acknowledgement};
 ghost use Rattle.provider_core.specs.Answering.{authorization_of, reply_of, said_of};
 
 use crate::packets::answer_kinds::Answer;
 use ocpi_text::{CiText, Moment};
-use ocpi_types::{
-    Ack, AllowedType, Authorization, AuthorizationInfo, Boxed, RefusalCode, Reply, StatusCode,
-    Token,
-};
+use ocpi_types::{Ack, AllowedType, Authorization, AuthorizationInfo, Boxed, RefusalCode, Reply, StatusCode, Token};
 use std::alloc::{AllocError, Global};
 
 /// What is handed over is taken.

@@ -1,7 +1,7 @@
 //! Commands that were sent, with what came back (OCPI 2.2.1, Commands: CommandResponse, CommandResult objects).
 
 ghost use Rattle.std.specs.Prelude.{◌≡◌, IfOk};
-ghost use Rattle.provider_steps.specs.Acts.{with_answer, with_result};
+ghost use Rattle.provider_steps.specs.{with_answer, with_result};
 
 use ocpi_types::{Boxed, CommandResponse, CommandResultType, SentCommand};
 use std::alloc::{AllocError, Global};

@@ -1,38 +1,26 @@
 -- Each command that was sent stands under its number, with its addressee.
-use Rattle.std.proofs.Common.{◌≡◌, ◌+◌, ◌++◌, ℕ, List, [], ◌∷◌, inl, inr, refl, sym, ap, subst, ◌∙◌}
-use Rattle.std.specs.Prelude.{Option, Some, None, Contains}
+use Rattle.std.proofs.Common.{◌≡◌, ◌+◌, ◌++◌, ℕ, List, [], ◌∷◌, inl, inr, refl, sym, ap, subst, ◌∙◌, Option, Some, None}
+use Rattle.std.proofs.Common.{Contains}
 use Rattle.std.specs.Cmp.{nat_cmp_total}
 use Rattle.std.specs.FinMap.{get, insert, nat_cmp-IsAntisymmetric}
 use Rattle.std.proofs.lemmas.List.Elements.{Contains-append_cases, Contains-append_right}
 use Rattle.tables.proofs.Elements.{in_front, in_none, in_single}
 use Rattle.tables.proofs.Maps.{get-insert_same}
-use Rattle.ocpi_types.specs.Stored.{body_of_push, body_of_reply}
-use Rattle.ocpi_types.specs.declared.events.Order.{Order}
-use Rattle.ocpi_types.specs.declared.packet.Body.TheVariants as body
-use Rattle.ocpi_types.specs.declared.packet.Packet.{Packet}
-use Rattle.ocpi_types.specs.declared.commands.Command.{Command}
-use Rattle.ocpi_types.specs.declared.stored.Push.{Push}
-use Rattle.ocpi_types.specs.declared.stored.Push.TheVariants as push
-use Rattle.ocpi_types.specs.declared.stored.Reply.{Reply}
-use Rattle.ocpi_types.specs.declared.stored.SentCommand.{SentCommand}
-use Rattle.ocpi_types.specs.declared.token.Token.{Token}
-use Rattle.outbox.specs.declared.push_book.Outgoing.{Outgoing}
+use Rattle.ocpi_types.specs.{Command, Order, Packet, Push, Reply, SentCommand, Token, body_of_push, body_of_reply}
+use Rattle.ocpi_types.specs.body
+use Rattle.ocpi_types.specs.push
+use Rattle.outbox.specs.{OutboxRows, Outgoing}
 use Rattle.outbox.specs.Commands.{Commands}
-use Rattle.outbox.specs.Outbox.{OutboxRows}
-use Rattle.node_steps.specs.Acts.{Act, all_messages, all_requests, command_message, commanded, in_turn, push_message, pushed, unanswered}
-use Rattle.node_steps.specs.Messages.{Message, numbered}
+use Rattle.node_steps.specs.{Act, Message, all_messages, all_requests, command_message, commanded, in_turn, numbered}
+use Rattle.node_steps.specs.{push_message, pushed, unanswered}
 use Rattle.node_steps.proofs.Gathering.{messages_append}
 use Rattle.node_laws.proofs.BodyKinds.{command_or_push, no_command}
 use Rattle.provider_rows.specs.State.{Rows, State}
-use Rattle.provider_steps.specs.declared.pushing.Pushing.{Pushing}
-use Rattle.provider_steps.specs.Acts.{referenced, replaced, token_acts}
-use Rattle.provider_steps.specs.Events.{Arrives, Asks, Done, Event, Gives, Happens, Input, Refused, Restarted, Restarts, Submits, Ticks}
-use Rattle.provider_steps.specs.Moves.{Out}
+use Rattle.provider_steps.specs.{Answers, Arrives, Asks, Done, Event, Gives, Happens, Input, Makes, Out, PacketLine}
+use Rattle.provider_steps.specs.{Pushing, Refused, Restarted, Restarts, Submits, Ticks, all_resent, next_reference}
+use Rattle.provider_steps.specs.{next_request, referenced, replaced, resent_acts, token_acts}
 use Rattle.provider_steps.specs.Orders as orders
-use Rattle.provider_steps.specs.Orders.{Makes, next_reference, next_request}
 use Rattle.provider_steps.specs.Packets as lines
-use Rattle.provider_steps.specs.Packets.{Answers, PacketLine}
-use Rattle.provider_steps.specs.Tick.{all_resent, resent_acts}
 use Rattle.provider_laws.specs.Laws.{Run, sent}
 use Rattle.provider_laws.specs.Commands.{SentCommandsStand}
 use Rattle.provider_laws.proofs.commands.Standing.{AreCounted, commands_stay_from, counted_of, counted_stays, stands_later}

@@ -1,24 +1,17 @@
 -- Commands that were sent: each stands for good, and what is stored of it came from its addressee.
-use Rattle.std.proofs.Common.{◌≡◌, ◌⊎◌, ◌≤◌, ℕ, List, inl, inr, refl, sym, ap, subst, ◌∙◌, arith}
-use Rattle.std.specs.Prelude.{Some, is_some}
+use Rattle.std.proofs.Common.{◌≡◌, ◌⊎◌, ◌≤◌, ℕ, List, inl, inr, refl, sym, ap, subst, ◌∙◌, arith, Some, is_some}
 use Rattle.std.specs.Cmp.{nat_cmp_total}
 use Rattle.std.specs.FinMap.{get, insert, nat_cmp-IsAntisymmetric}
 use Rattle.tables.proofs.Maps.{get-insert_same, get-insert_other, of_insert, told}
 use Rattle.tables.proofs.Options.{none_some, not_both}
-use Rattle.ocpi_text.specs.Text.{key}
-use Rattle.ocpi_types.specs.declared.packet.Packet.{Packet}
-use Rattle.ocpi_types.specs.declared.packet.Body.TheVariants as body
-use Rattle.ocpi_types.specs.declared.replies.CommandResponse.{CommandResponse}
-use Rattle.ocpi_types.specs.declared.replies.CommandResult.{CommandResult}
-use Rattle.ocpi_types.specs.declared.stored.SentCommand.{SentCommand}
-use Rattle.ocpi_types.specs.declared.words.CommandResultType.{CommandResultType}
+use Rattle.ocpi_text.specs.{key}
+use Rattle.ocpi_types.specs.{CommandResponse, CommandResult, CommandResultType, Packet, SentCommand}
+use Rattle.ocpi_types.specs.body
 use Rattle.node_laws.proofs.Runs.{kept_runs, made_runs}
-use Rattle.node_steps.specs.Acts.{unanswered}
-use Rattle.provider_rows.specs.State.{State, url_of}
-use Rattle.provider_rows.specs.Sound.{IsConsistent}
-use Rattle.provider_steps.specs.Acts.{with_answer, with_result}
-use Rattle.provider_steps.specs.Events.{Event, Happens}
-use Rattle.provider_steps.specs.Orders.{next_request}
+use Rattle.node_steps.specs.{unanswered}
+use Rattle.provider_rows.specs.{IsConsistent, url_of}
+use Rattle.provider_rows.specs.State.{State}
+use Rattle.provider_steps.specs.{Event, Happens, next_request, with_answer, with_result}
 use Rattle.provider_laws.specs.Laws.{Brings, Run}
 use Rattle.provider_laws.specs.Commands.{AnswersCame, CommandsStay, IsLater, ResultsCame}
 use Rattle.provider_laws.proofs.events.Parts.{CommandsMove, Made, Responded, Resulted, SameCommands}

@@ -1,6 +1,6 @@
 -- The result of each command is posted to the url of its number, so no two commands have one.
-use Rattle.std.proofs.Common.{◌≡◌, ◌≤◌, ◌++◌, ◌∷◌, ℕ, List, inl, inr, refl, sym, ap, ◌∙◌, arith, codes, decimal, length, drop}
-use Rattle.std.specs.Prelude.{Some}
+use Rattle.std.proofs.Common.{◌≡◌, ◌≤◌, ◌++◌, ◌∷◌, ℕ, List, inl, inr, refl, sym, ap, ◌∙◌, arith, codes, decimal, length}
+use Rattle.std.proofs.Common.{drop, Some}
 use Rattle.std.specs.Cmp.{nat_cmp_total}
 use Rattle.std.specs.Ordering.{nat_cmp}
 use Rattle.std.specs.FinMap.{get, get-empty, nat_cmp-IsAntisymmetric}
@@ -8,17 +8,14 @@ use Rattle.std.proofs.lemmas.Fmt.{decimal_injective}
 use Rattle.std.proofs.lemmas.List.{drop_at}
 use Rattle.tables.proofs.Maps.{of_insert}
 use Rattle.tables.proofs.Options.{not_both}
-use Rattle.ocpi_text.specs.Whole.{max_whole}
-use Rattle.ocpi_types.specs.declared.events.Order.{Order}
-use Rattle.ocpi_types.specs.declared.commands.Command.{Command}
-use Rattle.ocpi_types.specs.declared.stored.SentCommand.{SentCommand}
+use Rattle.ocpi_text.specs.{max_whole}
+use Rattle.ocpi_types.specs.{Command, Order, SentCommand}
 use Rattle.node_laws.proofs.Runs.{kept_runs}
-use Rattle.node_steps.specs.Acts.{Act, unanswered}
-use Rattle.provider_rows.specs.State.{Peering, State, opening, url_of}
-use Rattle.provider_steps.specs.Acts.{own_url, with_answer, with_result}
-use Rattle.provider_steps.specs.Events.{Event, Happens}
+use Rattle.node_steps.specs.{Act, unanswered}
+use Rattle.provider_rows.specs.{Peering, opening, url_of}
+use Rattle.provider_rows.specs.State.{State}
+use Rattle.provider_steps.specs.{Event, Happens, Makes, next_request, own_url, with_answer, with_result}
 use Rattle.provider_steps.specs.Orders as orders
-use Rattle.provider_steps.specs.Orders.{Makes, next_request}
 use Rattle.provider_laws.specs.Laws.{Run}
 use Rattle.provider_laws.specs.Commands.{UrlsAreOwn, UrlsHaveOneNumber}
 use Rattle.provider_laws.proofs.events.Parts.{CommandsMove, Made, Responded, Resulted, SameCommands}

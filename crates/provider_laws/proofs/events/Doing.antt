@@ -1,46 +1,32 @@
 -- What an event does, part by part: line by line, answer by answer.
-use Rattle.std.proofs.Common.{◌≡◌, ◌⊎◌, ◌≤◌, ◌<◌, ◌+◌, ℕ, List, [], ◌∷◌, ◌++◌, inl, inr, refl, sym, ap, subst, ◌∙◌, arith, true, false, cond, nat_eq, append_assoc}
-use Rattle.std.specs.Prelude.{Option, Some, None, Contains}
+use Rattle.std.proofs.Common.{◌≡◌, ◌⊎◌, ◌≤◌, ◌<◌, ◌+◌, ℕ, List, [], ◌∷◌, ◌++◌, inl, inr, refl, sym, ap, subst, ◌∙◌}
+use Rattle.std.proofs.Common.{arith, true, false, cond, nat_eq, append_assoc, Option, Some, None, Contains}
 use Rattle.std.specs.Cmp.{nat_cmp_total}
 use Rattle.std.specs.FinMap.{get, insert, remove, nat_cmp-IsAntisymmetric}
-use Rattle.tables.specs.Keys.{text_number_total, text_number_exact}
+use Rattle.tables.specs.{text_number_exact, text_number_total}
 use Rattle.std.proofs.lemmas.List.Elements.{Contains-append_right}
 use Rattle.tables.proofs.Maps.{of_insert, of_remove}
 use Rattle.tables.proofs.Options.{not_both}
-use Rattle.ocpi_text.specs.Text.{key}
-use Rattle.ocpi_text.specs.Whole.{max_whole}
-use Rattle.ocpi_types.specs.declared.events.Order.{Order}
-use Rattle.ocpi_types.specs.declared.packet.Packet.{Packet}
-use Rattle.ocpi_types.specs.declared.rows.Change.{Change}
-use Rattle.ocpi_types.specs.declared.rows.Change.TheVariants.{Put, Drop}
-use Rattle.ocpi_types.specs.declared.rows.Counter.{Counter}
-use Rattle.ocpi_types.specs.declared.rows.Counter.TheVariants.{Serial, Request, Reference}
-use Rattle.ocpi_types.specs.declared.rows.Row.TheVariants as row
-use Rattle.ocpi_types.specs.declared.rows.RowKey.TheVariants as keys
-use Rattle.ocpi_types.specs.declared.commands.Command.{Command}
-use Rattle.ocpi_types.specs.declared.stored.Push.{Push}
-use Rattle.ocpi_types.specs.declared.stored.Push.TheVariants as push
-use Rattle.ocpi_types.specs.declared.stored.Reply.{Reply}
-use Rattle.ocpi_types.specs.declared.stored.SentCommand.{SentCommand}
-use Rattle.ocpi_types.specs.declared.token.Token.{Token}
-use Rattle.handover.specs.Inbox.{InboxRows}
-use Rattle.outbox.specs.Outbox.{OutboxRows}
-use Rattle.outbox.specs.declared.push_book.Outgoing.{Outgoing}
-use Rattle.token_desk.specs.References.{reference_of}
-use Rattle.node_steps.specs.Acts.{Act, all_changes, all_requests, answered, commanded, in_turn, pushed, unanswered}
-use Rattle.node_steps.specs.Drafts.{Counters, count_change, count_changes, counted}
+use Rattle.ocpi_text.specs.{key, max_whole}
+use Rattle.ocpi_types.specs.{Change, Command, Counter, Drop, Order, Packet, Push, Put, Reference, Reply, Request}
+use Rattle.ocpi_types.specs.{SentCommand, Serial, Token}
+use Rattle.ocpi_types.specs.row
+use Rattle.ocpi_types.specs.keys
+use Rattle.ocpi_types.specs.push
+use Rattle.handover.specs.{InboxRows}
+use Rattle.outbox.specs.{OutboxRows, Outgoing}
+use Rattle.token_desk.specs.{reference_of}
+use Rattle.node_steps.specs.{Act, Counters, all_changes, all_requests, answered, commanded, count_change, count_changes}
+use Rattle.node_steps.specs.{counted, in_turn, pushed, unanswered}
 use Rattle.node_steps.proofs.Gathering.{changes_append}
 use Rattle.provider_rows.specs.State.{Rows, State}
 use Rattle.provider_rows.specs.State as state
-use Rattle.provider_steps.specs.declared.pushing.Pushing.{Pushing}
-use Rattle.provider_steps.specs.Acts.{billed, held, kept, referenced, replaced, stored, token_acts, with_answer, with_result}
-use Rattle.provider_steps.specs.Events.{Arrives, Asks, Done, Event, Gives, Happens, Input, Refused, Restarted, Restarts, Submits, Ticks}
-use Rattle.provider_steps.specs.Moves.{Out, counters_of, step_of_acts}
-use Rattle.provider_steps.specs.Orders.{Makes, OrderLine, next_reference, next_request}
+use Rattle.provider_steps.specs.{Answers, Arrives, Asks, Done, Event, Gives, Happens, Input, Makes, OrderLine, Out}
+use Rattle.provider_steps.specs.{PacketLine, Pushing, Refused, Restarted, Restarts, Submits, Ticks, all_resent, billed}
+use Rattle.provider_steps.specs.{counters_of, held, kept, next_reference, next_request, referenced, replaced}
+use Rattle.provider_steps.specs.{resent_acts, step_of_acts, stored, token_acts, with_answer, with_result}
 use Rattle.provider_steps.specs.Orders as orders
-use Rattle.provider_steps.specs.Packets.{Answers, PacketLine}
 use Rattle.provider_steps.specs.Packets as lines
-use Rattle.provider_steps.specs.Tick.{all_resent, resent_acts}
 use Rattle.provider_laws.specs.Held.{cdr_put, cdrs_put}
 use Rattle.provider_laws.specs.References.{Carrier, InCommand, InReply, Carries, given_in}
 use Rattle.provider_laws.proofs.events.Parts.{Does, Kept, SameReplies, SameCommands, Made, Responded, Resulted, SameSessions, SessionTaken, SameCdrs, CdrTaken, SameReferences, Given, CdrsMove}

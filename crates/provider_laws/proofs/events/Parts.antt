@@ -2,30 +2,18 @@
 -- an event.
 use Rattle.std.specs.Prelude.{◌≡◌, ◌⊎◌, ◌≤◌, ◌<◌, ℕ, List, [], ◌∷◌, Some, None}
 use Rattle.std.specs.FinMap.{get, insert}
-use Rattle.ocpi_text.specs.Text.{key}
-use Rattle.ocpi_text.specs.Whole.{max_whole}
-use Rattle.ocpi_types.specs.declared.cdrs.Cdr.{Cdr}
-use Rattle.ocpi_types.specs.declared.events.Order.{Order}
-use Rattle.ocpi_types.specs.declared.packet.Packet.{Packet}
-use Rattle.ocpi_types.specs.declared.packet.Body.TheVariants as body
-use Rattle.ocpi_types.specs.declared.replies.CommandResponse.{CommandResponse}
-use Rattle.ocpi_types.specs.declared.replies.CommandResult.{CommandResult}
-use Rattle.ocpi_types.specs.declared.rows.Change.{Change}
-use Rattle.ocpi_types.specs.declared.sessions.Session.{Session}
-use Rattle.ocpi_types.specs.declared.commands.Command.{Command}
-use Rattle.ocpi_types.specs.declared.stored.Reply.{Reply}
-use Rattle.ocpi_types.specs.declared.stored.SentCommand.{SentCommand}
-use Rattle.handover.specs.Cdrs.{Cdrs, cdr_key}
-use Rattle.handover.specs.Inbox.{IsInConflict, IsNews, Sessions, session_key}
-use Rattle.outbox.specs.Outbox.{OutboxRows}
-use Rattle.outbox.specs.declared.push_book.Outgoing.{Outgoing}
-use Rattle.token_desk.specs.References.{reference_of}
-use Rattle.node_steps.specs.Acts.{Act, answered, unanswered}
+use Rattle.ocpi_text.specs.{key, max_whole}
+use Rattle.ocpi_types.specs.{Cdr, Change, Command, CommandResponse, CommandResult, Order, Packet, Reply, SentCommand}
+use Rattle.ocpi_types.specs.{Session}
+use Rattle.ocpi_types.specs.body
+use Rattle.handover.specs.{IsInConflict, IsNews, Sessions, cdr_key, session_key}
+use Rattle.handover.specs.Cdrs.{Cdrs}
+use Rattle.outbox.specs.{OutboxRows, Outgoing}
+use Rattle.token_desk.specs.{reference_of}
+use Rattle.node_steps.specs.{Act, answered, unanswered}
 use Rattle.provider_rows.specs.State.{Rows, State}
-use Rattle.provider_steps.specs.Acts.{with_answer, with_result}
-use Rattle.provider_steps.specs.Events.{Arrives, Input, Submits}
-use Rattle.provider_steps.specs.Orders.{Makes, next_reference, next_request}
-use Rattle.provider_steps.specs.Packets.{Answers, FitsCommand, IsAwaited, IsRight}
+use Rattle.provider_steps.specs.{Answers, Arrives, FitsCommand, Input, IsAwaited, IsRight, Makes, Submits}
+use Rattle.provider_steps.specs.{next_reference, next_request, with_answer, with_result}
 use Rattle.provider_laws.specs.Held.{cdrs_put}
 use Rattle.provider_laws.specs.References.{Carrier, Carries}
 use Rattle.provider_laws.proofs.events.Through.{one_act, through}

@@ -3,16 +3,15 @@
 use Rattle.std.proofs.Common.{◌≡◌, ◌+◌, ◌++◌, ℕ, true, false, cond, nat_eq, List, [], ◌∷◌, length, refl, sym, ap, ◌∙◌, arith, length-append}
 use Rattle.std.proofs.lemmas.Bool.{eqb-true}
 use Rattle.std.specs.Prelude.{⊤}
-use Rattle.ocpi_types.specs.declared.rows.Change.{Change}
-use Rattle.ocpi_types.specs.declared.rows.Change.TheVariants.{Put, Drop}
-use Rattle.ocpi_types.specs.declared.rows.Counter.TheVariants.{Serial, Request, Session, Cdr, Reference}
-use Rattle.ocpi_types.specs.declared.rows.Row.TheVariants as row
-use Rattle.ocpi_types.specs.declared.rows.RowKey.TheVariants as keys
-use Rattle.node_steps.specs.Acts.{Act, all_changes, all_messages, all_requests}
-use Rattle.node_steps.specs.Drafts.{Counters, count_change, count_changes, counted}
+use Rattle.ocpi_types.specs.{Change, Drop, Put, Reference, Request, Serial}
+use Rattle.ocpi_types.specs.declared.rows.Counter.TheVariants.{Session, Cdr}
+use Rattle.ocpi_types.specs.row
+use Rattle.ocpi_types.specs.keys
+use Rattle.node_steps.specs.{Act, Counters, all_changes, all_messages, all_requests, count_change, count_changes}
+use Rattle.node_steps.specs.{counted}
 use Rattle.provider_rows.specs.State.{State, Rows}
-use Rattle.provider_rows.specs.Stored.{changed, changed_all}
-use Rattle.provider_steps.specs.Moves.{acted, counters_of}
+use Rattle.provider_rows.specs.{changed, changed_all}
+use Rattle.provider_steps.specs.{acted, counters_of}
 
 -- the change is not of the counter of packets, nor of that of requests
 abbrev pub IsPlain : Change → Type 0

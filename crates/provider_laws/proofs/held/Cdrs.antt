@@ -1,27 +1,21 @@
 -- Charge detail records that are held: each came from its operator, is held for good, and is the only one of its
 -- session.
-use Rattle.std.proofs.Common.{◌≡◌, ◌⊎◌, ℕ, List, [], ◌∷◌, inl, inr, refl, sym, ap, subst, ◌∙◌}
-use Rattle.std.specs.Prelude.{Some, None}
+use Rattle.std.proofs.Common.{◌≡◌, ◌⊎◌, ℕ, List, [], ◌∷◌, inl, inr, refl, sym, ap, subst, ◌∙◌, Some, None}
 use Rattle.std.specs.FinMap.{get, insert, get-empty}
-use Rattle.tables.specs.Keys.{text_exact, text_pair_cmp, text_pair_exact, text_pair_total, text_total}
+use Rattle.tables.specs.{text_exact, text_pair_cmp, text_pair_exact, text_pair_total, text_total}
 use Rattle.tables.proofs.Elements.{in_front}
 use Rattle.tables.proofs.Maps.{get-insert_same, get-insert_other, of_insert, told}
 use Rattle.tables.proofs.Options.{none_else, not_both}
-use Rattle.ocpi_text.specs.Text.{key}
-use Rattle.ocpi_types.specs.declared.cdrs.Cdr.{Cdr}
-use Rattle.ocpi_types.specs.declared.packet.Packet.{Packet}
-use Rattle.ocpi_types.specs.declared.packet.Body.{Body}
-use Rattle.ocpi_types.specs.declared.packet.Body.TheVariants as body
-use Rattle.ocpi_types.specs.declared.stored.Reply.{Reply}
-use Rattle.ocpi_types.specs.Credits.{AreAlike, is_credit}
-use Rattle.handover.specs.Cdrs.{AreOwnCdrs, Cdrs, HasOnePerSession, cdr_key}
-use Rattle.handover.specs.Inbox.{IsInConflict, IsOfParties}
+use Rattle.ocpi_text.specs.{key}
+use Rattle.ocpi_types.specs.{AreAlike, Body, Cdr, Packet, Reply, is_credit}
+use Rattle.ocpi_types.specs.body
+use Rattle.handover.specs.{AreOwnCdrs, HasOnePerSession, IsInConflict, IsOfParties, cdr_key}
+use Rattle.handover.specs.Cdrs.{Cdrs}
 use Rattle.node_laws.proofs.Runs.{kept_runs}
-use Rattle.node_steps.specs.Acts.{Act, answered}
-use Rattle.provider_rows.specs.State.{Rows, State, opening}
-use Rattle.provider_steps.specs.Acts.{billed}
-use Rattle.provider_steps.specs.Events.{Event, Happens}
-use Rattle.provider_steps.specs.Packets.{Answers}
+use Rattle.node_steps.specs.{Act, answered}
+use Rattle.provider_rows.specs.{opening}
+use Rattle.provider_rows.specs.State.{Rows, State}
+use Rattle.provider_steps.specs.{Answers, Event, Happens, billed}
 use Rattle.provider_steps.specs.Packets as lines
 use Rattle.provider_laws.specs.Laws.{AnswersIt, Brings}
 use Rattle.provider_laws.specs.Held.{AcknowledgedCdrsAreHeld, HeldCdrsCame, HeldCdrsStay, IsTaken, OneCdrPerSession, cdrs_put}

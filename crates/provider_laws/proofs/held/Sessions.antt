@@ -1,27 +1,21 @@
 -- Sessions that are held: each came from its operator, and only a later version replaces one that is not final.
-use Rattle.std.proofs.Common.{◌≡◌, ◌⊎◌, ◌≤◌, ◌<◌, ℕ, List, [], ◌∷◌, inl, inr, refl, sym, ap, subst, ◌∙◌, arith}
-use Rattle.std.specs.Prelude.{Option, Some, None, Contains}
+use Rattle.std.proofs.Common.{◌≡◌, ◌⊎◌, ◌≤◌, ◌<◌, ℕ, List, [], ◌∷◌, inl, inr, refl, sym, ap, subst, ◌∙◌, arith, Option}
+use Rattle.std.proofs.Common.{Some, None, Contains}
 use Rattle.std.specs.FinMap.{get, insert}
 use Rattle.std.proofs.lemmas.List.Elements.{Contains-append_right}
-use Rattle.tables.specs.Keys.{text_pair_total, text_pair_exact}
+use Rattle.tables.specs.{text_pair_exact, text_pair_total}
 use Rattle.tables.proofs.Elements.{in_front}
 use Rattle.tables.proofs.Maps.{get-insert_same, get-insert_other, of_insert, told}
-use Rattle.ocpi_types.specs.declared.packet.Packet.{Packet}
-use Rattle.ocpi_types.specs.declared.packet.Body.{Body}
-use Rattle.ocpi_types.specs.declared.packet.Body.TheVariants as body
-use Rattle.ocpi_types.specs.declared.sessions.Session.{Session}
-use Rattle.ocpi_types.specs.declared.stored.Reply.{Reply}
-use Rattle.ocpi_types.specs.declared.stored.Reply.TheVariants as reply
-use Rattle.ocpi_types.specs.declared.words.SessionStatus.{SessionStatus}
-use Rattle.ocpi_types.specs.declared.words.SessionStatus.TheVariants as status
-use Rattle.ocpi_text.specs.Text.{key}
-use Rattle.handover.specs.Inbox.{IsFinal, IsNews, IsOfParties, session_key}
+use Rattle.ocpi_types.specs.{Body, Packet, Reply, Session, SessionStatus}
+use Rattle.ocpi_types.specs.body
+use Rattle.ocpi_types.specs.reply
+use Rattle.ocpi_types.specs.status
+use Rattle.ocpi_text.specs.{key}
+use Rattle.handover.specs.{IsFinal, IsNews, IsOfParties, session_key}
 use Rattle.node_laws.proofs.Runs.{kept_runs}
-use Rattle.node_steps.specs.Acts.{Act, answered}
+use Rattle.node_steps.specs.{Act, answered}
 use Rattle.provider_rows.specs.State.{Rows, State}
-use Rattle.provider_steps.specs.Acts.{acknowledgement, held}
-use Rattle.provider_steps.specs.Events.{Event, Happens}
-use Rattle.provider_steps.specs.Packets.{Answers, IsRight}
+use Rattle.provider_steps.specs.{Answers, Event, Happens, IsRight, acknowledgement, held}
 use Rattle.provider_steps.specs.Packets as lines
 use Rattle.provider_laws.specs.Laws.{AnswersIt, Brings}
 use Rattle.provider_laws.specs.Held.{AcknowledgedSessionsAreHeld, HeldSessionsCame, HeldSessionsRise, HoldsAtLeast, IsAfter, IsTaken}

@@ -1,21 +1,21 @@
 -- What is owed changes by the charge detail records that are taken, each once.
-use Rattle.std.proofs.Common.{◌≡◌, ◌≢◌, List, [], ◌∷◌, ◌++◌, inl, inr, sym, ap, subst, ◌∙◌, arith}
+use Rattle.std.proofs.Common.{◌≡◌, ◌≢◌, List, [], ◌∷◌, ◌++◌, inl, inr, sym, ap, subst, ◌∙◌, arith, Some, None, Contains}
+use Rattle.std.proofs.Common.{pos, ◌+ℤ◌}
 use Rattle.std.proofs.lemmas.Int.{ints}
-use Rattle.std.specs.Prelude.{Some, None, Contains, pos, ◌+ℤ◌}
 use Rattle.std.specs.List.{AllPairs}
 use Rattle.std.specs.FinMap.{get, insert, values}
 use Rattle.std.proofs.lemmas.List.Elements.{All-nil, Contains-append_cases}
 use Rattle.std.proofs.lemmas.List.Kept.{AllPairs-cons}
-use Rattle.tables.specs.Keys.{text_pair_cmp, text_pair_exact, text_pair_total}
+use Rattle.tables.specs.{text_pair_cmp, text_pair_exact, text_pair_total}
 use Rattle.tables.proofs.Elements.{in_none, in_single, joined, no_pairs}
 use Rattle.tables.proofs.Maps.{get-insert_same}
 use Rattle.tables.proofs.Options.{none_else, not_both}
-use Rattle.ocpi_types.specs.declared.cdrs.Cdr.{Cdr}
-use Rattle.handover.specs.Cdrs.{Cdrs, cdr_key}
-use Rattle.handover.specs.Owed.{Account, cost_in, owed}
+use Rattle.ocpi_types.specs.{Cdr}
+use Rattle.handover.specs.{Account, cdr_key, cost_in, owed}
+use Rattle.handover.specs.Cdrs.{Cdrs}
 use Rattle.handover.proofs.Totals.{term_at, total_insert}
 use Rattle.provider_rows.specs.State.{State}
-use Rattle.provider_steps.specs.Events.{Event, Happens}
+use Rattle.provider_steps.specs.{Event, Happens}
 use Rattle.provider_laws.specs.Held.{CdrsAreTakenOnce, SettlementsAreTaken, TakenCdrsAreHeld, cdrs_put, taken}
 use Rattle.provider_laws.proofs.events.Parts.{CdrTaken, CdrsMove, SameCdrs}
 use Rattle.provider_laws.proofs.events.Doing.{does}

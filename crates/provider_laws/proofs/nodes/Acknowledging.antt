@@ -1,15 +1,14 @@
 -- What was acknowledged is held.
-use Rattle.std.proofs.Common.{◌≡◌, ◌∷◌, inl, inr, refl, sym, subst}
-use Rattle.std.specs.Prelude.{Contains}
+use Rattle.std.proofs.Common.{◌≡◌, ◌∷◌, inl, inr, refl, sym, subst, Contains}
 use Rattle.std.specs.FinMap.{get-empty}
 use Rattle.std.proofs.lemmas.List.Elements.{Contains-append_right}
-use Rattle.tables.specs.Keys.{text_number_cmp}
+use Rattle.tables.specs.{text_number_cmp}
 use Rattle.tables.proofs.Elements.{in_front}
 use Rattle.tables.proofs.Options.{not_both}
-use Rattle.ocpi_text.specs.Text.{key}
-use Rattle.ocpi_types.specs.declared.packet.Packet.{Packet}
-use Rattle.ocpi_types.specs.declared.stored.Reply.TheVariants as reply
-use Rattle.provider_rows.specs.State.{opening}
+use Rattle.ocpi_text.specs.{key}
+use Rattle.ocpi_types.specs.{Packet}
+use Rattle.ocpi_types.specs.reply
+use Rattle.provider_rows.specs.{opening}
 use Rattle.provider_laws.specs.Laws.{Came, IsReplyTo}
 use Rattle.provider_laws.specs.Held.{IsHeldAsSaid, SentAcknowledgementsHold}
 use Rattle.provider_laws.proofs.held.Cdrs.{acknowledged_cdrs_are_held}

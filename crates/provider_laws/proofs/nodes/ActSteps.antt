@@ -1,40 +1,29 @@
 -- What each act of a provider is to a node, and acts one after the other, which are one step by `join`.
-use Rattle.std.proofs.Common.{◌≡◌, ◌≢◌, ◌⊎◌, ◌+◌, ◌≤◌, ◌++◌, ℕ, List, [], ◌∷◌, length, inl, inr, refl, sym, ap, subst, ◌∙◌, arith, length-append}
-use Rattle.std.specs.Prelude.{Option, Some, None, Contains}
+use Rattle.std.proofs.Common.{◌≡◌, ◌≢◌, ◌⊎◌, ◌+◌, ◌≤◌, ◌++◌, ℕ, List, [], ◌∷◌, length, inl, inr, refl, sym, ap, subst}
+use Rattle.std.proofs.Common.{◌∙◌, arith, length-append, Option, Some, None, Contains}
 use Rattle.std.specs.Cmp.{nat_cmp_total}
 use Rattle.std.specs.FinMap.{get, insert, remove, nat_cmp-IsAntisymmetric}
 use Rattle.std.proofs.lemmas.List.Elements.{Contains-append_cases}
 use Rattle.tables.proofs.Elements.{in_front}
 use Rattle.tables.proofs.Maps.{get-insert_same, get-insert_other, get-remove_same, get-remove_other, told}
 use Rattle.tables.proofs.Options.{none_some}
-use Rattle.ocpi_text.specs.Text.{key}
-use Rattle.ocpi_types.specs.Stored.{body_of_reply, body_of_push}
-use Rattle.ocpi_types.specs.declared.packet.Packet.{Packet}
-use Rattle.ocpi_types.specs.declared.packet.Body.TheVariants as body
-use Rattle.ocpi_types.specs.declared.replies.Ack.{Ack}
-use Rattle.ocpi_types.specs.declared.replies.CommandResponse.{CommandResponse}
-use Rattle.ocpi_types.specs.declared.replies.CommandResult.{CommandResult}
-use Rattle.ocpi_types.specs.declared.rows.Change.{Change}
-use Rattle.ocpi_types.specs.declared.commands.Command.{Command}
-use Rattle.ocpi_types.specs.declared.stored.Push.{Push}
-use Rattle.ocpi_types.specs.declared.stored.Reply.{Reply}
-use Rattle.ocpi_types.specs.declared.stored.SentCommand.{SentCommand}
-use Rattle.ocpi_types.specs.declared.words.CommandResultType.{CommandResultType}
-use Rattle.outbox.specs.Outbox.{IsTo}
+use Rattle.ocpi_text.specs.{key}
+use Rattle.ocpi_types.specs.{Ack, Change, Command, CommandResponse, CommandResult, CommandResultType, Packet, Push}
+use Rattle.ocpi_types.specs.{Reply, SentCommand, body_of_push, body_of_reply}
+use Rattle.ocpi_types.specs.body
+use Rattle.outbox.specs.{IsTo, Outgoing}
 use Rattle.outbox.specs.Pushes.{Pushes}
-use Rattle.outbox.specs.declared.push_book.Outgoing.{Outgoing}
-use Rattle.node_steps.specs.Acts.{Act, acknowledged, all_messages, answered, command_resent, commanded, pushed, repeated, resent, unanswered}
+use Rattle.node_steps.specs.{Act, Message, acknowledged, all_messages, answered, command_resent, commanded, numbered}
+use Rattle.node_steps.specs.{pushed, repeated, resent, unanswered}
 use Rattle.node_steps.specs.Acts as act
-use Rattle.node_steps.specs.Messages.{Message, numbered}
 use Rattle.node_steps.proofs.Gathering.{messages_append, numbered_append}
 use Rattle.node_laws.specs.Nodes.{Node, Exchange, Request, Answers, Acknowledged, AreAboutSame, IsSettled, NodeStep, IsReply, Replaced, Responded, Resulted, both, posted_to, request_of}
 use Rattle.node_laws.proofs.Acts.{StaysAmong, again_step, answer_step, quiet_step, request_new_step, resend_step, settle_step, wider_step}
 use Rattle.node_laws.proofs.BodyKinds.{no_command, no_push}
 use Rattle.node_laws.proofs.Joining.{idle_step, join}
 use Rattle.provider_rows.specs.State.{State, Rows}
-use Rattle.provider_rows.specs.Sound.{with_rows}
-use Rattle.provider_rows.specs.Stored.{changed}
-use Rattle.provider_steps.specs.Acts.{kept, replaced, with_answer, with_result}
+use Rattle.provider_rows.specs.{changed, with_rows}
+use Rattle.provider_steps.specs.{kept, replaced, with_answer, with_result}
 use Rattle.provider_laws.specs.AsNode.{command_request, node, pushed_request, standing_in, standing_of, while_open}
 use Rattle.provider_laws.proofs.events.Through.{one_act, through, through_append}
 

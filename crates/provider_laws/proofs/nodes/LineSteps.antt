@@ -1,44 +1,27 @@
 -- Each line is a step of a node.
-use Rattle.std.proofs.Common.{◌≡◌, ◌+◌, ◌≤◌, ◌++◌, ℕ, List, [], ◌∷◌, inl, inr, refl, sym, ap, subst, ◌∙◌, arith}
-use Rattle.std.specs.Prelude.{Option, Some, None, Contains, is_some}
+use Rattle.std.proofs.Common.{◌≡◌, ◌+◌, ◌≤◌, ◌++◌, ℕ, List, [], ◌∷◌, inl, inr, refl, sym, ap, subst, ◌∙◌, arith, Option}
+use Rattle.std.proofs.Common.{Some, None, Contains, is_some}
 use Rattle.std.specs.FinMap.{get}
 use Rattle.std.proofs.lemmas.List.Elements.{Contains-append_right}
 use Rattle.tables.proofs.Elements.{in_front, in_map}
 use Rattle.tables.proofs.Options.{none_contained, none_else, none_some, not_both}
-use Rattle.ocpi_text.specs.Text.{key}
-use Rattle.ocpi_types.specs.Stored.{body_of_push}
-use Rattle.ocpi_types.specs.declared.events.Order.{Order}
-use Rattle.ocpi_types.specs.declared.packet.Packet.{Packet}
-use Rattle.ocpi_types.specs.declared.rows.Change.TheVariants.{Put}
-use Rattle.ocpi_types.specs.declared.rows.Counter.TheVariants.{Reference}
-use Rattle.ocpi_types.specs.declared.rows.Row.TheVariants as row
-use Rattle.ocpi_types.specs.declared.commands.Command.{Command}
-use Rattle.ocpi_types.specs.declared.commands.Command.TheVariants as command
-use Rattle.ocpi_types.specs.declared.stored.Push.{Push}
-use Rattle.ocpi_types.specs.declared.stored.Push.TheVariants as push
-use Rattle.ocpi_types.specs.declared.stored.Reply.{Reply}
-use Rattle.ocpi_types.specs.declared.stored.SentCommand.{SentCommand}
-use Rattle.ocpi_types.specs.declared.token.Token.{Token}
-use Rattle.ocpi_types.specs.declared.words.TokenType.{TokenType}
-use Rattle.ocpi_types.specs.declared.words.TokenType.TheVariants as type
-use Rattle.outbox.specs.Outbox.{OutboxRows, Waits}
-use Rattle.outbox.specs.Pushes.{IsReplaced, subject, type_number}
-use Rattle.outbox.specs.declared.push_book.Outgoing.{Outgoing}
-use Rattle.outbox.specs.declared.push_book.Subject.{Subject}
-use Rattle.node_steps.specs.Acts.{Act, all_requests, answered, commanded, in_turn, pushed}
-use Rattle.node_steps.specs.Peers.{IsPeer}
+use Rattle.ocpi_text.specs.{key}
+use Rattle.ocpi_types.specs.{Command, Order, Packet, Push, Put, Reference, Reply, SentCommand, Token, TokenType}
+use Rattle.ocpi_types.specs.{body_of_push}
+use Rattle.ocpi_types.specs.row
+use Rattle.ocpi_types.specs.command
+use Rattle.ocpi_types.specs.push
+use Rattle.ocpi_types.specs.type
+use Rattle.outbox.specs.{IsReplaced, OutboxRows, Outgoing, Subject, Waits, subject, type_number}
+use Rattle.node_steps.specs.{Act, IsPeer, all_requests, answered, commanded, in_turn, pushed}
 use Rattle.node_laws.specs.Nodes.{AreAboutSame, Tokens, posted_to}
-use Rattle.provider_rows.specs.State.{Rows, State, url_of}
-use Rattle.provider_rows.specs.Sound.{IsConsistent}
-use Rattle.provider_steps.specs.declared.pushing.Pushing.{Pushing}
-use Rattle.provider_steps.specs.Acts.{referenced, replaced, stored, token_acts}
-use Rattle.provider_steps.specs.Events.{Arrives, Asks, Gives, Input, Restarts, Submits, Ticks}
+use Rattle.provider_rows.specs.{IsConsistent, url_of}
+use Rattle.provider_rows.specs.State.{Rows, State}
+use Rattle.provider_steps.specs.{Answers, AreTokenPushes, Arrives, Asks, Gives, Input, Makes, PacketLine, Pushing}
+use Rattle.provider_steps.specs.{Restarts, Submits, Ticks, all_resent, next_reference, next_request, referenced}
+use Rattle.provider_steps.specs.{replaced, resent_acts, stored, token_acts}
 use Rattle.provider_steps.specs.Orders as orders
-use Rattle.provider_steps.specs.Orders.{Makes, next_reference, next_request}
 use Rattle.provider_steps.specs.Packets as lines
-use Rattle.provider_steps.specs.Packets.{Answers, PacketLine}
-use Rattle.provider_steps.specs.Tick.{all_resent, resent_acts}
-use Rattle.provider_steps.specs.Tokens.{AreTokenPushes}
 use Rattle.provider_laws.specs.AsNode.{came_in, pushed_request}
 use Rattle.provider_laws.proofs.events.Doing.{Untouched, pushed_asks, pushed_last, pushed_untouched, untouched_twice}
 use Rattle.provider_laws.proofs.events.Through.{one_act, through}

@@ -1,17 +1,18 @@
 -- The laws of nodes, of a provider.
 use Rattle.std.proofs.Common.{◌≡◌, zero, suc, ℕ, List, [], ◌∷◌, ◌++◌, map, inl, inr, refl, sym, ap, subst, ◌∙◌, arith}
-use Rattle.std.specs.Prelude.{Some, None, Contains, slice_get}
+use Rattle.std.proofs.Common.{Some, None, Contains, slice_get}
 use Rattle.std.specs.FinMap.{get-empty}
 use Rattle.std.specs.Ordering.{nat_cmp}
 use Rattle.std.proofs.lemmas.List.Elements.{Contains-append_cases}
 use Rattle.tables.proofs.Elements.{in_none, in_single}
 use Rattle.tables.proofs.Options.{none_some, not_both}
-use Rattle.ocpi_types.specs.declared.packet.Packet.{Packet}
+use Rattle.ocpi_types.specs.{Packet}
 use Rattle.node_laws.specs.Nodes.{AreGiven, Request}
 use Rattle.node_laws.specs.Laws as nodes
 use Rattle.node_laws.proofs.NodeRuns as laws
-use Rattle.provider_rows.specs.State.{Peering, State, opening}
-use Rattle.provider_steps.specs.Events.{Event}
+use Rattle.provider_rows.specs.{Peering, opening}
+use Rattle.provider_rows.specs.State.{State}
+use Rattle.provider_steps.specs.{Event}
 use Rattle.provider_laws.specs.AsNode.{RunsAreNodeRuns, exchange, node, standing_in, standing_of}
 use Rattle.provider_laws.specs.Laws.{Numbered, PacketsAreAddressed, RequestsAgree, Run, SentRepliesAreKept, sent}
 use Rattle.provider_laws.proofs.nodes.LineSteps.{AreWell, well_of}

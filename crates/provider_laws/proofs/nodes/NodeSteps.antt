@@ -1,20 +1,17 @@
 -- Each event of a provider is a step of a node.
-use Rattle.std.proofs.Common.{◌≡◌, ◌⊎◌, ◌≤◌, ℕ, List, inl, inr, sym, ap, subst, ◌∙◌, arith}
-use Rattle.std.specs.Prelude.{Some}
+use Rattle.std.proofs.Common.{◌≡◌, ◌⊎◌, ◌≤◌, ℕ, List, inl, inr, sym, ap, subst, ◌∙◌, arith, Some}
 use Rattle.std.specs.Cmp.{nat_cmp_total}
 use Rattle.std.specs.FinMap.{get, nat_cmp-IsAntisymmetric}
 use Rattle.tables.proofs.Maps.{of_insert}
 use Rattle.tables.proofs.Options.{none_else, not_both}
-use Rattle.ocpi_types.specs.declared.stored.SentCommand.{SentCommand}
-use Rattle.node_steps.specs.Acts.{Act, unanswered}
+use Rattle.ocpi_types.specs.{SentCommand}
+use Rattle.node_steps.specs.{Act, unanswered}
 use Rattle.node_laws.specs.Nodes.{NodeStep}
 use Rattle.node_laws.proofs.Joining.{idle_step}
 use Rattle.provider_rows.specs.State.{State}
-use Rattle.provider_rows.specs.Sound.{with_rows}
-use Rattle.provider_steps.specs.Acts.{with_answer, with_result}
-use Rattle.provider_steps.specs.Events.{Asks, Done, Event, Happens, Input, Refused, Restarted}
-use Rattle.provider_steps.specs.Moves.{Out, acted}
-use Rattle.provider_steps.specs.Orders.{next_request}
+use Rattle.provider_rows.specs.{with_rows}
+use Rattle.provider_steps.specs.{Asks, Done, Event, Happens, Input, Out, Refused, Restarted, acted, next_request}
+use Rattle.provider_steps.specs.{with_answer, with_result}
 use Rattle.provider_laws.specs.AsNode.{StepsAreNodeSteps, came_in, exchange, node}
 use Rattle.provider_laws.proofs.events.Doing.{asked_plain, does}
 use Rattle.provider_laws.proofs.events.Parts.{CommandsMove, Made, Responded, Resulted, SameCommands}

@@ -1,19 +1,15 @@
 -- Each reference is that of a number that was given, to one command or to one authorization.
-use Rattle.std.proofs.Common.{◌≡◌, ◌≤◌, ◌+◌, ℕ, List, inl, inr, refl, sym, ap, ◌∙◌, arith}
-use Rattle.std.specs.Prelude.{Ok}
+use Rattle.std.proofs.Common.{◌≡◌, ◌≤◌, ◌+◌, ℕ, List, inl, inr, refl, sym, ap, ◌∙◌, arith, Ok}
 use Rattle.std.specs.Ordering.{nat_cmp}
 use Rattle.std.specs.FinMap.{get-empty}
-use Rattle.tables.specs.Keys.{text_number_cmp}
+use Rattle.tables.specs.{text_number_cmp}
 use Rattle.tables.proofs.Options.{not_both}
-use Rattle.ocpi_text.specs.Party.{party_at}
-use Rattle.ocpi_text.specs.Text.{key}
-use Rattle.ocpi_text.specs.Whole.{max_whole}
-use Rattle.ocpi_text.specs.OwnIds.{own_id_text}
-use Rattle.ocpi_text.specs.declared.own_ids.OwnIdKind.TheVariants.{AuthorizationReference}
+use Rattle.ocpi_text.specs.{AuthorizationReference, key, max_whole, own_id_text, party_at}
 use Rattle.session_book.proofs.OwnIds.{ids_differ}
 use Rattle.node_laws.proofs.Runs.{kept_runs}
-use Rattle.provider_rows.specs.State.{ArePeers, Peering, State, opening}
-use Rattle.provider_steps.specs.Events.{Event, Happens}
+use Rattle.provider_rows.specs.{ArePeers, Peering, opening}
+use Rattle.provider_rows.specs.State.{State}
+use Rattle.provider_steps.specs.{Event, Happens}
 use Rattle.provider_laws.specs.Laws.{Run}
 use Rattle.provider_laws.specs.References.{Carrier, Carries, InCommand, InReply, IsOfNumber, ReferencesAreOwn, ReferencesHaveOneCarrier, ReferencesNeverFall}
 use Rattle.provider_laws.proofs.events.Parts.{Given, ReferencesMove, SameReferences}

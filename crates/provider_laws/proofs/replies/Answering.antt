@@ -1,20 +1,17 @@
 -- Replies: each is kept for good, and answers a request that came.
-use Rattle.std.proofs.Common.{◌≡◌, ◌⊎◌, ℕ, List, [], ◌∷◌, inl, inr, refl, sym, ap, subst, ◌∙◌}
-use Rattle.std.specs.Prelude.{Some}
+use Rattle.std.proofs.Common.{◌≡◌, ◌⊎◌, ℕ, List, [], ◌∷◌, inl, inr, refl, sym, ap, subst, ◌∙◌, Some}
 use Rattle.std.specs.FinMap.{get}
-use Rattle.tables.specs.Keys.{text_number_total, text_number_exact}
+use Rattle.tables.specs.{text_number_exact, text_number_total}
 use Rattle.tables.proofs.Maps.{get-insert_same, get-insert_other, of_insert}
 use Rattle.tables.proofs.Options.{not_both}
-use Rattle.ocpi_text.specs.Text.{key}
-use Rattle.ocpi_types.specs.declared.packet.Packet.{Packet}
-use Rattle.ocpi_types.specs.declared.stored.Push.TheVariants as push
-use Rattle.ocpi_types.specs.declared.stored.Reply.{Reply}
-use Rattle.node_steps.specs.Acts.{Act, answered}
+use Rattle.ocpi_text.specs.{key}
+use Rattle.ocpi_types.specs.{Packet, Reply}
+use Rattle.ocpi_types.specs.push
+use Rattle.node_steps.specs.{Act, answered}
 use Rattle.node_laws.specs.Nodes as nodes
 use Rattle.node_laws.proofs.Runs.{kept_runs}
 use Rattle.provider_rows.specs.State.{State}
-use Rattle.provider_steps.specs.Events.{Arrives, Event, Happens}
-use Rattle.provider_steps.specs.Packets.{Answers}
+use Rattle.provider_steps.specs.{Answers, Arrives, Event, Happens}
 use Rattle.provider_steps.specs.Packets as lines
 use Rattle.provider_laws.specs.Laws.{AnswersIt, RepliesAnswer, RepliesStay}
 use Rattle.provider_laws.proofs.events.Parts.{Does, Kept, SameReplies, RepliesMove}

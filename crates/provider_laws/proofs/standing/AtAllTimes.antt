@@ -1,14 +1,12 @@
 -- What holds of a provider at all times, over runs.
 use Rattle.std.proofs.Common.{List, sym, subst}
 use Rattle.node_laws.proofs.Runs.{kept_runs}
-use Rattle.node_steps.specs.Acts.{Act}
-use Rattle.provider_rows.specs.State.{State, opening}
-use Rattle.provider_rows.specs.Sound.{IsConsistent}
-use Rattle.provider_rows.specs.Steps.{MayFollow}
-use Rattle.provider_steps.specs.Events.{Arrives, Asks, Done, Event, Gives, Happens, Input, Refused, Restarted, Restarts, Submits, Ticks}
-use Rattle.provider_steps.specs.Moves.{AreInRange, Out, step_of_acts}
-use Rattle.provider_rows.specs.RowLaws.{StaysConsistent}
-use Rattle.provider_steps.specs.Facts.{OrdersMayFollow, PacketsMayFollow, TicksMayFollow, TokensMayFollow}
+use Rattle.node_steps.specs.{Act}
+use Rattle.provider_rows.specs.{IsConsistent, MayFollow, StaysConsistent, opening}
+use Rattle.provider_rows.specs.State.{State}
+use Rattle.provider_steps.specs.{AreInRange, Arrives, Asks, Done, Event, Gives, Happens, Input, OrdersMayFollow, Out}
+use Rattle.provider_steps.specs.{PacketsMayFollow, Refused, Restarted, Restarts, Submits, Ticks, TicksMayFollow}
+use Rattle.provider_steps.specs.{TokensMayFollow, step_of_acts}
 use Rattle.provider_laws.specs.Laws.{AlwaysConsistent}
 
 -- what is said of rows and of steps: what a line asks for may be carried out, and what may be carried out leaves a

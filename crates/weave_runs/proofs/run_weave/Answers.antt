@@ -1,5 +1,5 @@
 use Rattle.std.proofs.Common.{sym, subst}
-use Rattle.line_runs.specs.declared.outcome.Ran.TheVariants.{Whole, WithRefusals}
+use Rattle.line_runs.specs.{Whole, WithRefusals}
 use Rattle.weave_runs.specs.Outputs.{IsRunText, IsWritten, OfMemory}
 use Rattle.weave_runs.proofs.OutputLemmas.{begun, whole}
 use Rattle.weave_runs.proofs.run_weave.Goals as goal

@@ -1,5 +1,5 @@
 use Rattle.std.proofs.Common.{◌∷◌, ◌++◌, map, sym, ap, ◌∙◌}
-use Rattle.ocpi_types.specs.declared.rows.Row.TheVariants as row
+use Rattle.ocpi_types.specs.row
 use Rattle.command_book.specs.Listing.{reply_row}
 use Rattle.tables.proofs.Elements.{one_more, none_left, not_none}
 use Rattle.command_book.proofs.listing.push_replies.Goals as goal

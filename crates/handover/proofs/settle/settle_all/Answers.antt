@@ -1,7 +1,6 @@
-use Rattle.std.proofs.Common.{refl, subst, ◌^◌, arith}
-use Rattle.std.specs.Prelude.{◌<◌, unsigned_abs}
+use Rattle.std.proofs.Common.{refl, subst, ◌^◌, arith, ◌<◌, unsigned_abs}
 use Rattle.std.proofs.lemmas.Option.{slice_get_read}
-use Rattle.ocpi_text.specs.Decimal.{e4_limit}
+use Rattle.ocpi_text.specs.{e4_limit}
 use Rattle.handover.proofs.Settling.{owed_start, small_start, settled_more, cost_sum}
 use Rattle.handover.proofs.settle.settle_all.Goals as goal
 

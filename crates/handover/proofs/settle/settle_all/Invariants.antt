@@ -1,8 +1,6 @@
-use Rattle.std.proofs.Common.{◌*◌, ◌≤◌}
-use Rattle.std.specs.Prelude.{take, unsigned_abs}
-use Rattle.ocpi_text.specs.Decimal.{e4_limit}
-use Rattle.tables.specs.Keys.{text_pair_cmp}
-use Rattle.tables.specs.Tables.{shown_of}
+use Rattle.std.proofs.Common.{◌*◌, ◌≤◌, take, unsigned_abs}
+use Rattle.ocpi_text.specs.{e4_limit}
+use Rattle.tables.specs.{shown_of, text_pair_cmp}
 use Rattle.handover.specs.Owed.{Account, AreOwed, sum_at}
 use Rattle.handover.proofs.settle.settle_all.Given as goal
 

@@ -2,9 +2,9 @@ use Rattle.std.proofs.Common.{List, IfErr, IfOk, sym, subst}
 use Rattle.cell_weaving.specs.Cells.{AreCellsOf, IsRunOfCells}
 use Rattle.harness_weaving.specs.Faults.{IsToldOf}
 use Rattle.harness_weaving.proofs.OfNodes.{parts_of}
-use Rattle.node_history.specs.Cells.{Cell}
-use Rattle.node_store.specs.Contents.{Content}
-use Rattle.ocpi_types.specs.declared.setup.Node.{Node}
+use Rattle.node_history.specs.{Cell}
+use Rattle.node_store.specs.{Content}
+use Rattle.ocpi_types.specs.{Node}
 use Rattle.harness_weaving.proofs.weaving.weave_nodes.Goals as goal
 
 pub weave_parts-requires : goal.weave_parts-requires

@@ -1,12 +1,11 @@
 use Rattle.std.proofs.Common.{◌≡◌, subst}
 use Rattle.node_core.proofs.MadeAgain.{by_operators, same_operator}
 use Rattle.node_core.proofs.making.operator_of_rows.Goals as goal
-use Rattle.ocpi_types.specs.declared.site.SiteLine.{SiteLine}
+use Rattle.ocpi_types.specs.{SiteLine}
 use Rattle.operator_stored.specs.Bad as operator_bad
 use Rattle.operator_stored.specs.Making as operator_making
-use Rattle.stored_rows.specs.Faults.{IfBadRows}
-use Rattle.stored_rows.specs.declared.fault.RowsFault.TheVariants.{Memory}
-use Rattle.world_steps.specs.World.{NodeState}
+use Rattle.stored_rows.specs.{IfBadRows, Memory}
+use Rattle.world_steps.specs.{NodeState}
 
 pub returns-in-Ok-clause-made : goal.returns-in-Ok-clause-made
 returns-in-Ok-clause-made c = subst (λ (l : SiteLine). operator_making.IsMadeOf l c.args.rows.items c.in-Ok.operator.state) c.in_ok-line.ensures c.in-Ok.ensures.made

@@ -1,12 +1,11 @@
 use Rattle.std.proofs.Common.{◌≡◌, subst}
 use Rattle.node_core.proofs.MadeAgain.{by_providers, same_provider}
 use Rattle.node_core.proofs.making.provider_of_rows.Goals as goal
-use Rattle.provider_rows.specs.State.{Peering}
+use Rattle.provider_rows.specs.{Peering}
 use Rattle.provider_stored.specs.Bad as provider_bad
 use Rattle.provider_stored.specs.Making as provider_making
-use Rattle.stored_rows.specs.Faults.{IfBadRows}
-use Rattle.stored_rows.specs.declared.fault.RowsFault.TheVariants.{Memory}
-use Rattle.world_steps.specs.World.{NodeState}
+use Rattle.stored_rows.specs.{IfBadRows, Memory}
+use Rattle.world_steps.specs.{NodeState}
 
 pub returns-in-Ok-clause-made : goal.returns-in-Ok-clause-made
 returns-in-Ok-clause-made c = subst (λ (p : Peering). provider_making.IsMadeOf p c.args.rows.items c.in-Ok.provider.state) c.in_ok-peers.ensures c.in-Ok.ensures.made

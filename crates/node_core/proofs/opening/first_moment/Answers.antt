@@ -1,8 +1,6 @@
-use Rattle.std.proofs.Common.{◌≡◌, ◌∙◌, ap, arith, refl, sym}
-use Rattle.std.specs.Prelude.{Ok, codes}
+use Rattle.std.proofs.Common.{◌≡◌, ◌∙◌, ap, arith, refl, sym, Ok, codes}
 use Rattle.ocpi_text.proofs.Moments.{moment_again}
-use Rattle.ocpi_text.specs.Calendar.{date_of_day}
-use Rattle.ocpi_text.specs.Moment.{moment_at, moment_text}
+use Rattle.ocpi_text.specs.{date_of_day, moment_at, moment_text}
 use Rattle.node_core.proofs.opening.first_moment.Goals as goal
 
 text_is : moment_text 0 ≡ codes "1970-01-01T00:00:00Z"

@@ -1,7 +1,7 @@
 use Rattle.std.proofs.Common.{arith}
 use Rattle.node_core.proofs.Lists.{flat_step}
 use Rattle.node_core.proofs.opening.operators.Goals as goal
-use Rattle.world_steps.specs.World.{operator_of}
+use Rattle.world_steps.specs.{operator_of}
 
 pub loop-member-preserved : goal.loop-member-preserved
 loop-member-preserved c =

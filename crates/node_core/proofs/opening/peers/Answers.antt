@@ -1,8 +1,8 @@
 use Rattle.std.proofs.Common.{ℕ, List, subst, sym}
 use Rattle.node_core.proofs.Lists.{placed}
 use Rattle.node_core.proofs.opening.peers.Goals as goal
-use Rattle.ocpi_types.specs.declared.setup.Node.TheVariants as node
-use Rattle.provider_rows.specs.State.{ArePeers}
+use Rattle.ocpi_types.specs.node
+use Rattle.provider_rows.specs.{ArePeers}
 use Rattle.world_laws.proofs.Setups.{are_peers_of}
 
 pub unreachable-requires : goal.unreachable-requires

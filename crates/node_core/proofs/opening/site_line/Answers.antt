@@ -2,8 +2,8 @@ use Rattle.std.proofs.Common.{ℕ, List, subst, sym}
 use Rattle.node_core.proofs.Lists.{placed}
 use Rattle.node_core.proofs.OpeningSetups.{are_parties_of}
 use Rattle.node_core.proofs.opening.site_line.Goals as goal
-use Rattle.ocpi_types.specs.Parties.{AreParties}
-use Rattle.ocpi_types.specs.declared.setup.Node.TheVariants as node
+use Rattle.ocpi_types.specs.{AreParties}
+use Rattle.ocpi_types.specs.node
 
 pub unreachable-requires : goal.unreachable-requires
 unreachable-requires c =

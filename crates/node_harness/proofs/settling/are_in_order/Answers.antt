@@ -1,7 +1,6 @@
-use Rattle.std.proofs.Common.{◌≡◌, ◌+◌, List, refl, sym, subst, Bor}
-use Rattle.std.specs.Prelude.{Some, slice_get}
+use Rattle.std.proofs.Common.{◌≡◌, ◌+◌, List, refl, sym, subst, Bor, Some, slice_get}
 use Rattle.std.proofs.lemmas.Option.{slice_get_read}
-use Rattle.ocpi_types.specs.declared.node_events.NodeEventKind.{NodeEventKind}
+use Rattle.ocpi_types.specs.{NodeEventKind}
 use Rattle.node_harness.proofs.InOrder.{IsFound, found_at, found_none}
 use Rattle.node_harness.proofs.settling.are_in_order.Goals as goal
 use Rattle.node_harness.proofs.settling.are_in_order.Goals.{then-is_own+in-Some, else-is_own}

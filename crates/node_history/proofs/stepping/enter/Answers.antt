@@ -1,5 +1,5 @@
 use Rattle.std.proofs.Common.{sym, subst}
-use Rattle.node_cell.specs.Keepers.{keeper_of}
+use Rattle.node_cell.specs.{keeper_of}
 use Rattle.node_history.specs.Cells.{IsNotDone}
 use Rattle.node_history.specs.declared.fault.CellFault.{CellFault}
 use Rattle.node_history.proofs.Entering.{not_done}

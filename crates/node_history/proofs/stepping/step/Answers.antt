@@ -1,8 +1,7 @@
 use Rattle.std.proofs.Common.{subst}
 use Rattle.node_cell.proofs.Carrying.{failed}
-use Rattle.node_cell.specs.Keepers.{keeper_of}
-use Rattle.node_core.specs.Works.{IsPlanned}
-use Rattle.node_core.specs.declared.work.Planned.{Planned}
+use Rattle.node_cell.specs.{keeper_of}
+use Rattle.node_core.specs.{IsPlanned, Planned}
 use Rattle.node_history.proofs.Doing.{done}
 use Rattle.node_history.proofs.stepping.step.Goals as goal
 

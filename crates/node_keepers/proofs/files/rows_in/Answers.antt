@@ -1,4 +1,4 @@
-use Rattle.node_store.specs.declared.fault.StoreFault.TheVariants.{BadRow}
+use Rattle.node_store.specs.{BadRow}
 use Rattle.node_keepers.proofs.FileLemmas.{bad_found, rows_found}
 use Rattle.node_keepers.proofs.files.rows_in.Goals as goal
 

@@ -1,5 +1,5 @@
 use Rattle.std.proofs.Common.{◌∙◌, ap, arith, sym}
-use Rattle.ocpi_text.specs.Text.{key}
+use Rattle.ocpi_text.specs.{key}
 use Rattle.node_keepers.proofs.KeeperLemmas.{is_here, none_at_all, none_more, none_yet}
 use Rattle.node_keepers.proofs.keeping.find.Goals as goal
 

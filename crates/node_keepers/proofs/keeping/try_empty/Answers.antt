@@ -1,8 +1,6 @@
 use Rattle.std.proofs.Common.{◌≡◌, ◌⊎◌, [], arith, inl, inr, rules, refl, sym, ap, ◌∙◌}
 use Rattle.std.proofs.lemmas.Bool.{eqb-false}
-use Rattle.node_store.specs.Contents.{rows_of}
-use Rattle.node_store.specs.declared.fault.Cause.TheVariants.{NotEmpty}
-use Rattle.node_store.specs.declared.fault.StoreFault.TheVariants.{Refused}
+use Rattle.node_store.specs.{NotEmpty, Refused, rows_of}
 use Rattle.node_keepers.specs.Keeping.{CannotLoad, KeepsRows, keeping_of}
 use Rattle.node_keepers.proofs.KeeperLemmas.{err_one, keeps_nothing, none_of, not_empty}
 use Rattle.node_keepers.proofs.keeping.try_empty.Goals as goal

@@ -1,7 +1,5 @@
 use Rattle.std.proofs.Common.{subst, sym, ◌∙◌, ap}
-use Rattle.json_text.specs.declared.trees.Tree.{Tree}
-use Rattle.json_text.specs.Fault.{Gives}
-use Rattle.json_text.specs.Trees.{view}
+use Rattle.json_text.specs.{Gives, Tree, view}
 use Rattle.node_lines.specs.NodeLines.{node_line_of, several_of}
 use Rattle.json_text.proofs.TreeViews.{view-Array}
 use Rattle.node_lines.proofs.NodeLineLemmas.{each_tree}

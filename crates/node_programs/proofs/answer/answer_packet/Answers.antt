@@ -1,7 +1,7 @@
 use Rattle.std.proofs.Common.{refl}
 use Rattle.std.proofs.lemmas.Result.{IfOk-weaker}
-use Rattle.json_text.specs.Fault.{fault_text}
-use Rattle.line_runs.specs.declared.run.Turn.TheVariants.{Refused}
+use Rattle.json_text.specs.{fault_text}
+use Rattle.line_runs.specs.{Refused}
 use Rattle.node_programs.specs.Answer.{Unread}
 use Rattle.program_lines.specs.Writing.{refusal_line}
 use Rattle.program_lines.proofs.FaultLemmas.{if_err_then, of_each}

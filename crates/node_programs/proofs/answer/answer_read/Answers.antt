@@ -1,7 +1,7 @@
 use Rattle.std.proofs.Common.{◌++◌, ◌∙◌, Some, refl, ap, string_bytes}
-use Rattle.node_steps.specs.FaultText.{fault_text}
+use Rattle.node_steps.specs.{fault_text}
 use Rattle.operator_core.specs.Requests.{out_of}
-use Rattle.line_runs.specs.declared.run.Turn.TheVariants.{Taken, Refused}
+use Rattle.line_runs.specs.{Refused, Taken}
 use Rattle.node_programs.specs.Answer.{Answered, Unanswered}
 use Rattle.program_lines.specs.Writing.{packet_lines, refusal_line}
 use Rattle.program_lines.proofs.FaultLemmas.{of_each}

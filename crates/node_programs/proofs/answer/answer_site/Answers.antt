@@ -1,7 +1,7 @@
 use Rattle.std.proofs.Common.{[], Some, refl, sym, ap, string_bytes}
 use Rattle.std.proofs.lemmas.List.{append-nil}
-use Rattle.json_text.specs.Fault.{fault_text}
-use Rattle.line_runs.specs.declared.run.Turn.TheVariants.{Ended}
+use Rattle.json_text.specs.{fault_text}
+use Rattle.line_runs.specs.{Ended}
 use Rattle.node_programs.specs.Answer.{Opened, NoSite}
 use Rattle.program_lines.specs.Writing.{refusal_line}
 use Rattle.program_lines.proofs.FaultLemmas.{of_each}

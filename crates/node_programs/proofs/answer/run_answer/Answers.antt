@@ -1,7 +1,6 @@
 use Rattle.std.proofs.Common.{◌≢◌, Option, IfErr, IfOk, subst}
 use Rattle.std.proofs.lemmas.Result.{IfOk-weaker}
-use Rattle.line_runs.specs.Run.{Begins, Outputs, StopsReading}
-use Rattle.line_runs.specs.declared.outcome.RunFault.TheVariants.{WriteFailed}
+use Rattle.line_runs.specs.{Begins, Outputs, StopsReading, WriteFailed}
 use Rattle.node_programs.specs.Answer.{Answering, EndGives, LineGives}
 use Rattle.program_lines.proofs.FaultLemmas.{if_err_then}
 use Rattle.node_programs.proofs.answer.run_answer.Goals as goal

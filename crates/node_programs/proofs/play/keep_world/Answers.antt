@@ -1,4 +1,4 @@
-use Rattle.node_keepers.specs.Keeping.{AreUnopened, keeping_of}
+use Rattle.node_keepers.specs.{AreUnopened, keeping_of}
 use Rattle.node_programs.proofs.PlayLemmas.{err_one, unopened_in}
 use Rattle.node_programs.proofs.play.keep_world.Goals as goal
 

@@ -1,17 +1,15 @@
 use Rattle.std.proofs.Common.{◌≡◌, ℕ, ◌∙◌, refl, sym, ap, subst, List, [], Some, string_bytes}
 use Rattle.std.proofs.lemmas.List.{append-nil}
 use Rattle.std.proofs.lemmas.Result.{IfOk-weaker}
-use Rattle.ocpi_types.specs.declared.packet.Packet.{Packet}
-use Rattle.ocpi_types.specs.declared.rows.Change.{Change}
-use Rattle.node_steps.specs.FaultText.{fault_text}
-use Rattle.node_steps.specs.declared.fault.NodeFault.TheVariants.{Memory}
+use Rattle.ocpi_types.specs.{Change, Packet}
+use Rattle.node_steps.specs.{Memory, fault_text}
 use Rattle.world.specs.Seen.{told}
 use Rattle.world.specs.State.{WorldState}
-use Rattle.world_steps.specs.Steps.{Gives}
-use Rattle.line_runs.specs.declared.run.Turn.TheVariants.{Ended, Refused}
+use Rattle.world_steps.specs.{Gives}
+use Rattle.line_runs.specs.{Ended, Refused}
 use Rattle.node_programs.proofs.PlayLemmas.{told_changes}
 use Rattle.program_lines.proofs.FaultLemmas.{of_each}
-use Rattle.node_keepers.specs.Keeping.{KeeperTakes, keeping_of}
+use Rattle.node_keepers.specs.{KeeperTakes, keeping_of}
 use Rattle.node_programs.specs.Play.{EventTurn, Happened, Lost, Playing, Stage, Starved, changes_told, outcome_lines, turn_of}
 use Rattle.program_lines.specs.Writing.{refusal_line}
 use Rattle.node_programs.proofs.play.play_read.Goals as goal

@@ -1,10 +1,10 @@
 use Rattle.std.proofs.Common.{[], Some, refl, sym, ap, string_bytes}
 use Rattle.std.proofs.lemmas.List.{append-nil}
-use Rattle.json_text.specs.Fault.{fault_text}
-use Rattle.line_runs.specs.declared.run.Turn.TheVariants.{Ended}
+use Rattle.json_text.specs.{fault_text}
+use Rattle.line_runs.specs.{Ended}
 use Rattle.node_programs.proofs.PlayLemmas.{opens}
 use Rattle.program_lines.proofs.FaultLemmas.{of_each}
-use Rattle.node_keepers.specs.Keeping.{keeping_of}
+use Rattle.node_keepers.specs.{keeping_of}
 use Rattle.node_programs.specs.Play.{NoSetup, Unkept}
 use Rattle.program_lines.specs.Writing.{refusal_line}
 use Rattle.node_programs.proofs.play.play_setup.Goals as goal

@@ -1,6 +1,6 @@
 use Rattle.std.proofs.Common.{sym}
 use Rattle.node_programs.proofs.EndLemmas.{broken_off, kept_off, read_to, same_fault, went}
-use Rattle.node_keepers.specs.Keeping.{keeping_of}
+use Rattle.node_keepers.specs.{keeping_of}
 use Rattle.node_programs.proofs.play.run_play.Goals as goal
 
 pub returns-clause-output : goal.returns-clause-output

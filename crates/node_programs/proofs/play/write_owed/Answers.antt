@@ -1,5 +1,5 @@
 use Rattle.std.proofs.Common.{◌≡◌, ◌++◌, List, OnOk, flat_map, subst, string_bytes}
-use Rattle.ocpi_types.specs.declared.setup.Node.{Node}
+use Rattle.ocpi_types.specs.{Node}
 use Rattle.node_programs.specs.Play.{Playing, debts_of, owed_lines}
 use Rattle.node_programs.proofs.play.write_owed.Goals as goal
 

@@ -1,8 +1,7 @@
 use Rattle.std.proofs.Common.{◌≡◌, ◌++◌, ◌∙◌, List, ap, rules, subst, string_bytes}
-use Rattle.handover.specs.Owed.{AreOwed}
-use Rattle.ocpi_types.specs.declared.cdrs.Cdr.{Cdr}
-use Rattle.tables.specs.Keys.{text_pair_cmp}
-use Rattle.tables.specs.Tables.{shown_of}
+use Rattle.handover.specs.{AreOwed}
+use Rattle.ocpi_types.specs.{Cdr}
+use Rattle.tables.specs.{shown_of, text_pair_cmp}
 use Rattle.node_programs.proofs.settle.settlement.Goals as goal
 
 pub returns : goal.returns

@@ -1,7 +1,5 @@
 use Rattle.std.proofs.Common.{[], refl, subst}
-use Rattle.node_core.specs.States.{state_of}
-use Rattle.node_core.specs.Works.{IsPlanned, node_after, packets_by}
-use Rattle.node_core.specs.declared.work.Planned.{Planned}
+use Rattle.node_core.specs.{IsPlanned, Planned, node_after, packets_by, state_of}
 use Rattle.node_replay.specs.Replayed as replayed
 use Rattle.node_replay.proofs.Leading.{idles, leads, refuses}
 use Rattle.node_replay.proofs.stepping.foretell.Goals as goal

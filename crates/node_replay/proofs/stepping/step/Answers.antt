@@ -1,7 +1,5 @@
 use Rattle.std.proofs.Common.{subst}
-use Rattle.node_core.specs.States.{state_of}
-use Rattle.node_core.specs.Works.{IsPlanned}
-use Rattle.node_core.specs.declared.work.Planned.{Planned}
+use Rattle.node_core.specs.{IsPlanned, Planned, state_of}
 use Rattle.node_replay.proofs.Leading.{leads}
 use Rattle.node_replay.proofs.stepping.step.Goals as goal
 

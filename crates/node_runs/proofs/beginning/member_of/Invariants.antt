@@ -1,8 +1,6 @@
-use Rattle.std.proofs.Common.{◌≡◌, take}
-use Rattle.std.specs.Prelude.{Contains}
-use Rattle.ocpi_text.specs.Text.{key}
-use Rattle.ocpi_types.specs.Setups.{party_of}
-use Rattle.ocpi_types.specs.declared.setup.Node.{Node}
+use Rattle.std.proofs.Common.{◌≡◌, take, Contains}
+use Rattle.ocpi_text.specs.{key}
+use Rattle.ocpi_types.specs.{Node, party_of}
 use Rattle.node_runs.proofs.beginning.member_of.Given as goal
 
 -- no node before this one is of the party

@@ -1,6 +1,6 @@
 use Rattle.std.proofs.Common.{None, refl}
 use Rattle.std.proofs.lemmas.Result.{IfOk-weaker}
-use Rattle.line_runs.specs.declared.run.Turn.TheVariants.{Refused}
+use Rattle.line_runs.specs.{Refused}
 use Rattle.program_lines.proofs.FaultLemmas.{of_each}
 use Rattle.node_runs.specs.DoneLines.{malformed_line}
 use Rattle.node_runs.specs.NodeAnswers.{OneEvent}

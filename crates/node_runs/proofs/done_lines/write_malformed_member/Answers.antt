@@ -1,5 +1,4 @@
-use Rattle.std.proofs.Common.{◌≡◌, ◌++◌, ℕ, List, subst, string_bytes}
-use Rattle.std.specs.Prelude.{OnOk}
+use Rattle.std.proofs.Common.{◌≡◌, ◌++◌, ℕ, List, subst, string_bytes, OnOk}
 use Rattle.node_runs.specs.DoneLines.{line_of_member_fault}
 use Rattle.node_runs.specs.Names.{line_fault_name, line_fault_number}
 use Rattle.node_runs.proofs.done_lines.write_malformed_member.Goals as goal

@@ -1,5 +1,4 @@
-use Rattle.std.proofs.Common.{◌≡◌, ◌++◌, ℕ, List, subst, ap, ◌∙◌, string_bytes}
-use Rattle.std.specs.Prelude.{OnOk}
+use Rattle.std.proofs.Common.{◌≡◌, ◌++◌, ℕ, List, subst, ap, ◌∙◌, string_bytes, OnOk}
 use Rattle.node_runs.specs.DoneLines.{opened_as, text_json}
 use Rattle.node_runs.proofs.done_lines.write_opened.Goals as goal
 

@@ -1,5 +1,5 @@
-use Rattle.node_cell.specs.Keepers.{keeper_of}
-use Rattle.node_keepers.specs.Opening.{source_of}
+use Rattle.node_cell.specs.{keeper_of}
+use Rattle.node_keepers.specs.{source_of}
 use Rattle.node_runs.proofs.HistoryLemmas as histories
 use Rattle.node_runs.proofs.laws.runs_are_histories.Goals as goal
 

@@ -1,9 +1,8 @@
 use Rattle.std.proofs.Common.{◌<◌, ◌+◌, ◌∙◌, Err, refl, sym, subst, arith, length, string_bytes}
 use Rattle.std.proofs.lemmas.Option.{slice_get-get_or}
-use Rattle.json_text.specs.Fault.{Read}
-use Rattle.json_text.specs.declared.fault.JsonFault.TheVariants.{Syntax}
-use Rattle.line_runs.specs.declared.run.Turn.{Turn}
-use Rattle.ocpi_types.specs.declared.node_events.NodeEvent.{NodeEvent}
+use Rattle.json_text.specs.{Read, Syntax}
+use Rattle.line_runs.specs.{Turn}
+use Rattle.ocpi_types.specs.{NodeEvent}
 use Rattle.node_runs.proofs.ListLemmas.{DoneSoFar, none_yet, one_more}
 use Rattle.node_runs.proofs.list_lines.answer_all.Goals as goal
 

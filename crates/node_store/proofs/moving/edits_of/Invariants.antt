@@ -1,5 +1,4 @@
-use Rattle.std.proofs.Common.{◌≡◌, All, take}
-use Rattle.std.specs.Prelude.{flat_map}
+use Rattle.std.proofs.Common.{◌≡◌, All, take, flat_map}
 use Rattle.node_store.specs.Moving.{IsMovable, text_edits}
 use Rattle.node_store.proofs.moving.edits_of.Given as goal
 

@@ -1,8 +1,6 @@
 use Rattle.std.proofs.Common.{inl, inr, sym, ap, ◌∙◌}
-use Rattle.row_table.specs.Contents.{at_version, content_of}
+use Rattle.row_table.specs.{at_version, content, content_of, set_all, texts}
 use Rattle.row_table.specs.Contents as table
-use Rattle.row_table.specs.Effects.{set_all}
-use Rattle.row_table.specs.Kept.{content, texts}
 use Rattle.node_store.proofs.MovedTexts.{moved_by}
 use Rattle.node_store.proofs.moving.move_texts.Goals as goal
 

@@ -1,8 +1,6 @@
 use Rattle.std.proofs.Common.{inl, inr, sym, ap, ◌∙◌}
-use Rattle.row_table.specs.Contents.{with_texts}
+use Rattle.row_table.specs.{content, set_all, texts, with_texts}
 use Rattle.row_table.specs.Contents as table
-use Rattle.row_table.specs.Kept.{content, texts}
-use Rattle.row_table.specs.Effects.{set_all}
 use Rattle.node_store.proofs.Edited.{all_edited, some_edits}
 use Rattle.node_store.proofs.Layouts.{layout_changed, texts_made, texts_settled}
 use Rattle.node_store.proofs.table_keep.change.Goals as goal

@@ -1,5 +1,5 @@
-use Rattle.node_cell.specs.Keepers.{keeper_of}
-use Rattle.node_keepers.specs.Opening.{source_of}
+use Rattle.node_cell.specs.{keeper_of}
+use Rattle.node_keepers.specs.{source_of}
 use Rattle.node_transcripts.proofs.CutRuns as cut
 use Rattle.node_transcripts.proofs.Setups.{reads_setups}
 use Rattle.node_transcripts.proofs.laws.cut_runs_are_transcripts.Goals as goal

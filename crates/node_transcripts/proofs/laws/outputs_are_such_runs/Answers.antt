@@ -1,5 +1,5 @@
-use Rattle.node_cell.specs.Keepers.{keeper_of}
-use Rattle.node_keepers.specs.Opening.{source_of}
+use Rattle.node_cell.specs.{keeper_of}
+use Rattle.node_keepers.specs.{source_of}
 use Rattle.node_transcripts.proofs.EarlyRuns.{early_runs_are_such, early_whole_runs_are_such}
 use Rattle.node_transcripts.proofs.RunKinds as kinds
 use Rattle.node_transcripts.proofs.Setups.{reads_setups}

@@ -1,5 +1,5 @@
 use Rattle.std.proofs.Common.{◌∙◌}
-use Rattle.json_text.specs.Members.{object_of}
+use Rattle.json_text.specs.{object_of}
 use Rattle.json_text.proofs.Said.{said_is, wrote_none, wrote_more, wrote_all}
 use Rattle.ocpi_forms.proofs.records.write_objects.Goals as goal
 

@@ -1,5 +1,5 @@
 use Rattle.std.proofs.Common.{take}
-use Rattle.json_text.specs.Members.{object_of}
+use Rattle.json_text.specs.{object_of}
 use Rattle.json_text.proofs.Said.{Wrote}
 use Rattle.ocpi_forms.proofs.records.write_objects.Given as goal
 

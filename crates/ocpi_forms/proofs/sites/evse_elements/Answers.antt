@@ -1,9 +1,9 @@
 use Rattle.std.proofs.Common.{[], ◌∷◌, ◌∙◌, ap, arith, length-append}
 use Rattle.std.proofs.lemmas.Result.{err_from_is_err_and}
 use Rattle.std.specs.FinSet.{from_list}
-use Rattle.json_text.specs.Trees.{view}
-use Rattle.ocpi_text.specs.Text.{key}
-use Rattle.ocpi_types.specs.declared.field.Field.TheVariants as field
+use Rattle.json_text.specs.{view}
+use Rattle.ocpi_text.specs.{key}
+use Rattle.ocpi_types.specs.field
 use Rattle.ocpi_forms.specs.Sites.{evse_at, evse_element}
 use Rattle.json_text.proofs.Listing.{is_done}
 use Rattle.ocpi_forms.proofs.Seen.{no_object, no_element, one_element, one_more, one_evse_more}

@@ -1,6 +1,6 @@
 use Rattle.std.proofs.lemmas.Result.{err_from_is_err_and}
-use Rattle.json_text.specs.Trees.{view}
-use Rattle.ocpi_types.specs.declared.field.Field.TheVariants as field
+use Rattle.json_text.specs.{view}
+use Rattle.ocpi_types.specs.field
 use Rattle.ocpi_forms.specs.Sites.{location_at, location_element}
 use Rattle.json_text.proofs.Listing.{is_done}
 use Rattle.ocpi_forms.proofs.Seen.{no_object, no_element, one_element}

@@ -1,6 +1,6 @@
 use Rattle.std.proofs.Common.{◌∙◌, ap}
 use Rattle.std.specs.FinSet.{from_list}
-use Rattle.ocpi_text.specs.Text.{key}
+use Rattle.ocpi_text.specs.{key}
 use Rattle.ocpi_forms.proofs.Seen.{one_more, one_location_more, its_evses_more}
 use Rattle.ocpi_forms.proofs.sites.location_of.Goals as goal
 

@@ -1,5 +1,5 @@
 use Rattle.std.proofs.Common.{sym, ◌∙◌}
-use Rattle.json_text.specs.Trees.{view}
+use Rattle.json_text.specs.{view}
 use Rattle.ocpi_forms.proofs.Seen.{taken, refused}
 use Rattle.ocpi_forms.proofs.sites.new_id_in.Goals as goal
 

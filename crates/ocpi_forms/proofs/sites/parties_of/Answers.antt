@@ -1,4 +1,4 @@
-use Rattle.json_text.specs.Trees.{view}
+use Rattle.json_text.specs.{view}
 use Rattle.ocpi_forms.proofs.SiteForm.{parties_are}
 use Rattle.ocpi_forms.proofs.sites.parties_of.Goals as goal
 

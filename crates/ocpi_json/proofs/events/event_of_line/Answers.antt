@@ -1,5 +1,5 @@
 use Rattle.std.proofs.Common.{◌∙◌}
-use Rattle.json_text.specs.Trees.{view}
+use Rattle.json_text.specs.{view}
 use Rattle.ocpi_json.proofs.EventLemmas.{found_by, event_of_line_exact}
 use Rattle.ocpi_json.proofs.events.event_of_line.Goals as goal
 

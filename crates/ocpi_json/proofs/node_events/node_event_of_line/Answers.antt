@@ -1,4 +1,4 @@
-use Rattle.json_text.specs.Trees.{view}
+use Rattle.json_text.specs.{view}
 use Rattle.json_text.proofs.Exact.{found_from, only_from}
 use Rattle.ocpi_json.proofs.NodeEventLemmas.{node_event_line_exact}
 use Rattle.ocpi_json.proofs.node_events.node_event_of_line.Goals as goal

@@ -1,4 +1,4 @@
-use Rattle.json_text.specs.Trees.{view}
+use Rattle.json_text.specs.{view}
 use Rattle.json_text.proofs.Exact.{found_from, only_from}
 use Rattle.ocpi_json.proofs.PacketLemmas.{packet_line_exact}
 use Rattle.ocpi_json.proofs.packets.packet_of_line.Goals as goal

@@ -2,8 +2,8 @@ use Rattle.std.proofs.Common.{◌∙◌, rules, tests}
 use Rattle.std.specs.Str.{bytes_eq}
 use Rattle.std.proofs.lemmas.Iterator.{YieldsList-from_slice}
 use Rattle.std.proofs.lemmas.Iterator.Search.{any_from_yields_List}
-use Rattle.ocpi_text.specs.Text.{key}
-use Rattle.ocpi_types.specs.Setups.{node_key}
+use Rattle.ocpi_text.specs.{key}
+use Rattle.ocpi_types.specs.{node_key}
 use Rattle.json_text.proofs.Among.{any_of_map}
 use Rattle.ocpi_json.proofs.setups.has_node.Goals as goal
 

@@ -1,5 +1,5 @@
 use Rattle.std.proofs.Common.{true≢false, sym}
-use Rattle.ocpi_text.specs.Text.{key}
+use Rattle.ocpi_text.specs.{key}
 use Rattle.ocpi_types.proofs.Turns.{repeated, added}
 use Rattle.ocpi_types.proofs.site.insert_uids.Goals as goal
 

@@ -1,6 +1,6 @@
 use Rattle.std.proofs.Common.{arith}
-use Rattle.reservation_book.specs.declared.standing.Standing.{Standing}
-use Rattle.operator_steps.specs.Acts.{freed}
+use Rattle.reservation_book.specs.{Standing}
+use Rattle.operator_steps.specs.{freed}
 use Rattle.operator_core.proofs.Loops.{single_done}
 use Rattle.operator_core.proofs.command_ends.add_expired.Goals as goal
 

@@ -1,7 +1,7 @@
 use Rattle.std.proofs.Common.{◌≡◌, ◌∷◌, [], drop}
-use Rattle.reservation_book.specs.declared.standing.Standing.{Standing}
+use Rattle.reservation_book.specs.{Standing}
 use Rattle.node_steps.proofs.Gathering.{all_turns}
-use Rattle.operator_steps.specs.Acts.{freed}
+use Rattle.operator_steps.specs.{freed}
 use Rattle.operator_core.proofs.command_ends.add_expired.Given as goal
 
 -- with the reservations that are left, all are freed

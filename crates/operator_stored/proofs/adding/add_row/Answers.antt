@@ -1,7 +1,6 @@
 use Rattle.std.proofs.Common.{subst, sym}
-use Rattle.ocpi_types.specs.Rows.{key_of}
-use Rattle.ocpi_types.specs.declared.rows.RowKey.{RowKey}
-use Rattle.stored_rows.specs.declared.fault.BadReason.{BadReason}
+use Rattle.ocpi_types.specs.{RowKey, key_of}
+use Rattle.stored_rows.specs.{BadReason}
 use Rattle.operator_stored.specs.Placing.{ShowsAs}
 use Rattle.operator_stored.proofs.Putting.{repeated}
 use Rattle.operator_stored.proofs.adding.add_row.Goals as goal

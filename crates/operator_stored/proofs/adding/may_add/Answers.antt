@@ -1,5 +1,5 @@
 use Rattle.std.proofs.Common.{sym, ap, ◌∙◌}
-use Rattle.ocpi_types.specs.declared.rows.Row.TheVariants as row
+use Rattle.ocpi_types.specs.row
 use Rattle.operator_stored.proofs.Telling.{command_foreign, tells_as}
 use Rattle.operator_stored.proofs.adding.may_add.Goals as goal
 

@@ -1,8 +1,7 @@
 use Rattle.std.proofs.Common.{OnOk, ap, subst, sym, ◌∙◌}
-use Rattle.ocpi_types.specs.declared.rows.Row.{Row}
-use Rattle.ocpi_types.specs.declared.rows.Row.TheVariants as row
-use Rattle.tables.specs.Keys.{text_cmp}
-use Rattle.tables.specs.Tables.{shown_of}
+use Rattle.ocpi_types.specs.{Row}
+use Rattle.ocpi_types.specs.row
+use Rattle.tables.specs.{shown_of, text_cmp}
 use Rattle.operator_stored.specs.Bills.{BillOf, HasId, HaveAlso}
 use Rattle.operator_stored.proofs.bills.add_bill.Goals as goal
 

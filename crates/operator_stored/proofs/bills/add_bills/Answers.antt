@@ -1,7 +1,6 @@
 use Rattle.std.proofs.Common.{sym, subst}
-use Rattle.ocpi_types.specs.declared.rows.RowKey.{RowKey}
-use Rattle.tables.specs.Keys.{text_cmp}
-use Rattle.tables.specs.Tables.{shown_of}
+use Rattle.ocpi_types.specs.{RowKey}
+use Rattle.tables.specs.{shown_of, text_cmp}
 use Rattle.operator_stored.specs.Bills.{BillOf, CreditOf, HasId, InSet, IsMisbilled}
 use Rattle.operator_stored.proofs.Billing.{billed_by, here_of, more_below, no_ids, none_below, none_in, once_more, once_none, twice_of}
 use Rattle.operator_stored.proofs.bills.add_bills.Goals as goal

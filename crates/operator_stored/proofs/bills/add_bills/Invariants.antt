@@ -1,5 +1,4 @@
-use Rattle.tables.specs.Keys.{text_cmp}
-use Rattle.tables.specs.Tables.{shown_of}
+use Rattle.tables.specs.{shown_of, text_cmp}
 use Rattle.operator_stored.specs.Bills.{AreThose, BillOf, CreditOf, HasId, InSet}
 use Rattle.operator_stored.proofs.Billing.{Below, OnceBelow}
 use Rattle.operator_stored.proofs.bills.add_bills.Given as goal

@@ -1,7 +1,6 @@
 use Rattle.std.proofs.Common.{List, ℕ, ap, sym, ◌∙◌}
 use Rattle.std.specs.FinMap.{insert}
-use Rattle.tables.specs.Keys.{text_cmp}
-use Rattle.tables.specs.Tables.{shown_of}
+use Rattle.tables.specs.{shown_of, text_cmp}
 use Rattle.operator_stored.proofs.Billing.{bill_added, credit_added, first_bill}
 use Rattle.operator_stored.proofs.bills.add_record.Goals as goal
 

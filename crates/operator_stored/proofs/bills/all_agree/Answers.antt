@@ -1,7 +1,6 @@
 use Rattle.std.proofs.Common.{sym, subst}
-use Rattle.ocpi_types.specs.declared.rows.RowKey.{RowKey}
-use Rattle.tables.specs.Keys.{text_cmp}
-use Rattle.tables.specs.Tables.{shown_of}
+use Rattle.ocpi_types.specs.{RowKey}
+use Rattle.tables.specs.{shown_of, text_cmp}
 use Rattle.operator_stored.specs.Bills.{IsMisbilled}
 use Rattle.operator_stored.proofs.Billing.{agree_more, all_billed, here_of, misbilled}
 use Rattle.operator_stored.proofs.bills.all_agree.Goals as goal

@@ -1,5 +1,4 @@
-use Rattle.tables.specs.Keys.{text_cmp}
-use Rattle.tables.specs.Tables.{shown_of}
+use Rattle.tables.specs.{shown_of, text_cmp}
 use Rattle.operator_stored.proofs.Billing.{AgreeBelow}
 use Rattle.operator_stored.proofs.bills.all_agree.Given as goal
 

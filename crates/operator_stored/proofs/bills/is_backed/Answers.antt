@@ -2,8 +2,7 @@ use Rattle.std.proofs.Common.{List, ℕ, nat_eq, ap, sym, ◌∙◌}
 use Rattle.std.specs.Cmp.Lexicographic.{pointwise}
 use Rattle.std.specs.FinMap.{get}
 use Rattle.std.proofs.lemmas.Slice.Eq.{bytes_eq-Decides}
-use Rattle.tables.specs.Keys.{text_cmp}
-use Rattle.tables.specs.Tables.{shown_of}
+use Rattle.tables.specs.{shown_of, text_cmp}
 use Rattle.operator_stored.proofs.Billing.{backed_if}
 use Rattle.operator_stored.proofs.bills.is_backed.Goals as goal
 

@@ -1,5 +1,4 @@
-use Rattle.std.proofs.Common.{ap}
-use Rattle.std.specs.Prelude.{is_some}
+use Rattle.std.proofs.Common.{ap, is_some}
 use Rattle.std.specs.FinMap.{get}
 use Rattle.operator_stored.proofs.TellingCommands.{none_copied, result_of_open, result_unanswered, settle_may, some_copied}
 use Rattle.operator_stored.proofs.commands.may_settle.Goals as goal

@@ -1,6 +1,5 @@
 use Rattle.std.proofs.Common.{◌≡◌, subst}
-use Rattle.stored_rows.specs.Faults.{IfBadRows}
-use Rattle.stored_rows.specs.declared.fault.RowsFault.TheVariants.{Memory}
+use Rattle.stored_rows.specs.{IfBadRows, Memory}
 use Rattle.operator_stored.specs.Bad.{IsBad}
 use Rattle.operator_stored.specs.Bills.{AreBillsOf}
 use Rattle.operator_stored.proofs.MadeOf.{made_of, misbilled_rows, only_memory, put_in_other_order, same_again}

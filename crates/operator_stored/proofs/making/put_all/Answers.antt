@@ -2,12 +2,11 @@ use Rattle.std.proofs.Common.{rules, ◌≡◌, List, [], ◌∷◌, ◌++◌, l
 use Rattle.std.specs.List.Sorted.{IsNonDecreasingBy, IsPermutation}
 use Rattle.std.specs.Vec.Iter.{into_iter_items}
 use Rattle.std.proofs.lemmas.List.{append-nil, nil_from_length}
-use Rattle.ocpi_types.specs.declared.rows.Row.{Row}
-use Rattle.stored_rows.specs.Faults.{IfBadRows}
+use Rattle.ocpi_types.specs.{Row}
+use Rattle.stored_rows.specs.{IfBadRows, turn_of}
 use Rattle.operator_stored.specs.Bad.{IsBad}
 use Rattle.operator_stored.specs.Placing.{ArePut}
 use Rattle.operator_stored.proofs.Putting.{err_one, is_in_turn, is_placed, none_put, one_put, shown}
-use Rattle.stored_rows.specs.Turns.{turn_of}
 use Rattle.operator_stored.proofs.making.put_all.Goals as goal
 
 pub loop-row-init : goal.loop-row-init

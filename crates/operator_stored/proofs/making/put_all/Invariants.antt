@@ -1,7 +1,7 @@
 use Rattle.std.proofs.Common.{◌≡◌, ◌++◌, length}
 use Rattle.std.specs.Vec.Iter.{into_iter_items, into_iter_len}
-use Rattle.ocpi_types.specs.declared.site.SiteLine.{SiteLine}
-use Rattle.operator_rows.specs.State.{opening}
+use Rattle.ocpi_types.specs.{SiteLine}
+use Rattle.operator_rows.specs.{opening}
 use Rattle.operator_stored.specs.Placing.{ArePut}
 use Rattle.operator_stored.proofs.making.put_all.Given as goal
 

@@ -1,4 +1,4 @@
-use Rattle.ocpi_text.specs.Text.{key}
+use Rattle.ocpi_text.specs.{key}
 use Rattle.operator_stored.specs.Causes.{OfEvse, OfNoEvse}
 use Rattle.operator_stored.proofs.Telling.{has_connector, has_no_connector, is_evse, not_evse}
 use Rattle.operator_stored.proofs.places.check_connector.Goals as goal

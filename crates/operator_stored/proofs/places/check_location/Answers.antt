@@ -1,4 +1,4 @@
-use Rattle.ocpi_text.specs.Text.{key}
+use Rattle.ocpi_text.specs.{key}
 use Rattle.operator_stored.specs.Causes.{Elsewhere, Nowhere}
 use Rattle.operator_stored.proofs.Telling.{is_at, is_evse, is_not_at, not_evse}
 use Rattle.operator_stored.proofs.places.check_location.Goals as goal

@@ -1,6 +1,6 @@
 use Rattle.std.proofs.Common.{sym, subst, ◌∙◌}
-use Rattle.ocpi_types.specs.declared.rows.Row.TheVariants as row
-use Rattle.stored_rows.specs.declared.fault.BadReason.TheVariants as reason
+use Rattle.ocpi_types.specs.row
+use Rattle.stored_rows.specs.reason
 use Rattle.operator_stored.specs.Placing.{ShowsBad}
 use Rattle.operator_stored.proofs.Telling.{counted_may, no_reference, nothing_counted}
 use Rattle.operator_stored.proofs.pushes.may_count.Goals as goal

@@ -1,5 +1,5 @@
 use Rattle.std.proofs.Common.{subst}
-use Rattle.node_steps.specs.Peers.{HasPeer}
+use Rattle.node_steps.specs.{HasPeer}
 use Rattle.operator_stored.proofs.Telling.{token_of_stranger}
 use Rattle.operator_stored.proofs.pushes.may_know.Goals as goal
 

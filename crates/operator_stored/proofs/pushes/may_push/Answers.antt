@@ -1,5 +1,5 @@
 use Rattle.std.proofs.Common.{List, ℕ, subst}
-use Rattle.node_steps.specs.Peers.{HasPeer}
+use Rattle.node_steps.specs.{HasPeer}
 use Rattle.operator_stored.proofs.Telling.{above, push_again, push_alone, push_not_given, push_of_stranger, up_to}
 use Rattle.operator_stored.proofs.pushes.may_push.Goals as goal
 

@@ -1,6 +1,6 @@
 use Rattle.std.proofs.Common.{List, ℕ, subst}
 use Rattle.std.proofs.lemmas.Result.{err_from_is_err_and}
-use Rattle.node_steps.specs.Peers.{HasPeer}
+use Rattle.node_steps.specs.{HasPeer}
 use Rattle.operator_stored.proofs.TellingSessions.{charge_claimed, charge_may, session_nowhere, session_of_stranger}
 use Rattle.operator_stored.proofs.sessions.may_charge.Goals as goal
 

@@ -1,5 +1,5 @@
 use Rattle.std.proofs.Common.{ap, ◌∙◌}
-use Rattle.ocpi_text.specs.Text.{key}
+use Rattle.ocpi_text.specs.{key}
 use Rattle.session_book.specs.Stored.{Rows}
 use Rattle.operator_stored.proofs.Telling.{above, up_to}
 use Rattle.operator_stored.proofs.TellingSessions.{own_cdr, cdr_not_given, cdr_not_own, cdr_of_other, not_same}

@@ -1,10 +1,8 @@
 use Rattle.std.proofs.Common.{◌≡◌, ◌≤◌, ℕ, List, ap, subst, ◌∙◌}
-use Rattle.ocpi_text.specs.OwnIds.{own_id_text}
-use Rattle.ocpi_text.specs.Text.{key}
-use Rattle.ocpi_text.specs.Whole.{max_whole}
-use Rattle.ocpi_text.specs.declared.own_ids.OwnIdKind.TheVariants as own
+use Rattle.ocpi_text.specs.{key, max_whole, own_id_text}
+use Rattle.ocpi_text.specs.own
 use Rattle.session_book.specs.Stored.{Rows}
-use Rattle.stored_rows.specs.Given.{IsOwnId}
+use Rattle.stored_rows.specs.{IsOwnId}
 use Rattle.operator_stored.proofs.Telling.{above, up_to}
 use Rattle.operator_stored.proofs.TellingSessions.{own_of, session_not_given, session_not_own, session_of_other, not_same}
 use Rattle.operator_stored.proofs.sessions.may_own_session.Goals as goal

@@ -1,6 +1,6 @@
 use Rattle.std.proofs.Common.{ap, ◌∙◌}
 use Rattle.std.proofs.lemmas.Result.{err_from_is_err_and}
-use Rattle.ocpi_types.specs.declared.site.Site.{Site}
+use Rattle.ocpi_types.specs.{Site}
 use Rattle.operator_stored.proofs.TellingSessions.{stuck}
 use Rattle.operator_stored.proofs.sessions.may_stand.Goals as goal
 

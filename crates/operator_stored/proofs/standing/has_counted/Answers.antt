@@ -1,6 +1,6 @@
 use Rattle.std.proofs.Common.{refl, sym, ap, ◌∙◌}
-use Rattle.ocpi_types.specs.declared.rows.Counter.TheVariants as counter
-use Rattle.ocpi_types.specs.declared.rows.Row.TheVariants as row
+use Rattle.ocpi_types.specs.counter
+use Rattle.ocpi_types.specs.row
 use Rattle.operator_stored.proofs.StandingRows.{by_row, told_number}
 use Rattle.operator_stored.proofs.standing.has_counted.Goals as goal
 

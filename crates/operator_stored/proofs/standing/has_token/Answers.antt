@@ -1,9 +1,9 @@
-use Rattle.std.proofs.Common.{◌≡◌, List, ℕ, ap, ◌∙◌}
-use Rattle.std.specs.Prelude.{is_some}
-use Rattle.ocpi_text.specs.Text.{key}
+use Rattle.std.proofs.Common.{◌≡◌, List, ℕ, ap, ◌∙◌, is_some}
+use Rattle.ocpi_text.specs.{key}
 use Rattle.std.specs.FinMap.{get}
-use Rattle.token_desk.specs.Tokens.{Tokens, token_key}
-use Rattle.ocpi_types.specs.declared.rows.Row.TheVariants as row
+use Rattle.token_desk.specs.{token_key}
+use Rattle.token_desk.specs.Tokens.{Tokens}
+use Rattle.ocpi_types.specs.row
 use Rattle.operator_stored.proofs.StandingRows.{told_by}
 use Rattle.operator_stored.proofs.standing.has_token.Goals as goal
 

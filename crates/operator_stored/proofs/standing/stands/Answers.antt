@@ -1,7 +1,6 @@
-use Rattle.std.proofs.Common.{ap, ◌∙◌}
-use Rattle.std.specs.Prelude.{is_some}
+use Rattle.std.proofs.Common.{ap, ◌∙◌, is_some}
 use Rattle.std.specs.FinMap.{get}
-use Rattle.ocpi_types.specs.declared.rows.Row.TheVariants as row
+use Rattle.ocpi_types.specs.row
 use Rattle.operator_stored.proofs.StandingRows.{by_row, told_by, told_by_copied, told_service, told_spent}
 use Rattle.operator_stored.proofs.standing.stands.Goals as goal
 

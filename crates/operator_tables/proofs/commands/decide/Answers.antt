@@ -1,7 +1,5 @@
 use Rattle.std.proofs.Common.{sym, subst}
-use Rattle.ocpi_types.specs.declared.commands.Command.{Command}
-use Rattle.ocpi_types.specs.declared.commands.StartSession.{StartSession}
-use Rattle.ocpi_types.specs.declared.commands.ReserveNow.{ReserveNow}
+use Rattle.ocpi_types.specs.{Command, ReserveNow, StartSession}
 use Rattle.operator_tables.specs.Decides.{Decides}
 use Rattle.operator_tables.specs.Start.{StartLine}
 use Rattle.operator_tables.specs.Reserve.{ReserveLine}

@@ -1,8 +1,7 @@
 use Rattle.std.proofs.Common.{sym, ap, ◌∙◌}
 use Rattle.std.proofs.lemmas.Bool.{false≢true}
-use Rattle.ocpi_types.specs.declared.words.CommandResultType.TheVariants.{EvseInoperative, EvseOccupied}
-use Rattle.ocpi_types.specs.declared.site.Location.{Location}
-use Rattle.site_book.specs.Sites.{location_of}
+use Rattle.ocpi_types.specs.{EvseInoperative, EvseOccupied, Location}
+use Rattle.site_book.specs.{location_of}
 use Rattle.operator_tables.specs.declared.decision.Decision.TheVariants.{Noted}
 use Rattle.operator_tables.specs.Reserve as lines
 use Rattle.operator_tables.proofs.Reserving.{reservable_as, reserved_as, may_hold}

@@ -1,5 +1,5 @@
 use Rattle.std.proofs.Common.{Err, refl, sym, ap, ◌∙◌}
-use Rattle.site_book.specs.Sites.{location_of}
+use Rattle.site_book.specs.{location_of}
 use Rattle.operator_tables.specs.Reserve as lines
 use Rattle.operator_tables.proofs.Reserving.{refused, refuses_of, in_time_of, here_of}
 use Rattle.operator_tables.proofs.reserve.decide_reserve.Goals as goal

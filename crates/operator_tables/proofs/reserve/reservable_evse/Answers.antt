@@ -1,6 +1,6 @@
 use Rattle.std.proofs.lemmas.Option.{IfSome_then}
 use Rattle.site_book.proofs.Finding.{none_then}
-use Rattle.site_book.specs.Sites.{location_of}
+use Rattle.site_book.specs.{location_of}
 use Rattle.operator_tables.proofs.Reserving.{own_reservable, free_reservable, none_reservable}
 use Rattle.operator_tables.proofs.reserve.reservable_evse.Goals as goal
 

@@ -1,7 +1,6 @@
-use Rattle.std.proofs.Common.{◌≡◌, refl, ap, true, false}
-use Rattle.std.specs.Prelude.{Some, None}
-use Rattle.ocpi_text.specs.Text.{key}
-use Rattle.site_book.specs.Sites.{location_of}
+use Rattle.std.proofs.Common.{◌≡◌, refl, ap, true, false, Some, None}
+use Rattle.ocpi_text.specs.{key}
+use Rattle.site_book.specs.{location_of}
 use Rattle.operator_tables.specs.declared.decision.Decision.TheVariants.{Refused, Started}
 use Rattle.operator_tables.specs.Start as lines
 use Rattle.operator_tables.proofs.FreePlaces.{in_service, unclaimed, free_of, held_for, none_held}

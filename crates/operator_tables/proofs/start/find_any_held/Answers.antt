@@ -1,4 +1,4 @@
-use Rattle.site_book.specs.Sites.{location_of}
+use Rattle.site_book.specs.{location_of}
 use Rattle.operator_tables.proofs.HeldSearch.{HoldsPlace, searched_first, searched_next, fewer_left, is_place_of}
 use Rattle.operator_tables.proofs.start.find_any_held.Goals as goal
 

@@ -1,4 +1,4 @@
-use Rattle.site_book.specs.Sites.{location_of}
+use Rattle.site_book.specs.{location_of}
 use Rattle.operator_tables.proofs.HeldSearch.{AreSearched, HoldsPlace, left}
 use Rattle.operator_tables.proofs.start.find_any_held.Given as goal
 

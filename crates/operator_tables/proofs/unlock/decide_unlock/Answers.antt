@@ -1,8 +1,8 @@
 use Rattle.std.proofs.Common.{refl, sym, ap, ◌∙◌}
 use Rattle.std.proofs.lemmas.Bool.{false≢true}
-use Rattle.ocpi_text.specs.Text.{key}
-use Rattle.ocpi_types.specs.declared.rows.Place.{Place}
-use Rattle.site_book.specs.Sites.{location_of}
+use Rattle.ocpi_text.specs.{key}
+use Rattle.ocpi_types.specs.{Place}
+use Rattle.site_book.specs.{location_of}
 use Rattle.operator_tables.specs.Unlock as lines
 use Rattle.operator_tables.proofs.unlock.decide_unlock.Goals as goal
 

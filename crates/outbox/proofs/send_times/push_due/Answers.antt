@@ -1,5 +1,4 @@
-use Rattle.std.proofs.Common.{◌++◌, sym, ap, subst, ◌∙◌}
-use Rattle.std.specs.Prelude.{Contains}
+use Rattle.std.proofs.Common.{◌++◌, sym, ap, subst, ◌∙◌, Contains}
 use Rattle.outbox.specs.Due.{due_front}
 use Rattle.outbox.proofs.DueNumbers.{front_more, front_ends, front_kept, front_first}
 use Rattle.outbox.proofs.Failing.{on_err}

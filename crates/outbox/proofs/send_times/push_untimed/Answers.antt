@@ -1,5 +1,4 @@
-use Rattle.std.proofs.Common.{ap, subst, ◌∙◌}
-use Rattle.std.specs.Prelude.{Contains}
+use Rattle.std.proofs.Common.{ap, subst, ◌∙◌, Contains}
 use Rattle.outbox.specs.Due.{untimed}
 use Rattle.outbox.proofs.DueNumbers.{untimed_takes, front_kept, front_first, no_time}
 use Rattle.outbox.proofs.Failing.{on_err}

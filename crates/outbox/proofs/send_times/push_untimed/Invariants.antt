@@ -1,5 +1,4 @@
-use Rattle.std.proofs.Common.{◌≡◌, ◌++◌, ℕ}
-use Rattle.std.specs.Prelude.{Contains}
+use Rattle.std.proofs.Common.{◌≡◌, ◌++◌, ℕ, Contains}
 use Rattle.outbox.specs.Due.{untimed}
 use Rattle.outbox.proofs.send_times.push_untimed.Given as goal
 

@@ -1,5 +1,5 @@
 use Rattle.std.proofs.Common.{◌≡◌, take}
-use Rattle.outbox.specs.Resend.{KeepsSendRoom}
+use Rattle.outbox.specs.{KeepsSendRoom}
 use Rattle.provider_rows.specs.Steps.{HaveTimeRoom}
 use Rattle.provider_rows.proofs.making_room.reserve_times.Given as goal
 

@@ -1,7 +1,6 @@
 use Rattle.std.proofs.Common.{◌≡◌, true, false, sym, ap, subst, ◌∙◌}
 use Rattle.std.specs.FinMap.{get}
-use Rattle.handover.specs.Cdrs.{cdr_key}
-use Rattle.handover.specs.Inbox.{InboxRows, IsInConflict}
+use Rattle.handover.specs.{InboxRows, IsInConflict, cdr_key}
 use Rattle.provider_stored.proofs.Fit.{cdr_fits}
 use Rattle.provider_stored.proofs.Looked.{found_there, missing_there, is_own, is_other}
 use Rattle.provider_stored.proofs.Spoiled.{billed_before, cdr_before, cdr_of_other}

@@ -1,11 +1,11 @@
 use Rattle.std.proofs.Common.{◌≡◌, true, false, sym, subst, ap, ◌∙◌}
 use Rattle.token_desk.specs.Stored as desk
-use Rattle.outbox.specs.Outbox.{OutboxRows}
+use Rattle.outbox.specs.{OutboxRows}
 use Rattle.provider_stored.specs.Fitting.{IsFree, IsTaken}
 use Rattle.provider_stored.proofs.Looked.{if_some, if_none}
 use Rattle.provider_stored.proofs.Referred.{own_fits, strange_spoils}
 use Rattle.provider_stored.proofs.Spoiled.{command_taken, command_to_stranger}
-use Rattle.stored_rows.specs.declared.fault.BadReason.TheVariants as reason
+use Rattle.stored_rows.specs.reason
 use Rattle.provider_stored.proofs.fitting.command_fault.Goals as goal
 
 pub returns-in-Some-clause-spoils : goal.returns-in-Some-clause-spoils

@@ -1,12 +1,10 @@
-use Rattle.std.proofs.Common.{◌≡◌, ℕ, true, false, sym, subst, ◌∙◌}
-use Rattle.std.specs.Prelude.{Option, None}
-use Rattle.outbox.specs.Outbox.{OutboxRows}
-use Rattle.outbox.specs.Pushes.{IsReplaced, subject}
+use Rattle.std.proofs.Common.{◌≡◌, ℕ, true, false, sym, subst, ◌∙◌, Option, None}
+use Rattle.outbox.specs.{IsReplaced, OutboxRows, subject}
 use Rattle.provider_stored.specs.Fitting.{IsFree, IsTaken}
 use Rattle.provider_stored.proofs.Fit.{push_fits}
 use Rattle.provider_stored.proofs.Looked.{is_found, is_missing, if_some, if_none}
 use Rattle.provider_stored.proofs.Spoiled.{push_taken, push_to_stranger, pushed_before}
-use Rattle.stored_rows.specs.declared.fault.BadReason.TheVariants as reason
+use Rattle.stored_rows.specs.reason
 use Rattle.provider_stored.proofs.fitting.push_fault.Goals as goal
 
 pub returns-in-Some-clause-spoils : goal.returns-in-Some-clause-spoils

@@ -1,9 +1,8 @@
-use Rattle.std.proofs.Common.{rules, ◌≡◌, ℕ, List, sym, ap, subst, ◌∙◌}
-use Rattle.std.specs.Prelude.{Some, option_copied}
-use Rattle.ocpi_text.specs.declared.own_ids.OwnIdKind.TheVariants.{AuthorizationReference}
-use Rattle.provider_rows.specs.State.{reference_of}
+use Rattle.std.proofs.Common.{rules, ◌≡◌, ℕ, List, sym, ap, subst, ◌∙◌, Some, option_copied}
+use Rattle.ocpi_text.specs.{AuthorizationReference}
+use Rattle.provider_rows.specs.{reference_of}
 use Rattle.provider_stored.specs.Fitting.HasStrangeReference.{OfOther, NotGivenYet}
-use Rattle.stored_rows.specs.Given.{IsOwnId}
+use Rattle.stored_rows.specs.{IsOwnId}
 use Rattle.provider_stored.proofs.fitting.reference_fault.Goals as goal
 
 pub returns-in_default-own_number-clause-strange : goal.returns-in_default-own_number-clause-strange

@@ -1,10 +1,6 @@
-use Rattle.std.proofs.Common.{◌≡◌, ◌⊎◌, ℕ, List, inl, inr, sym, ap, subst, ◌∙◌}
-use Rattle.std.specs.Prelude.{IfSome}
-use Rattle.ocpi_types.specs.declared.rows.Row.{Row}
-use Rattle.ocpi_types.specs.declared.rows.Row.TheVariants as row
-use Rattle.ocpi_types.specs.declared.stored.OpenCommand.{OpenCommand}
-use Rattle.ocpi_types.specs.declared.stored.Reservation.{Reservation}
-use Rattle.ocpi_types.specs.declared.words.CommandResultType.{CommandResultType}
+use Rattle.std.proofs.Common.{◌≡◌, ◌⊎◌, ℕ, List, inl, inr, sym, ap, subst, ◌∙◌, IfSome}
+use Rattle.ocpi_types.specs.{CommandResultType, OpenCommand, Reservation, Row}
+use Rattle.ocpi_types.specs.row
 use Rattle.provider_stored.specs.Bad.{IsForeign}
 use Rattle.provider_stored.specs.Fitting.{Spoils}
 use Rattle.provider_stored.proofs.Spoiled.{foreign}

@@ -1,6 +1,6 @@
 use Rattle.std.proofs.Common.{sym, ap, ◌∙◌}
 use Rattle.std.specs.FinMap.{get}
-use Rattle.handover.specs.Inbox.{InboxRows, session_key}
+use Rattle.handover.specs.{InboxRows, session_key}
 use Rattle.provider_stored.proofs.Fit.{session_fits}
 use Rattle.provider_stored.proofs.Looked.{found_there, missing_there, is_own, is_other}
 use Rattle.provider_stored.proofs.Spoiled.{session_before, session_of_other}

@@ -1,8 +1,8 @@
 use Rattle.std.proofs.Common.{◌≡◌, ℕ, List, sym, ap, ◌∙◌}
 use Rattle.std.specs.FinMap.{get}
-use Rattle.ocpi_text.specs.Text.{key}
+use Rattle.ocpi_text.specs.{key}
 use Rattle.token_desk.specs.Stored as desk
-use Rattle.token_desk.specs.Tokens.{token_key}
+use Rattle.token_desk.specs.{token_key}
 use Rattle.provider_stored.proofs.Fit.{token_fits}
 use Rattle.provider_stored.proofs.Looked.{is_found, is_missing, is_own, is_other}
 use Rattle.provider_stored.proofs.Spoiled.{token_before, token_of_other}

@@ -2,14 +2,12 @@ use Rattle.std.proofs.Common.{rules, ◌≡◌, List, [], ◌∷◌, ◌++◌, l
 use Rattle.std.specs.List.Sorted.{IsNonDecreasingBy}
 use Rattle.std.specs.Vec.Iter.{into_iter_items}
 use Rattle.std.proofs.lemmas.List.{append-nil, nil_from_length}
-use Rattle.ocpi_types.specs.Rows.{key_of}
-use Rattle.ocpi_types.specs.declared.rows.Row.{Row}
-use Rattle.ocpi_types.specs.declared.rows.RowKey.{RowKey}
+use Rattle.ocpi_types.specs.{Row, RowKey, key_of}
 use Rattle.provider_stored.specs.Bad.{IsBad}
 use Rattle.provider_stored.specs.Making.{IsMadeOf}
 use Rattle.provider_stored.proofs.Looked.{if_none, if_some}
 use Rattle.provider_stored.proofs.Made.{is_next, made_of_none}
-use Rattle.stored_rows.specs.Turns.{turn_of}
+use Rattle.stored_rows.specs.{turn_of}
 use Rattle.provider_stored.proofs.making.add_all.Goals as goal
 
 pub loop-row-init : goal.loop-row-init

@@ -1,6 +1,6 @@
 use Rattle.std.proofs.Common.{◌≡◌, ◌++◌, length}
 use Rattle.std.specs.Vec.Iter.{into_iter_items, into_iter_len}
-use Rattle.provider_rows.specs.State.{Peering, opening}
+use Rattle.provider_rows.specs.{Peering, opening}
 use Rattle.provider_stored.specs.Making.{IsMadeOf}
 use Rattle.provider_stored.proofs.making.add_all.Given as goal
 

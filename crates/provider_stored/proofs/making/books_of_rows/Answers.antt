@@ -1,6 +1,5 @@
 use Rattle.std.proofs.Common.{◌≡◌}
-use Rattle.stored_rows.specs.Faults.{IfBadRows}
-use Rattle.stored_rows.specs.declared.fault.RowsFault.TheVariants.{Memory}
+use Rattle.stored_rows.specs.{IfBadRows, Memory}
 use Rattle.provider_stored.specs.Bad.{IsBad}
 use Rattle.provider_stored.proofs.Looked.{err_one}
 use Rattle.provider_stored.proofs.Made.{fault_in_other_order, made_of_other_order, is_memory}

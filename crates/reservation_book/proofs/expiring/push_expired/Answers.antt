@@ -1,5 +1,4 @@
-use Rattle.std.proofs.Common.{ap}
-use Rattle.std.specs.Prelude.{is_some}
+use Rattle.std.proofs.Common.{ap, is_some}
 use Rattle.reservation_book.proofs.ExpiryFront.{next_stands, next_more, next_later, next_expired, none_next}
 use Rattle.reservation_book.proofs.expiring.push_expired.Goals as goal
 

@@ -1,5 +1,4 @@
-use Rattle.tables.specs.Keys.{text_pair_cmp}
-use Rattle.tables.specs.Tables.{shown_of}
+use Rattle.tables.specs.{shown_of, text_pair_cmp}
 use Rattle.reservation_book.specs.Places.{expiry_cmp}
 use Rattle.reservation_book.specs.Calls.{IsFront}
 use Rattle.reservation_book.proofs.expiring.push_expired.Given as goal

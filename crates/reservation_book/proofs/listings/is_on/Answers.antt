@@ -1,4 +1,4 @@
-use Rattle.tables.specs.Keys.{text_total, text_exact}
+use Rattle.tables.specs.{text_exact, text_total}
 use Rattle.tables.proofs.Ties.{same_when_tied, apart_when_not}
 use Rattle.reservation_book.proofs.listings.is_on.Goals as goal
 

@@ -1,7 +1,7 @@
 use Rattle.std.proofs.Common.{sym, ap, ◌∙◌}
 use Rattle.std.proofs.lemmas.Bool.{eqb-true}
-use Rattle.tables.specs.Keys.{text_cmp, text_total, text_exact}
-use Rattle.ocpi_types.specs.TypePlaces.{one_type}
+use Rattle.tables.specs.{text_cmp, text_exact, text_total}
+use Rattle.ocpi_types.specs.{one_type}
 use Rattle.tables.proofs.Ties.{same_when_tied, apart_when_not}
 use Rattle.reservation_book.proofs.listings.is_token.Goals as goal
 

@@ -1,6 +1,6 @@
 use Rattle.std.proofs.Common.{◌≡◌, T, map, take}
 use Rattle.std.specs.FinMap.{is_sorted}
-use Rattle.tables.specs.Keys.{text_pair_cmp}
+use Rattle.tables.specs.{text_pair_cmp}
 use Rattle.row_table.specs.Reading.{entry_shown}
 use Rattle.row_table.proofs.reading.read_all.Given as goal
 

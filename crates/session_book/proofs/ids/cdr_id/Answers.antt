@@ -1,5 +1,4 @@
-use Rattle.std.proofs.Common.{◌≡◌, ◌∙◌}
-use Rattle.std.specs.Prelude.{Ok, Err, Result}
+use Rattle.std.proofs.Common.{◌≡◌, ◌∙◌, Ok, Err, Result}
 use Rattle.session_book.proofs.OwnIds.{fits_longer}
 use Rattle.session_book.proofs.ids.cdr_id.Goals as goal
 

@@ -1,6 +1,5 @@
-use Rattle.std.proofs.Common.{◌≡◌, ◌++◌, ℕ, List, ◌∙◌, ap}
-use Rattle.std.specs.Prelude.{Ok, Err, Result, codes}
-use Rattle.ocpi_text.specs.Text.{ci_text}
+use Rattle.std.proofs.Common.{◌≡◌, ◌++◌, ℕ, List, ◌∙◌, ap, Ok, Err, Result, codes}
+use Rattle.ocpi_text.specs.{ci_text}
 use Rattle.session_state.proofs.CreditIds.{credit_id_fits}
 use Rattle.session_state.proofs.credits.credit_id.Goals as goal
 

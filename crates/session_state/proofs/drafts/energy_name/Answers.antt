@@ -1,7 +1,7 @@
 -- The name is free of control characters, and short.
 use Rattle.std.proofs.Common.{◌≡◌, ◌∙◌, Ok, codes, refl}
 use Rattle.std.specs.Str.{chars}
-use Rattle.ocpi_text.specs.Text.{free_text, is_free_text}
+use Rattle.ocpi_text.specs.{free_text, is_free_text}
 use Rattle.session_state.proofs.drafts.energy_name.Goals as goal
 
 pub unreachable-requires : goal.unreachable-requires

@@ -1,6 +1,6 @@
 use Rattle.std.proofs.Common.{sym, ◌∙◌}
 use Rattle.std.proofs.lemmas.Bool.{false≢true}
-use Rattle.ocpi_text.specs.Text.{key}
+use Rattle.ocpi_text.specs.{key}
 use Rattle.session_tables.specs.Places.{MayTakeAt}
 use Rattle.session_tables.proofs.Answering.{none_without, without_answer}
 use Rattle.session_tables.proofs.answers.begins_without_answer.Goals as goal

@@ -1,7 +1,7 @@
 use Rattle.std.proofs.Common.{refl, inl, inr}
-use Rattle.ocpi_text.specs.Text.{key}
-use Rattle.ocpi_types.specs.declared.events.ChargerEvent.TheVariants as event
-use Rattle.session_state.specs.Versions.{completed, voided}
+use Rattle.ocpi_text.specs.{key}
+use Rattle.ocpi_types.specs.event
+use Rattle.session_state.specs.{completed, voided}
 use Rattle.session_tables.proofs.Moving.{goes_active, goes_pending}
 use Rattle.session_tables.proofs.moves.ends.Goals as goal
 

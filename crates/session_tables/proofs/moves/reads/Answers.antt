@@ -1,7 +1,7 @@
 use Rattle.std.proofs.Common.{refl, ap, ℤ}
-use Rattle.ocpi_text.specs.Text.{key}
-use Rattle.ocpi_types.specs.declared.events.ChargerEvent.TheVariants as event
-use Rattle.session_state.specs.Versions.{metered}
+use Rattle.ocpi_text.specs.{key}
+use Rattle.ocpi_types.specs.event
+use Rattle.session_state.specs.{metered}
 use Rattle.session_tables.proofs.Moving.{goes_active}
 use Rattle.session_tables.proofs.moves.reads.Goals as goal
 

@@ -1,7 +1,6 @@
-use Rattle.std.proofs.Common.{sym, ap, ◌∙◌}
-use Rattle.std.specs.Prelude.{None, Some}
+use Rattle.std.proofs.Common.{sym, ap, ◌∙◌, None, Some}
 use Rattle.site_book.proofs.Finding.{none_from}
-use Rattle.site_book.specs.declared.claim.Claim.{Claim}
+use Rattle.site_book.specs.{Claim}
 use Rattle.session_tables.proofs.Sessions.{found_there, no_session, none_there, not_live, sole_there}
 use Rattle.session_tables.proofs.moves.session_at.Goals as goal
 

@@ -1,7 +1,7 @@
 use Rattle.std.proofs.Common.{refl}
-use Rattle.ocpi_text.specs.Text.{key}
-use Rattle.ocpi_types.specs.declared.events.ChargerEvent.TheVariants as event
-use Rattle.session_state.specs.Versions.{activated}
+use Rattle.ocpi_text.specs.{key}
+use Rattle.ocpi_types.specs.event
+use Rattle.session_state.specs.{activated}
 use Rattle.session_tables.proofs.Moving.{goes_pending}
 use Rattle.session_tables.proofs.moves.starts.Goals as goal
 

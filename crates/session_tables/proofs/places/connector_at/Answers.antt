@@ -1,4 +1,4 @@
-use Rattle.ocpi_text.specs.Text.{key}
+use Rattle.ocpi_text.specs.{key}
 use Rattle.site_book.proofs.Finding.{none_from}
 use Rattle.session_tables.proofs.Finding.{no_connector, sole_connector}
 use Rattle.session_tables.proofs.places.connector_at.Goals as goal

@@ -1,6 +1,6 @@
 use Rattle.std.proofs.Common.{refl, sym, ap, ◌∙◌}
 use Rattle.std.proofs.lemmas.Bool.{false≢true}
-use Rattle.site_book.specs.Sites.{OutOfService, works}
+use Rattle.site_book.specs.{OutOfService, works}
 use Rattle.session_tables.proofs.swipes.is_ready.Goals as goal
 
 pub returns-then-not-works : goal.returns-then-not-works

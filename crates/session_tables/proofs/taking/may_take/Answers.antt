@@ -1,5 +1,5 @@
 use Rattle.std.proofs.Common.{sym, ap, ◌∙◌}
-use Rattle.site_book.specs.Sites.{OutOfService, works}
+use Rattle.site_book.specs.{OutOfService, works}
 use Rattle.session_tables.proofs.Takings.{cannot_take, takes_free, takes_by}
 use Rattle.session_tables.proofs.taking.may_take.Goals as goal
 

@@ -1,5 +1,5 @@
 use Rattle.std.proofs.Common.{sym, ap, ◌∙◌}
-use Rattle.site_book.specs.Sites.{OutOfService, works}
+use Rattle.site_book.specs.{OutOfService, works}
 use Rattle.session_tables.proofs.Takings.{cannot_take_at, takes_free_at, takes_ended, takes_by_at}
 use Rattle.session_tables.proofs.taking.may_take_at.Goals as goal
 

@@ -1,10 +1,8 @@
-use Rattle.std.proofs.Common.{◌≡◌, ◌≤◌, refl, ◌∙◌, length, arith}
-use Rattle.std.specs.Prelude.{Some, slice_get}
+use Rattle.std.proofs.Common.{◌≡◌, ◌≤◌, refl, ◌∙◌, length, arith, Some, slice_get}
 use Rattle.std.proofs.lemmas.List.{length-map, take_all}
 use Rattle.std.proofs.lemmas.Option.{slice_get_read}
-use Rattle.ocpi_text.specs.Text.{key}
-use Rattle.ocpi_types.specs.Locations.{location_keys}
-use Rattle.ocpi_types.specs.declared.site.Location.{Location}
+use Rattle.ocpi_text.specs.{key}
+use Rattle.ocpi_types.specs.{Location, location_keys}
 use Rattle.site_book.proofs.Apart.{at_id}
 use Rattle.site_book.proofs.Ids.{next_id}
 use Rattle.site_book.proofs.indexes.ids_of.Goals as goal

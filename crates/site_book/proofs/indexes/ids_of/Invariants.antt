@@ -1,5 +1,5 @@
 use Rattle.std.proofs.Common.{◌≡◌, take}
-use Rattle.ocpi_types.specs.Locations.{location_keys}
+use Rattle.ocpi_types.specs.{location_keys}
 use Rattle.site_book.proofs.indexes.ids_of.Given as goal
 
 abbrev pub invariant-loop-location : goal.invariant-loop-location

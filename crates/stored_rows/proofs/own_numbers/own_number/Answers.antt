@@ -1,6 +1,6 @@
 use Rattle.std.proofs.Common.{◌≡◌, ℕ, List, true, true≢false, nat_eq, ◌∙◌, ap, subst, sym}
 use Rattle.std.specs.Cmp.Lexicographic.{pointwise, nat_list_eq_equiv}
-use Rattle.ocpi_text.specs.OwnIds.{own_id_text}
+use Rattle.ocpi_text.specs.{own_id_text}
 use Rattle.stored_rows.proofs.OwnNumbers.{unread, counter_told}
 use Rattle.stored_rows.proofs.own_numbers.own_number.Goals as goal
 

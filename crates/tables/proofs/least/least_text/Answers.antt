@@ -1,9 +1,7 @@
-use Rattle.std.proofs.Common.{◌≡◌, ℕ, [], cond, ap, sym, ◌∙◌, arith}
-use Rattle.std.specs.Prelude.{Ok, Err}
+use Rattle.std.proofs.Common.{◌≡◌, ℕ, [], cond, ap, sym, ◌∙◌, arith, Ok, Err}
 use Rattle.std.specs.Str.{chars}
 use Rattle.std.proofs.lemmas.Bool.{le-ltb}
-use Rattle.ocpi_text.specs.Text.{ci_text, is_ascii_text}
-use Rattle.ocpi_text.specs.declared.fault.TextFault.TheVariants.{TooLong}
+use Rattle.ocpi_text.specs.{TooLong, ci_text, is_ascii_text}
 use Rattle.tables.proofs.least.least_text.Goals as goal
 
 empty_is_text : (most : ℕ) → ci_text most [] ≡ Ok []

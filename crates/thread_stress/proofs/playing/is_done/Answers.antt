@@ -1,8 +1,7 @@
-use Rattle.std.proofs.Common.{◌≡◌, ◌∙◌, [], refl, length, rules, arith, sym, subst, below_more}
+use Rattle.std.proofs.Common.{◌≡◌, ◌∙◌, [], refl, length, rules, arith, sym, subst, below_more, Some, slice_get}
 use Rattle.std.proofs.lemmas.List.{nil_from_length}
 use Rattle.std.proofs.lemmas.Option.{slice_get_read}
-use Rattle.std.specs.Prelude.{Some, slice_get}
-use Rattle.histories.specs.declared.history.NodeHistory.{NodeHistory}
+use Rattle.histories.specs.{NodeHistory}
 use Rattle.histories.proofs.Lists.{got_within, some_same}
 use Rattle.thread_stress.proofs.playing.is_done.Goals as goal
 

@@ -1,6 +1,5 @@
-use Rattle.std.proofs.Common.{◌≡◌, ℕ, ◌<◌, []}
-use Rattle.std.specs.Prelude.{Some, slice_get}
-use Rattle.histories.specs.declared.history.NodeHistory.{NodeHistory}
+use Rattle.std.proofs.Common.{◌≡◌, ℕ, ◌<◌, [], Some, slice_get}
+use Rattle.histories.specs.{NodeHistory}
 use Rattle.thread_stress.proofs.playing.is_done.Given as goal
 
 abbrev pub invariant-loop-history : goal.invariant-loop-history

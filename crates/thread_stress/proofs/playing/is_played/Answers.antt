@@ -1,8 +1,7 @@
-use Rattle.std.proofs.Common.{◌≡◌, ◌∙◌, ◌++◌, ℕ, [], ap, subst, refl, take_all}
-use Rattle.std.specs.Prelude.{Some, slice_get}
+use Rattle.std.proofs.Common.{◌≡◌, ◌∙◌, ◌++◌, ℕ, [], ap, subst, refl, take_all, Some, slice_get}
 use Rattle.std.proofs.lemmas.Bool.{OnTrue_at, OnTrue_from}
 use Rattle.std.proofs.lemmas.Option.{slice_get_read}
-use Rattle.histories.specs.declared.history.NodeHistory.{NodeHistory}
+use Rattle.histories.specs.{NodeHistory}
 use Rattle.thread_stress.specs.Playing.{IsPlayed}
 use Rattle.thread_stress.proofs.WhatIsLeft.{Reached, all_played, begins, goes_next}
 use Rattle.world.specs.State.{WorldState}

@@ -1,5 +1,5 @@
 use Rattle.std.proofs.Common.{ap, map, ◌∙◌, sym, subst}
-use Rattle.histories.specs.Weaving.{AreApart}
+use Rattle.histories.specs.{AreApart}
 use Rattle.cell_weaving.specs.Cells.{told_of_cell}
 use Rattle.thread_stress.proofs.OfCells.{apart}
 use Rattle.thread_stress.proofs.showing.show.Goals as goal

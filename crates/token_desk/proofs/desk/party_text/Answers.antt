@@ -1,5 +1,4 @@
-use Rattle.std.proofs.Common.{◌≡◌, ◌∙◌}
-use Rattle.std.specs.Prelude.{Ok, Err, Result}
+use Rattle.std.proofs.Common.{◌≡◌, ◌∙◌, Ok, Err, Result}
 use Rattle.token_desk.proofs.Lookups.{party_fits}
 use Rattle.token_desk.proofs.desk.party_text.Goals as goal
 

@@ -1,5 +1,4 @@
-use Rattle.std.proofs.Common.{◌≡◌, subst}
-use Rattle.std.specs.Prelude.{IfSome, MatchOption}
+use Rattle.std.proofs.Common.{◌≡◌, subst, IfSome, MatchOption}
 use Rattle.transcript_parts.specs.Beginnings.{IsNoRun, Opens}
 use Rattle.transcript_parts.specs.Lines.{line_of, lines_in}
 use Rattle.transcript_parts.specs.Parts.{IsPart}

@@ -1,8 +1,7 @@
-use Rattle.std.proofs.Common.{rules, arith, ◌≡◌, ◌↔◌, Some, Err, IsTrue, sym, subst}
+use Rattle.std.proofs.Common.{rules, arith, ◌≡◌, ◌↔◌, Some, Err, IsTrue, sym, subst, IfOk}
 use Rattle.std.proofs.lemmas.Grind.{common_steps}
-use Rattle.std.specs.Prelude.{IfOk}
-use Rattle.json_text.specs.declared.fault.JsonFault.TheVariants as json
-use Rattle.ocpi_json.specs.SetupForms.{setup_in}
+use Rattle.json_text.specs.line as json
+use Rattle.ocpi_json.specs.{setup_in}
 use Rattle.transcript_parts.specs.Parts.{FitsFirst}
 use Rattle.transcript_parts.proofs.ToldFaults.{fits_by_told, fits_no_setup, told_other}
 use Rattle.transcript_parts.proofs.first_lines.fits_first.Goals.{in-Ok, in-Err-Memory, in-Err}

@@ -1,6 +1,6 @@
 use Rattle.std.proofs.Common.{rules, arith, ◌≡◌, Err, refl}
 use Rattle.std.proofs.lemmas.Grind.{common_steps}
-use Rattle.ocpi_json.specs.SetupForms.{setup_in}
+use Rattle.ocpi_json.specs.{setup_in}
 use Rattle.transcript_parts.proofs.ToldFaults.{read_or_refused}
 use Rattle.transcript_parts.proofs.first_lines.opened_setup.Goals as goal
 

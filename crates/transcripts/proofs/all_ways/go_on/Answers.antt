@@ -1,5 +1,4 @@
-use Rattle.std.specs.Prelude.{Contains}
-use Rattle.std.proofs.Common.{◌≡◌, ◌∙◌, ap, arith, length, subst}
+use Rattle.std.proofs.Common.{◌≡◌, ◌∙◌, ap, arith, length, subst, Contains}
 use Rattle.transcripts.specs.Following.{GoesOn, StandsAt}
 use Rattle.transcripts.specs.Told.{Told}
 use Rattle.transcripts.proofs.AccusingLemmas.{nothing_in}

@@ -1,5 +1,4 @@
-use Rattle.std.proofs.Common.{◌++◌, vec_len}
-use Rattle.std.specs.Prelude.{Contains}
+use Rattle.std.proofs.Common.{◌++◌, vec_len, Contains}
 use Rattle.transcripts.specs.Diverging.{AllDiverge}
 use Rattle.transcripts.specs.Following.{AllGoOn}
 use Rattle.transcripts.specs.Told.{Told}

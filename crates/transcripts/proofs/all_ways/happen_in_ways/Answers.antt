@@ -1,5 +1,4 @@
-use Rattle.std.specs.Prelude.{Contains, IfSome}
-use Rattle.std.proofs.Common.{◌≡◌, ◌∙◌, ap, arith, length, refl, subst}
+use Rattle.std.proofs.Common.{◌≡◌, ◌∙◌, ap, arith, length, refl, subst, Contains, IfSome}
 use Rattle.transcripts.specs.Exact.{OnlyCome}
 use Rattle.transcripts.specs.Following.{ComeInTurn, ComesOf}
 use Rattle.transcripts.proofs.AccusingLemmas.{nothing_in}

@@ -1,7 +1,6 @@
-use Rattle.std.proofs.Common.{◌≡◌, ◌∙◌, List, true, Some, ap, refl, subst}
-use Rattle.std.specs.Prelude.{IfSome}
+use Rattle.std.proofs.Common.{◌≡◌, ◌∙◌, List, true, Some, ap, refl, subst, IfSome}
 use Rattle.node_replay.specs.Replayed.{started_again}
-use Rattle.transcript_parts.specs.LineReads.{LineRead}
+use Rattle.transcript_parts.specs.{LineRead}
 use Rattle.transcripts.specs.Exact.{CarriedOutAs}
 use Rattle.transcripts.specs.Following.{ComeInTurn, GoesOn, StandsAt, restarted, unanswered_line}
 use Rattle.transcripts.specs.LineEvents.{LineEvent}

@@ -1,5 +1,4 @@
-use Rattle.std.proofs.Common.{◌≡◌, [], ◌∷◌, None, Option, subst, sym}
-use Rattle.std.specs.Prelude.{OnOk}
+use Rattle.std.proofs.Common.{◌≡◌, [], ◌∷◌, None, Option, subst, sym, OnOk}
 use Rattle.node_replay.specs.Replayed.{started_again}
 use Rattle.transcripts.specs.Exact.{AddsEach, GoesOnAs}
 use Rattle.transcripts.specs.Following.{StandsAt}

@@ -1,5 +1,4 @@
-use Rattle.std.proofs.Common.{◌≡◌, ◌∙◌, ap, subst}
-use Rattle.std.specs.Prelude.{OnOk}
+use Rattle.std.proofs.Common.{◌≡◌, ◌∙◌, ap, subst, OnOk}
 use Rattle.node_replay.specs.Replayed.{started_again}
 use Rattle.transcripts.specs.Diverging.{AddsBehind}
 use Rattle.transcripts.specs.Following.{StandsAt}

@@ -1,5 +1,4 @@
-use Rattle.std.proofs.Common.{◌≡◌, refl, sym, subst}
-use Rattle.std.specs.Prelude.{OnOk}
+use Rattle.std.proofs.Common.{◌≡◌, refl, sym, subst, OnOk}
 use Rattle.transcripts.specs.Diverging.{AddsBehind}
 use Rattle.transcripts.specs.Exact.{AddsEach}
 use Rattle.transcripts.specs.Following.{Adds, StandsAt}

@@ -1,6 +1,5 @@
-use Rattle.std.proofs.Common.{◌≡◌, ◌++◌, drop, length, take, sym, ap, subst, ◌∙◌}
+use Rattle.std.proofs.Common.{◌≡◌, ◌++◌, drop, length, take, sym, ap, subst, ◌∙◌, IsPermutation, reverse}
 use Rattle.std.proofs.Math.Seq.{take-append_seam}
-use Rattle.std.specs.Prelude.{IsPermutation, reverse}
 use Rattle.transcripts.proofs.all_ways.turn_round.Goals as goal
 
 pub returns-clause-moved : goal.returns-clause-moved

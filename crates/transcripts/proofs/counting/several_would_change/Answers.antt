@@ -1,7 +1,6 @@
-use Rattle.std.proofs.Common.{◌∙◌, List, ap, subst}
-use Rattle.std.specs.Prelude.{IfSome}
-use Rattle.ocpi_types.specs.declared.setup.Node.{Node}
-use Rattle.transcript_parts.specs.LineReads.{LineRead}
+use Rattle.std.proofs.Common.{◌∙◌, List, ap, subst, IfSome}
+use Rattle.ocpi_types.specs.{Node}
+use Rattle.transcript_parts.specs.{LineRead}
 use Rattle.transcripts.specs.Following.{ComeInTurn, unanswered_line}
 use Rattle.transcripts.specs.LineEvents.{LineEvent}
 use Rattle.transcripts.specs.Ways.{IsRepeated}

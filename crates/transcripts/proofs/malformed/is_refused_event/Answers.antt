@@ -1,5 +1,4 @@
-use Rattle.std.proofs.Common.{◌↔◌, sym, subst}
-use Rattle.std.specs.Prelude.{IfOk, IsTrue}
+use Rattle.std.proofs.Common.{◌↔◌, sym, subst, IfOk, IsTrue}
 use Rattle.transcripts.specs.Following.{IsRefusedEvent}
 use Rattle.transcripts.proofs.Refusing.{read_event, refused_event}
 use Rattle.transcripts.proofs.malformed.is_refused_event.Goals.{in-Ok, in-Err}

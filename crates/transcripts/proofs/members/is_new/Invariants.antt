@@ -1,7 +1,6 @@
-use Rattle.std.proofs.Common.{◌≡◌, take}
-use Rattle.std.specs.Prelude.{Contains}
-use Rattle.ocpi_text.specs.Text.{key}
-use Rattle.ocpi_types.specs.Setups.{party_of}
+use Rattle.std.proofs.Common.{◌≡◌, take, Contains}
+use Rattle.ocpi_text.specs.{key}
+use Rattle.ocpi_types.specs.{party_of}
 use Rattle.transcripts.specs.Told.{Told}
 use Rattle.transcripts.proofs.members.is_new.Given as goal
 

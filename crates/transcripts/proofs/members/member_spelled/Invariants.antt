@@ -1,7 +1,5 @@
-use Rattle.std.proofs.Common.{◌≡◌, take}
-use Rattle.std.specs.Prelude.{Contains}
-use Rattle.ocpi_types.specs.Setups.{party_of}
-use Rattle.ocpi_types.specs.declared.setup.Node.{Node}
+use Rattle.std.proofs.Common.{◌≡◌, take, Contains}
+use Rattle.ocpi_types.specs.{Node, party_of}
 use Rattle.transcripts.proofs.members.member_spelled.Given as goal
 
 -- no node before this one is spelled so

@@ -1,9 +1,9 @@
-use Rattle.std.proofs.Common.{◌≡◌, ◌+◌, ◌∙◌, Some, ap, arith, length, subst, sym, take}
+use Rattle.std.proofs.Common.{◌≡◌, ◌+◌, ◌∙◌, Some, ap, arith, length, subst, sym, take, Contains, List, false}
+use Rattle.std.proofs.Common.{slice_get, true}
 use Rattle.std.proofs.Math.Seq.{take-length}
 use Rattle.std.proofs.lemmas.Option.{slice_get-get_or}
-use Rattle.std.specs.Prelude.{Contains, List, false, slice_get, true}
 use Rattle.histories.proofs.Lists.{take_one}
-use Rattle.ocpi_types.specs.Setups.{party_of}
+use Rattle.ocpi_types.specs.{party_of}
 use Rattle.transcripts.specs.Told.{Told}
 use Rattle.transcripts.proofs.WayLemmas.{one_more}
 use Rattle.transcripts.proofs.members.one_is_of.Goals as goal

@@ -1,6 +1,5 @@
-use Rattle.std.proofs.Common.{◌≡◌, take}
-use Rattle.std.specs.Prelude.{Contains}
-use Rattle.ocpi_types.specs.Setups.{party_of}
+use Rattle.std.proofs.Common.{◌≡◌, take, Contains}
+use Rattle.ocpi_types.specs.{party_of}
 use Rattle.transcripts.specs.Told.{Told}
 use Rattle.transcripts.proofs.members.one_is_of.Given as goal
 

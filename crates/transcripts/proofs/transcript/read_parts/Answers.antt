@@ -1,7 +1,5 @@
-use Rattle.std.proofs.Common.{◌≡◌, [], false, None, refl, sym, subst}
-use Rattle.std.specs.Prelude.{IfNone, IfSome}
-use Rattle.transcript_parts.specs.Lines.{lines_in}
-use Rattle.transcript_parts.specs.Parts.{IsPart}
+use Rattle.std.proofs.Common.{◌≡◌, [], false, None, refl, sym, subst, IfNone, IfSome}
+use Rattle.transcript_parts.specs.{IsPart, lines_in}
 use Rattle.transcript_parts.proofs.PartLemmas.{part_shortens}
 use Rattle.transcripts.specs.Following.{IsRead}
 use Rattle.transcripts.proofs.FollowingLemmas.{more_read, nothing_read, reading}

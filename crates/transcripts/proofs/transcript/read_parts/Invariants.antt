@@ -1,5 +1,5 @@
 use Rattle.std.proofs.Common.{length}
-use Rattle.transcript_parts.specs.Lines.{lines_in}
+use Rattle.transcript_parts.specs.{lines_in}
 use Rattle.transcripts.specs.Following.{IsRead}
 use Rattle.transcripts.proofs.HistoryLemmas.{KnowsAll}
 use Rattle.transcripts.proofs.transcript.read_parts.Given as goal

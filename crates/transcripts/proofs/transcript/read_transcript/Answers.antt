@@ -1,5 +1,5 @@
 use Rattle.std.proofs.Common.{[], Some, refl}
-use Rattle.transcript_parts.specs.Lines.{lines_in}
+use Rattle.transcript_parts.specs.{lines_in}
 use Rattle.transcripts.proofs.FollowingLemmas.{standing, transcript_keeps}
 use Rattle.transcripts.proofs.HistoryLemmas.{accused_file}
 use Rattle.transcripts.proofs.transcript.read_transcript.Goals as goal

@@ -1,8 +1,7 @@
-use Rattle.std.proofs.Common.{◌≡◌, ◌+◌, ◌∙◌, ap, length, take, subst, sym, arith}
+use Rattle.std.proofs.Common.{◌≡◌, ◌+◌, ◌∙◌, ap, length, take, subst, sym, arith, IfSome, None, Some, slice_get}
 use Rattle.std.proofs.Math.Seq.{take-length}
 use Rattle.std.proofs.lemmas.List.{length-take-le}
 use Rattle.std.proofs.lemmas.Option.{slice_get-get_or}
-use Rattle.std.specs.Prelude.{IfSome, None, Some, slice_get}
 use Rattle.histories.proofs.Lists.{take_one}
 use Rattle.transcripts.specs.Exact.{OnlyCome, OnlyGives}
 use Rattle.transcripts.specs.Following.{ComeInTurn, Gives, NoneYet}

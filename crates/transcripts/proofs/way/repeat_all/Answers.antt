@@ -1,6 +1,5 @@
-use Rattle.std.proofs.Common.{◌≡◌, ◌+◌, ◌∙◌, Some, ap, arith, sym, take}
+use Rattle.std.proofs.Common.{◌≡◌, ◌+◌, ◌∙◌, Some, ap, arith, sym, take, slice_get}
 use Rattle.std.proofs.lemmas.Option.{slice_get-get_or}
-use Rattle.std.specs.Prelude.{slice_get}
 use Rattle.histories.proofs.Lists.{take_one}
 use Rattle.transcripts.proofs.RepeatingLemmas.{repeats_more}
 use Rattle.transcripts.proofs.way.repeat_all.Goals as goal

@@ -1,7 +1,6 @@
 use Rattle.std.proofs.Common.{[], ◌∷◌, ◌++◌, length, map, sym, ap, ◌∙◌, arith, take_all}
 use Rattle.std.proofs.lemmas.Option.{slice_get-get_or}
-use Rattle.histories.specs.declared.history.NodeHistory.{NodeHistory}
-use Rattle.histories.specs.Weaving.{event_of}
+use Rattle.histories.specs.{NodeHistory, event_of}
 use Rattle.histories.proofs.Lists.{got_within, some_same}
 use Rattle.weave.proofs.Turning.{events_push, one_entry, turn_at, turns_size}
 use Rattle.weave.proofs.events.events_of.Goals as goal

@@ -1,5 +1,5 @@
 use Rattle.std.proofs.Common.{◌≡◌, List, map, take}
-use Rattle.histories.specs.Weaving.{Woven, event_of}
+use Rattle.histories.specs.{Woven, event_of}
 use Rattle.weave.specs.Turns.{AreTurns}
 use Rattle.weave.proofs.events.events_of.Given as goal
 

@@ -1,5 +1,5 @@
 use Rattle.std.proofs.Common.{sym, subst, ◌∙◌, arith}
-use Rattle.histories.specs.Entries.{Delivers}
+use Rattle.histories.specs.{Delivers}
 use Rattle.histories.proofs.Lists.{some_same}
 use Rattle.weave.proofs.Places.{got_by}
 use Rattle.weave.proofs.Telling.{none_more}

@@ -1,6 +1,5 @@
-use Rattle.std.proofs.Common.{sym, ap, ◌∙◌, arith}
-use Rattle.std.specs.Prelude.{slice_get}
-use Rattle.histories.specs.declared.history.NodeHistory.{NodeHistory}
+use Rattle.std.proofs.Common.{sym, ap, ◌∙◌, arith, slice_get}
+use Rattle.histories.specs.{NodeHistory}
 use Rattle.histories.proofs.Lists.{got_within, some_same}
 use Rattle.weave.proofs.Places.{got_by}
 use Rattle.weave.proofs.Telling.{none_more}

@@ -1,6 +1,5 @@
-use Rattle.std.proofs.Common.{◌≡◌, ◌<◌, ℕ, List}
-use Rattle.std.specs.Prelude.{Some, slice_get}
-use Rattle.ocpi_text.specs.Text.{key}
+use Rattle.std.proofs.Common.{◌≡◌, ◌<◌, ℕ, List, Some, slice_get}
+use Rattle.ocpi_text.specs.{key}
 use Rattle.weave.proofs.needs.is_from.Given as goal
 
 abbrev pub invariant-loop-party : goal.invariant-loop-party

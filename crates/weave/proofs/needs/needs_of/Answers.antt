@@ -1,5 +1,5 @@
 use Rattle.std.proofs.Common.{take, sym, ap, subst, ◌∙◌, ◌+◌, arith, take_all}
-use Rattle.histories.specs.declared.history.NodeHistory.{NodeHistory}
+use Rattle.histories.specs.{NodeHistory}
 use Rattle.histories.proofs.Lists.{some_same}
 use Rattle.weave.specs.Needs.{AreNeeds}
 use Rattle.weave.proofs.Needing.{blamed_in, needs_push}

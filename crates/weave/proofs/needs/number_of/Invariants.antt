@@ -1,7 +1,6 @@
-use Rattle.std.proofs.Common.{◌≡◌, ◌<◌, ℕ}
-use Rattle.std.specs.Prelude.{Some, slice_get}
-use Rattle.ocpi_text.specs.Text.{key}
-use Rattle.histories.specs.declared.history.NodeHistory.{NodeHistory}
+use Rattle.std.proofs.Common.{◌≡◌, ◌<◌, ℕ, Some, slice_get}
+use Rattle.ocpi_text.specs.{key}
+use Rattle.histories.specs.{NodeHistory}
 use Rattle.weave.proofs.needs.number_of.Given as goal
 
 abbrev pub invariant-loop-number : goal.invariant-loop-number

@@ -1,5 +1,5 @@
 use Rattle.std.proofs.Common.{◌≡◌, ◌+◌, length, take}
-use Rattle.histories.specs.Entries.{sent}
+use Rattle.histories.specs.{sent}
 use Rattle.weave.proofs.needs.sending_entry.Given as goal
 
 abbrev pub invariant-loop-place : goal.invariant-loop-place

@@ -1,5 +1,5 @@
 use Rattle.std.proofs.Common.{◌≡◌, ◌++◌, take}
-use Rattle.histories.specs.Entries.{sent}
+use Rattle.histories.specs.{sent}
 use Rattle.weave.specs.Needs.{now_of}
 use Rattle.weave.proofs.needs.sent_of.Given as goal
 

@@ -1,6 +1,5 @@
-use Rattle.std.proofs.Common.{◌≡◌, ◌<◌, ◌≤◌, ℕ, length}
-use Rattle.std.specs.Prelude.{Some, slice_get, slice_index}
-use Rattle.histories.specs.declared.history.NodeHistory.{NodeHistory}
+use Rattle.std.proofs.Common.{◌≡◌, ◌<◌, ◌≤◌, ℕ, length, Some, slice_get, slice_index}
+use Rattle.histories.specs.{NodeHistory}
 use Rattle.weave.proofs.weaving.is_done.Given as goal
 
 abbrev pub invariant-loop-i : goal.invariant-loop-i

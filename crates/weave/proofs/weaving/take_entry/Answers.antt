@@ -1,8 +1,5 @@
-use Rattle.std.proofs.Common.{◌+◌, ◌-◌, length, refl, sym, ap, ◌∙◌, arith}
-use Rattle.std.specs.Prelude.{slice_get, slice_index}
-use Rattle.histories.specs.declared.entry.Entry.{Entry}
-use Rattle.histories.specs.declared.history.NodeHistory.{NodeHistory}
-use Rattle.histories.specs.Entries.{packets_of}
+use Rattle.std.proofs.Common.{◌+◌, ◌-◌, length, refl, sym, ap, ◌∙◌, arith, slice_get, slice_index}
+use Rattle.histories.specs.{Entry, NodeHistory, packets_of}
 use Rattle.histories.proofs.Lists.{got_within, some_same}
 use Rattle.weave.specs.Reached.{serial_in}
 use Rattle.weave.proofs.Places.{got_by, index_is}

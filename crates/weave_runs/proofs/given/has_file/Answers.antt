@@ -1,5 +1,5 @@
 use Rattle.std.proofs.Common.{◌≡◌, ◌∙◌, ap, sym, subst, arith, take_all, List}
-use Rattle.ocpi_text.specs.Text.{key}
+use Rattle.ocpi_text.specs.{key}
 use Rattle.histories.proofs.Lists.{is_in}
 use Rattle.transcripts.specs.Told.{Told}
 use Rattle.weave.proofs.Places.{got_by}

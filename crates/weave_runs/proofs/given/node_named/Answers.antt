@@ -1,8 +1,6 @@
-use Rattle.std.proofs.Common.{◌≡◌, ◌∙◌, ap, sym, subst, arith, take_all, List}
-use Rattle.std.specs.Prelude.{Contains}
-use Rattle.ocpi_text.specs.Text.{key}
-use Rattle.ocpi_types.specs.Setups.{party_of}
-use Rattle.ocpi_types.specs.declared.setup.Node.{Node}
+use Rattle.std.proofs.Common.{◌≡◌, ◌∙◌, ap, sym, subst, arith, take_all, List, Contains}
+use Rattle.ocpi_text.specs.{key}
+use Rattle.ocpi_types.specs.{Node, party_of}
 use Rattle.weave.proofs.Places.{got_by}
 use Rattle.weave_runs.proofs.GivenLemmas.{none_up_to, not_true, ok_same}
 use Rattle.weave_runs.proofs.given.node_named.Goals as goal

@@ -1,6 +1,5 @@
-use Rattle.std.proofs.Common.{◌≡◌, ◌++◌, ◌+◌, ◌∙◌, true, drop, sym, subst, arith, string_bytes}
+use Rattle.std.proofs.Common.{◌≡◌, ◌++◌, ◌+◌, ◌∙◌, true, drop, sym, subst, arith, string_bytes, codes}
 use Rattle.std.proofs.lemmas.Option.{slice_get-get_or}
-use Rattle.std.specs.Prelude.{codes}
 use Rattle.histories.proofs.Lists.{stands}
 use Rattle.weave.proofs.Places.{got_by}
 use Rattle.weave_runs.specs.Refusals.{front_places, marked}

@@ -1,5 +1,4 @@
-use Rattle.std.proofs.Common.{◌≡◌, ◌++◌, true, drop, string_bytes}
-use Rattle.std.specs.Prelude.{codes}
+use Rattle.std.proofs.Common.{◌≡◌, ◌++◌, true, drop, string_bytes, codes}
 use Rattle.weave_runs.specs.Refusals.{front_places, marked}
 use Rattle.weave_runs.proofs.refusal.front_refusal.Given as goal
 

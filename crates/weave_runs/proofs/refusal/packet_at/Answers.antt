@@ -1,7 +1,6 @@
-use Rattle.std.proofs.Common.{◌≡◌, ◌∙◌, ap, sym, length, refl, List}
+use Rattle.std.proofs.Common.{◌≡◌, ◌∙◌, ap, sym, length, refl, List, Some, None, slice_get}
 use Rattle.std.proofs.lemmas.Option.{slice_get_past, slice_get_read}
-use Rattle.std.specs.Prelude.{Some, None, slice_get}
-use Rattle.histories.specs.declared.entry.Entry.{Entry}
+use Rattle.histories.specs.{Entry}
 use Rattle.weave_runs.proofs.RefusalLemmas as lemma
 use Rattle.weave_runs.proofs.refusal.packet_at.Goals as goal
 

@@ -1,5 +1,5 @@
 use Rattle.std.proofs.Common.{IfOk, sym, subst, string_bytes}
-use Rattle.weave.specs.declared.turn_fault.TurnFault.{TurnFault}
+use Rattle.weave.specs.{TurnFault}
 use Rattle.weave_runs.specs.Refusals.{TellsFault}
 use Rattle.weave_runs.proofs.refusal.weave_refusal.Goals as goal
 

@@ -1,6 +1,6 @@
 use Rattle.std.proofs.Common.{◌≡◌, ◌++◌, ◌∷◌, ◌+◌, [], take, refl, sym, subst, arith, rules}
 use Rattle.std.proofs.lemmas.Option.{slice_get-get_or}
-use Rattle.transcript_parts.specs.declared.fault.TranscriptFault.TheVariants.{Memory}
+use Rattle.transcript_parts.specs.{Memory}
 use Rattle.transcripts.specs.Following.{IsNew}
 use Rattle.weave_runs.specs.Histories.{AreToldOf, AreTranscripts, teller}
 use Rattle.weave_runs.proofs.ToldLemmas.{refuses_here, told_more, transcripts_more}

@@ -1,7 +1,6 @@
-use Rattle.std.proofs.Common.{ap, map, sym, subst, ◌∙◌, string_bytes}
-use Rattle.ocpi_types.specs.declared.setup.Node.{Node}
-use Rattle.std.specs.Prelude.{List}
-use Rattle.weave.specs.Turns.{IsOrderWith}
+use Rattle.std.proofs.Common.{ap, map, sym, subst, ◌∙◌, string_bytes, List}
+use Rattle.ocpi_types.specs.{Node}
+use Rattle.weave.specs.{IsOrderWith}
 use Rattle.weave_runs.specs.Histories.{lived}
 use Rattle.weave_runs.specs.Refusals.{TellsFault}
 use Rattle.weave_runs.proofs.ToldLemmas as told

@@ -1,6 +1,5 @@
-use Rattle.std.proofs.Common.{sym, subst}
-use Rattle.ocpi_types.specs.declared.setup.Node.{Node}
-use Rattle.std.specs.Prelude.{List}
+use Rattle.std.proofs.Common.{sym, subst, List}
+use Rattle.ocpi_types.specs.{Node}
 use Rattle.weave_runs.specs.Outputs.{IsWrongGiven, Read}
 use Rattle.weave_runs.specs.Parties.{AreGiven, IfWrong, IsWrongAmong}
 use Rattle.weave_runs.proofs.OutputLemmas.{ok_more, read_written}

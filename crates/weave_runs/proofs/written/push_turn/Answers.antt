@@ -1,9 +1,7 @@
-use Rattle.std.proofs.Common.{◌≡◌, ap, sym, subst, ◌∙◌, ◌<◌, length, List}
-use Rattle.std.specs.Prelude.{Some, slice_get}
+use Rattle.std.proofs.Common.{◌≡◌, ap, sym, subst, ◌∙◌, ◌<◌, length, List, Some, slice_get}
 use Rattle.std.proofs.lemmas.Option.{slice_get_within}
-use Rattle.histories.specs.declared.entry.Entry.{Entry}
+use Rattle.histories.specs.{Entry, Woven}
 use Rattle.histories.proofs.Lists.{some_same}
-use Rattle.histories.specs.Weaving.{Woven}
 use Rattle.transcripts.specs.Told.{Told}
 use Rattle.weave_runs.specs.Steps.{Names}
 use Rattle.weave.proofs.Places.{got_by}

@@ -1,7 +1,7 @@
 use Rattle.std.proofs.Common.{arith}
 use Rattle.node_core.proofs.Lists.{flat_step}
 use Rattle.world.proofs.carrying.versions_put.Goals as goal
-use Rattle.world_steps.specs.Steps.{version_put}
+use Rattle.world_steps.specs.{version_put}
 
 pub loop-change-preserved : goal.loop-change-preserved
 loop-change-preserved c =

@@ -1,9 +1,9 @@
 use Rattle.std.proofs.Common.{List, arith, subst, sym}
-use Rattle.ocpi_types.specs.declared.packet.Packet.{Packet}
+use Rattle.ocpi_types.specs.{Packet}
 use Rattle.world.proofs.Delivering.{is_here, may_arrive, none_arrives, none_more}
 use Rattle.world.proofs.finding.delivered.Goals as goal
 use Rattle.world.proofs.finding.delivered.Goals.{then-is_same+in_default, else-is_same}
-use Rattle.world_steps.specs.Deliveries.{IsSentTo}
+use Rattle.world_steps.specs.{IsSentTo}
 use Rattle.world.specs.declared.place.Place.{Place}
 
 pub returns-in-Some-clause-found : goal.returns-in-Some-clause-found

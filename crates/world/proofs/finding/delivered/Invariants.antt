@@ -1,8 +1,8 @@
 use Rattle.std.proofs.Common.{ℕ, ◌<◌}
-use Rattle.ocpi_types.specs.declared.packet.Packet.{Packet}
+use Rattle.ocpi_types.specs.{Packet}
 use Rattle.world.proofs.finding.delivered.Given as goal
 use Rattle.world.specs.Deliveries.{IsPlaceOf}
-use Rattle.world_steps.specs.Deliveries.{IsSentTo}
+use Rattle.world_steps.specs.{IsSentTo}
 use Rattle.world.specs.declared.place.Place.{Place}
 
 abbrev pub invariant-loop-place : goal.invariant-loop-place

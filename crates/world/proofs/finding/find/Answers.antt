@@ -1,6 +1,6 @@
 use Rattle.std.proofs.Common.{◌∙◌, ap, arith, sym}
 use Rattle.std.specs.Prelude.{⊤}
-use Rattle.ocpi_text.specs.Text.{key}
+use Rattle.ocpi_text.specs.{key}
 use Rattle.world.proofs.Delivering.{is_here, none_more}
 use Rattle.world.proofs.finding.find.Goals as goal
 use Rattle.world.specs.declared.place.Place.{Place}

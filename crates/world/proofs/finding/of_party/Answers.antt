@@ -1,10 +1,9 @@
-use Rattle.std.proofs.Common.{◌+◌, ◌∙◌, Some, ap, arith, cond, drop, sym}
-use Rattle.ocpi_text.specs.Text.{key}
+use Rattle.std.proofs.Common.{◌+◌, ◌∙◌, Some, ap, arith, cond, drop, sym, Bool, List}
+use Rattle.ocpi_text.specs.{key}
 use Rattle.world.proofs.Lists.{other_bytes, rest_more, same_bytes}
 use Rattle.world.proofs.finding.of_party.Goals as goal
 use Rattle.world.specs.Deliveries.{first_of}
 use Rattle.world.specs.declared.place.Place.{Place}
-use Rattle.std.specs.Prelude.{Bool, List}
 
 pub returns-then-is_same-clause-found : goal.returns-then-is_same-clause-found
 returns-then-is_same-clause-found c =

@@ -1,7 +1,6 @@
 use Rattle.std.proofs.Common.{subst}
-use Rattle.node_core.specs.States.{state_of}
+use Rattle.node_core.specs.{Planned, state_of}
 use Rattle.node_core.specs.Works as nodes
-use Rattle.node_core.specs.declared.work.Planned.{Planned}
 use Rattle.world.proofs.Steps.{asks_for, passes, refuses}
 use Rattle.world.proofs.planning.plan_taken.Goals as goal
 use Rattle.world.specs.Seen.{places_seen}

@@ -1,6 +1,6 @@
 use Rattle.std.proofs.Common.{◌≡◌, ◌∙◌, ℤ, rules, subst, sym}
-use Rattle.handover.specs.Owed.{Account}
-use Rattle.ocpi_text.specs.Text.{key}
+use Rattle.handover.specs.{Account}
+use Rattle.ocpi_text.specs.{key}
 use Rattle.world.proofs.Asking.{owed_at, owed_nowhere}
 use Rattle.world.proofs.world.owed_among.Goals as goal
 use Rattle.world.specs.Seen.{places_seen}

@@ -1,5 +1,4 @@
-use Rattle.std.proofs.Common.{◌∙◌, ap, length, refl, sym}
-use Rattle.std.specs.Prelude.{option_map}
+use Rattle.std.proofs.Common.{◌∙◌, ap, length, refl, sym, option_map}
 use Rattle.std.proofs.lemmas.Option.{slice_get-map, slice_get_past, slice_get_read}
 use Rattle.world.proofs.world.packets_of.Goals as goal
 use Rattle.world.specs.Seen.{packets_sent, place_seen, places_seen, sent_from}

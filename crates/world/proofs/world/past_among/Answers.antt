@@ -1,8 +1,8 @@
 use Rattle.std.proofs.Common.{◌∙◌, List, ap, sym}
-use Rattle.ocpi_types.specs.declared.sessions.Session.{Session}
+use Rattle.ocpi_types.specs.{Session}
 use Rattle.world.proofs.Asking.{past_at, past_nowhere}
 use Rattle.world.proofs.world.past_among.Goals as goal
-use Rattle.world_steps.specs.World.{past_of}
+use Rattle.world_steps.specs.{past_of}
 
 pub returns-in-Some : goal.returns-in-Some
 returns-in-Some c =

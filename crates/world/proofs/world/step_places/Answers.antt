@@ -1,11 +1,8 @@
-use Rattle.std.proofs.Common.{◌∙◌, ℕ, List, ap, arith, length, subst, sym}
-use Rattle.std.specs.Prelude.{slice_set}
+use Rattle.std.proofs.Common.{◌∙◌, ℕ, List, ap, arith, length, subst, sym, slice_set}
 use Rattle.std.proofs.lemmas.Option.{same_Some, slice_get_within}
-use Rattle.node_core.specs.States.{state_of}
-use Rattle.node_core.specs.Works.{MayDo, packets_by}
-use Rattle.ocpi_types.specs.declared.packet.Packet.{Packet}
-use Rattle.ocpi_types.specs.declared.rows.Change.{Change}
-use Rattle.stored_laws.specs.Nodes.{IsWhole}
+use Rattle.node_core.specs.{MayDo, packets_by, state_of}
+use Rattle.ocpi_types.specs.{Change, Packet}
+use Rattle.stored_laws.specs.{IsWhole}
 use Rattle.world.proofs.Steps.{idle_gives, is_whole, may_do, none_gives, on_err_always, place_here, told_idle, told_work, unchanged, work_gives}
 use Rattle.world.proofs.world.step_places.Goals as goal
 use Rattle.world.specs.Deliveries.{IsPlaceOf}
@@ -15,7 +12,7 @@ use Rattle.world.specs.declared.place.Place.{Place}
 use Rattle.world.specs.declared.planned.Outcome.TheVariants as outcome
 use Rattle.world.specs.declared.planned.Planned.{Planned}
 use Rattle.world_steps.specs.Steps as steps
-use Rattle.world_steps.specs.Steps.{Gives}
+use Rattle.world_steps.specs.{Gives}
 
 -- there is no node of that party
 pub returns-in_default-clause-ok : goal.returns-in_default-clause-ok

@@ -1,6 +1,5 @@
-use Rattle.std.proofs.Common.{ap}
-use Rattle.std.specs.Prelude.{is_some}
-use Rattle.tables.specs.Keys.{text_number_total, text_number_exact}
+use Rattle.std.proofs.Common.{ap, is_some}
+use Rattle.tables.specs.{text_number_exact, text_number_total}
 use Rattle.tables.proofs.Maps.{get-insert_same}
 use Rattle.command_book.proofs.Cases.{ok_not_err}
 use Rattle.command_book.proofs.Roomed.{keeps_room, still_there}

@@ -1,12 +1,11 @@
-use Rattle.std.proofs.Common.{◌≡◌, sym, ap, subst, ◌∙◌, false}
-use Rattle.std.specs.Prelude.{IsTrue, Option}
+use Rattle.std.proofs.Common.{◌≡◌, sym, ap, subst, ◌∙◌, false, IsTrue, Option}
 use Rattle.std.specs.Option.{option_map}
 use Rattle.std.specs.FinMap.{contains_key}
-use Rattle.ocpi_types.specs.declared.rows.RowKey.TheVariants as keys
-use Rattle.ocpi_types.specs.declared.stored.OpenCommand.{OpenCommand}
+use Rattle.ocpi_types.specs.keys
+use Rattle.ocpi_types.specs.{OpenCommand}
 use Rattle.command_book.specs.Queue.{Queue}
 use Rattle.command_book.proofs.Queued.{unqueued_own, queued_drop}
-use Rattle.tables.specs.Keys.{text_number_total, text_number_exact}
+use Rattle.tables.specs.{text_number_exact, text_number_total}
 use Rattle.tables.proofs.Maps.{others_keep, key_gone}
 use Rattle.command_book.proofs.Roomed.{keeps_other_room, still_queued, given_back}
 use Rattle.command_book.proofs.book.CommandBook.drop_open.Goals as goal

@@ -1,7 +1,7 @@
-use Rattle.tables.specs.Keys.{text_number_total, text_number_exact}
+use Rattle.tables.specs.{text_number_exact, text_number_total}
 use Rattle.tables.proofs.Maps.{others_keep, key_gone}
 use Rattle.command_book.proofs.Roomed.{keeps_other_room}
-use Rattle.ocpi_types.specs.declared.rows.RowKey.TheVariants as keys
+use Rattle.ocpi_types.specs.keys
 use Rattle.command_book.proofs.book.CommandBook.drop_row.Goals as goal
 
 pub returns-in-Result-clause-room : goal.returns-in-Result-clause-room

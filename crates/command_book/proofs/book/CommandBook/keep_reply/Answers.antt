@@ -1,6 +1,5 @@
 use Rattle.std.proofs.Common.{inr, ap}
-use Rattle.tables.specs.Keys.{text_number_cmp}
-use Rattle.tables.specs.Tables.{shown_of}
+use Rattle.tables.specs.{shown_of, text_number_cmp}
 use Rattle.command_book.specs.Stored.{Replies}
 use Rattle.command_book.proofs.Cases.{ok_not_err}
 use Rattle.command_book.proofs.book.CommandBook.keep_reply.Goals as goal

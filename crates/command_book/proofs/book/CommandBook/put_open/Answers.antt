@@ -1,7 +1,6 @@
-use Rattle.std.proofs.Common.{sym, subst, ◌∙◌}
-use Rattle.std.specs.Prelude.{IsTrue}
+use Rattle.std.proofs.Common.{sym, subst, ◌∙◌, IsTrue}
 use Rattle.std.specs.FinMap.{contains_key}
-use Rattle.ocpi_types.specs.declared.rows.RowKey.TheVariants as keys
+use Rattle.ocpi_types.specs.keys
 use Rattle.command_book.specs.Queue.{Queue}
 use Rattle.command_book.proofs.Queued.{apart_of_stale, unqueued_stale, queued_put}
 use Rattle.command_book.proofs.Roomed.{keeps_other_room, still_queued}

@@ -1,4 +1,4 @@
-use Rattle.ocpi_types.specs.declared.rows.Row.TheVariants as row
+use Rattle.ocpi_types.specs.row
 use Rattle.command_book.proofs.book.CommandBook.settle.Goals as goal
 
 pub returns-clause-room : goal.returns-clause-room

@@ -1,8 +1,7 @@
-use Rattle.std.proofs.Common.{sym, ap, ◌∙◌, arith, option_copied, Bor}
-use Rattle.std.specs.Prelude.{Option}
+use Rattle.std.proofs.Common.{sym, ap, ◌∙◌, arith, option_copied, Bor, Option}
 use Rattle.std.proofs.lemmas.Int.{ints}
-use Rattle.ocpi_types.specs.declared.cdrs.Cdr.{Cdr}
-use Rattle.tables.specs.Keys.{text_pair_total, text_pair_exact}
+use Rattle.ocpi_types.specs.{Cdr}
+use Rattle.tables.specs.{text_pair_exact, text_pair_total}
 use Rattle.tables.proofs.Maps.{remove_absent}
 use Rattle.handover.proofs.Keeping.{sum_bound, account_room, cleared}
 use Rattle.handover.proofs.cdr_book.CdrBook.clear.Goals as goal

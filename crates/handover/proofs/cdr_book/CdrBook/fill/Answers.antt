@@ -1,7 +1,6 @@
-use Rattle.std.proofs.Common.{subst, refl, arith}
+use Rattle.std.proofs.Common.{subst, refl, arith, ◌<◌, unsigned_abs}
 use Rattle.std.proofs.lemmas.Int.{ints}
-use Rattle.std.specs.Prelude.{◌<◌, unsigned_abs}
-use Rattle.ocpi_text.specs.Decimal.{e4_limit}
+use Rattle.ocpi_text.specs.{e4_limit}
 use Rattle.handover.specs.Cdrs.{group_of}
 use Rattle.handover.proofs.Keeping.{sum_bound, filled, cdr_room_parts}
 use Rattle.handover.proofs.cdr_book.CdrBook.fill.Goals as goal

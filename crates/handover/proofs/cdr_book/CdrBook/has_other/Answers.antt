@@ -1,6 +1,6 @@
 use Rattle.std.proofs.Common.{◌≡◌, ◌∙◌, ap, sym, true, false}
 use Rattle.std.specs.Ordering.{is_eq}
-use Rattle.tables.specs.Keys.{text_total, text_exact}
+use Rattle.tables.specs.{text_exact, text_total}
 use Rattle.handover.proofs.Neighbours.{itself_iff, apart_there, nothing_else}
 use Rattle.handover.proofs.Keeping.{group_total, group_exact, other_id, later_id}
 use Rattle.handover.proofs.cdr_book.CdrBook.has_other.Goals as goal

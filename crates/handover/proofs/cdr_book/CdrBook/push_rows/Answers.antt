@@ -1,5 +1,5 @@
 use Rattle.std.proofs.Common.{◌∷◌, ◌++◌, map, sym, ap, ◌∙◌}
-use Rattle.ocpi_types.specs.declared.rows.Row.TheVariants as row
+use Rattle.ocpi_types.specs.row
 use Rattle.handover.specs.Cdrs.{cdr_row}
 use Rattle.tables.proofs.Elements.{one_more, none_left}
 use Rattle.handover.proofs.cdr_book.CdrBook.push_rows.Goals as goal

@@ -1,4 +1,4 @@
-use Rattle.tables.specs.Keys.{text_pair_total, text_pair_exact}
+use Rattle.tables.specs.{text_pair_exact, text_pair_total}
 use Rattle.tables.proofs.Maps.{get-remove_same, insert_removed}
 use Rattle.handover.proofs.cdr_book.CdrBook.put.Goals as goal
 

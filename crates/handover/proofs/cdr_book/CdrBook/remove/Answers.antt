@@ -1,8 +1,8 @@
 use Rattle.std.proofs.Common.{sym, ap, ◌∙◌, arith}
 use Rattle.std.proofs.lemmas.Int.{ints}
-use Rattle.ocpi_text.specs.Text.{key}
-use Rattle.ocpi_types.specs.Credits.{is_credit}
-use Rattle.tables.specs.Keys.{text_pair_total, text_pair_exact}
+use Rattle.ocpi_text.specs.{key}
+use Rattle.ocpi_types.specs.{is_credit}
+use Rattle.tables.specs.{text_pair_exact, text_pair_total}
 use Rattle.tables.proofs.Maps.{remove_absent}
 use Rattle.handover.specs.Cdrs.{Group}
 use Rattle.handover.proofs.Keeping.{Texts, sum_bound, account_room, cleared, lost_record, lost_both, gave_one, gave_both}

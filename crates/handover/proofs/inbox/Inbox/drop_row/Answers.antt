@@ -1,4 +1,4 @@
-use Rattle.tables.specs.Keys.{text_pair_total, text_pair_exact}
+use Rattle.tables.specs.{text_pair_exact, text_pair_total}
 use Rattle.handover.proofs.Holding.{own_remove, keeps_other_sessions}
 use Rattle.tables.proofs.Rooms.{room_gone}
 use Rattle.handover.proofs.inbox.Inbox.drop_row.Goals as goal

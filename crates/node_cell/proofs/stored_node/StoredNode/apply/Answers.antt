@@ -2,8 +2,7 @@ use Rattle.std.proofs.Common.{subst}
 use Rattle.node_cell.proofs.Carrying.{applied, failed}
 use Rattle.node_cell.proofs.stored_node.StoredNode.apply.Goals as goal
 use Rattle.node_cell.specs.Keepers.{keeper_of}
-use Rattle.node_core.specs.Works.{IsPlanned}
-use Rattle.node_core.specs.declared.work.Planned.{Planned}
+use Rattle.node_core.specs.{IsPlanned, Planned}
 
 pub returns-in-Ok-Acts-clause-ok : goal.returns-in-Ok-Acts-clause-ok
 returns-in-Ok-Acts-clause-ok g c =

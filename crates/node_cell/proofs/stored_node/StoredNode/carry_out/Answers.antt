@@ -3,9 +3,7 @@ use Rattle.node_cell.proofs.Carrying.{carried}
 use Rattle.node_cell.proofs.stored_node.StoredNode.carry_out.Goals as goal
 use Rattle.node_cell.specs.Keepers.{keeper_of}
 use Rattle.node_cell.specs.Stored.{Stored}
-use Rattle.node_core.specs.States.{state_of}
-use Rattle.node_core.specs.Works.{IsWork}
-use Rattle.node_core.specs.declared.input.NodeInput.{NodeInput}
+use Rattle.node_core.specs.{IsWork, NodeInput, state_of}
 
 pub invariant_of-self : goal.invariant_of-self
 invariant_of-self g c =

@@ -1,7 +1,7 @@
 use Rattle.node_cell.proofs.Staying.{reopens}
 use Rattle.node_cell.proofs.stored_node.StoredNode.reopen.Goals as goal
 use Rattle.node_cell.specs.Keepers.{keeper_of}
-use Rattle.node_core.specs.States.{state_of}
+use Rattle.node_core.specs.{state_of}
 
 pub invariant_of-result : goal.invariant_of-result
 invariant_of-result g c =

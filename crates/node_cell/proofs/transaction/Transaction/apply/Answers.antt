@@ -1,8 +1,7 @@
 use Rattle.std.proofs.Common.{subst}
 use Rattle.node_cell.proofs.InMemory.{applied, failed}
 use Rattle.node_cell.proofs.transaction.Transaction.apply.Goals as goal
-use Rattle.node_core.specs.Works.{IsPlanned}
-use Rattle.node_core.specs.declared.work.Planned.{Planned}
+use Rattle.node_core.specs.{IsPlanned, Planned}
 
 pub returns-in-Ok-Acts-clause-ok : goal.returns-in-Ok-Acts-clause-ok
 returns-in-Ok-Acts-clause-ok g c =

@@ -1,9 +1,9 @@
 use Rattle.std.proofs.Common.{List, subst}
-use Rattle.ocpi_types.specs.declared.rows.Change.{Change}
+use Rattle.ocpi_types.specs.{Change}
 use Rattle.node_cell.proofs.Together.{committed}
 use Rattle.node_cell.proofs.transaction.Transaction.commit.Goals as goal
 use Rattle.node_cell.specs.Keepers.{Commits, keeper_of}
-use Rattle.node_core.specs.States.{state_of}
+use Rattle.node_core.specs.{state_of}
 
 pub invariant_of-result : goal.invariant_of-result
 invariant_of-result g c =

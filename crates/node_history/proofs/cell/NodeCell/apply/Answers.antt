@@ -1,5 +1,5 @@
 use Rattle.std.proofs.Common.{subst}
-use Rattle.node_cell.specs.Keepers.{keeper_of}
+use Rattle.node_cell.specs.{keeper_of}
 use Rattle.node_history.proofs.Entering.{entered, goes_on, not_entered}
 use Rattle.node_history.proofs.cell.NodeCell.apply.Goals as goal
 

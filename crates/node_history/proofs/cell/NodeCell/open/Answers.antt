@@ -1,5 +1,5 @@
 use Rattle.std.proofs.Common.{◌∙◌, ◌++◌, ◌∷◌, [], List, ap, subst, sym}
-use Rattle.node_cell.specs.Keepers.{IsSettled, keeper_of}
+use Rattle.node_cell.specs.{IsSettled, keeper_of}
 use Rattle.node_cell.specs.Stored.{Stored}
 use Rattle.node_history.proofs.Entering.{begins}
 use Rattle.node_history.proofs.cell.NodeCell.open.Goals as goal

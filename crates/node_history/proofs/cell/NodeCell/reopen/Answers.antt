@@ -1,5 +1,5 @@
 use Rattle.std.proofs.Common.{◌≡◌, ◌∙◌, ◌++◌, ◌∷◌, [], List, Bool, true, false, ap}
-use Rattle.node_cell.specs.Keepers.{keeper_of}
+use Rattle.node_cell.specs.{keeper_of}
 use Rattle.node_cell.specs.Stored.{Stored}
 use Rattle.node_history.proofs.Entering.{begins, settled_on}
 use Rattle.node_history.proofs.cell.NodeCell.reopen.Goals as goal

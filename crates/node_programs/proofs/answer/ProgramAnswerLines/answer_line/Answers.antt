@@ -1,5 +1,5 @@
 use Rattle.std.proofs.Common.{◌≡◌, ◌++◌, ◌∙◌, ℕ, List, Option, IfErr, IfOk, Some, sym, subst, string_bytes}
-use Rattle.line_runs.specs.declared.run.Turn.{Turn}
+use Rattle.line_runs.specs.{Turn}
 use Rattle.node_programs.specs.Answer.{Answering, LineGives}
 use Rattle.node_programs.proofs.answer.ProgramAnswerLines.answer_line.Goals as goal
 

@@ -1,6 +1,6 @@
 use Rattle.std.proofs.Common.{◌≡◌, ◌++◌, ◌∙◌, ℕ, List, IfErr, IfOk, Some, None, sym, ap, subst, string_bytes}
-use Rattle.line_runs.specs.declared.run.Turn.{Turn}
-use Rattle.node_keepers.specs.Keeping.{keeping_of}
+use Rattle.line_runs.specs.{Turn}
+use Rattle.node_keepers.specs.{keeping_of}
 use Rattle.node_programs.specs.Play.{PlayLineGives, Stage}
 use Rattle.node_programs.proofs.play.ProgramAnswerLines.answer_line.Goals as goal
 

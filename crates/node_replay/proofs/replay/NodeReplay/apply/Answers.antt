@@ -1,4 +1,4 @@
-use Rattle.node_core.specs.States.{state_of}
+use Rattle.node_core.specs.{state_of}
 use Rattle.node_replay.proofs.Staying.{goes_on}
 use Rattle.node_replay.proofs.replay.NodeReplay.apply.Goals as goal
 

@@ -1,4 +1,4 @@
-use Rattle.node_core.specs.States.{state_of}
+use Rattle.node_core.specs.{state_of}
 use Rattle.node_replay.proofs.Staying.{restarted_or_not}
 use Rattle.node_replay.proofs.replay.NodeReplay.restart.Goals as goal
 

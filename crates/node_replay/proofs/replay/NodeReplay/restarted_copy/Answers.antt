@@ -1,6 +1,6 @@
 use Rattle.std.proofs.Common.{◌∙◌, ◌++◌, ◌∷◌, [], List, ap}
-use Rattle.histories.specs.declared.entry.Entry.{Entry}
-use Rattle.node_core.specs.States.{state_of}
+use Rattle.histories.specs.{Entry}
+use Rattle.node_core.specs.{state_of}
 use Rattle.node_replay.specs.Replayed.{restart_entry}
 use Rattle.node_replay.proofs.Staying.{starts_again}
 use Rattle.node_replay.proofs.replay.NodeReplay.restarted_copy.Goals as goal

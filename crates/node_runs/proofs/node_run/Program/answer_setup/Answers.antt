@@ -1,12 +1,12 @@
 use Rattle.std.proofs.Common.{◌≡◌, ◌∙◌, [], None, Some, refl, sym, ap, subst, string_bytes}
 use Rattle.std.proofs.lemmas.List.{append-nil}
 use Rattle.std.proofs.lemmas.Result.{IfOk-weaker}
-use Rattle.line_runs.specs.declared.run.Turn.TheVariants.{Ended, Taken}
-use Rattle.node_cell.specs.Keepers.{keeper_of}
-use Rattle.node_keepers.specs.Opening.{source_of}
+use Rattle.line_runs.specs.{Ended, Taken}
+use Rattle.node_cell.specs.{keeper_of}
+use Rattle.node_keepers.specs.{source_of}
 use Rattle.node_runs.specs.DoneLines.{malformed_line, opened_line}
 use Rattle.node_runs.specs.NodeTurns.{NoSetup, SetupTurn, Stage, Unbegun}
-use Rattle.stored_laws.specs.Nodes.{last_serial}
+use Rattle.stored_laws.specs.{last_serial}
 use Rattle.program_lines.proofs.FaultLemmas.{of_each}
 use Rattle.node_runs.proofs.NodeLemmas.{begins, left_unbegun, stage_of}
 use Rattle.node_runs.proofs.node_run.Program.answer_setup.Goals as goal

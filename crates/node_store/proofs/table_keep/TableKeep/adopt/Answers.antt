@@ -1,5 +1,5 @@
 use Rattle.sqlite.specs.Held.{state}
-use Rattle.row_table.specs.Kept.{content}
+use Rattle.row_table.specs.{content}
 use Rattle.node_store.proofs.MovedStores.{opens_now}
 use Rattle.node_store.proofs.table_keep.TableKeep.adopt.Goals as goal
 

@@ -2,7 +2,7 @@ use Rattle.std.proofs.Common.{◌∙◌}
 use Rattle.sqlite.specs.Held.{state}
 use Rattle.sqlite.specs.Steps.{over_memory}
 use Rattle.sqlite.proofs.Callers.{memory_is_clean}
-use Rattle.row_table.specs.Kept.{content}
+use Rattle.row_table.specs.{content}
 use Rattle.node_store.proofs.Opening.{nothing_bad, nothing_found}
 use Rattle.node_store.proofs.table_opening.TableKeep+MemStore.open_memory.Goals as goal
 

@@ -1,6 +1,6 @@
 use Rattle.std.proofs.Common.{◌≡◌}
-use Rattle.node_steps.specs.Drafts.{with_acts}
-use Rattle.operator_steps.specs.Ends.{all_resent, ends_acts, expired_acts}
+use Rattle.node_steps.specs.{with_acts}
+use Rattle.operator_steps.specs.{all_resent, ends_acts, expired_acts}
 use Rattle.operator_core.specs.Planned.{all_begun}
 use Rattle.operator_core.proofs.Parts.{on_more}
 use Rattle.operator_core.proofs.TickDrafts.{begun_have, ends_have, happening_is, resent_have}

@@ -1,9 +1,8 @@
 use Rattle.std.proofs.Common.{ℕ, List, sym, subst, ◌∙◌, arith}
 use Rattle.std.specs.FinMap.{get}
-use Rattle.node_steps.specs.Acts.{Act}
-use Rattle.node_steps.specs.Drafts.{HasNumbersOf}
+use Rattle.node_steps.specs.{Act, HasNumbersOf}
 use Rattle.node_steps.proofs.Gathering.{turn_at, turn_at_has}
-use Rattle.operator_steps.specs.Ends.{resent_acts}
+use Rattle.operator_steps.specs.{resent_acts}
 use Rattle.operator_core.proofs.Loops.{flat_done, flat_in_turn}
 use Rattle.operator_core.proofs.operator.Operator.add_all_resent.Goals as goal
 

@@ -1,7 +1,7 @@
 use Rattle.std.proofs.Common.{◌≡◌, drop}
 use Rattle.std.specs.FinMap.{get}
 use Rattle.node_steps.proofs.Gathering.{all_turns}
-use Rattle.operator_steps.specs.Ends.{resent_acts}
+use Rattle.operator_steps.specs.{resent_acts}
 use Rattle.operator_core.proofs.operator.Operator.add_all_resent.Given as goal
 
 -- with the pushes that are left, all are sent again

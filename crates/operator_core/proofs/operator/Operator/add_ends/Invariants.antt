@@ -1,6 +1,6 @@
 use Rattle.std.proofs.Common.{◌≡◌, drop}
 use Rattle.node_steps.proofs.Gathering.{all_turns}
-use Rattle.operator_steps.specs.Ends.{end_acts}
+use Rattle.operator_steps.specs.{end_acts}
 use Rattle.operator_core.proofs.operator.Operator.add_ends.Given as goal
 
 -- with the ends that are left, all are gathered

@@ -1,5 +1,5 @@
 use Rattle.std.proofs.Common.{◌≡◌, ◌≤◌, ◌+◌, ◌++◌, ◌∷◌, [], arith}
-use Rattle.ocpi_text.specs.Whole.{max_whole}
+use Rattle.ocpi_text.specs.{max_whole}
 use Rattle.operator_core.proofs.LateBeginnings.{all_numbered, one_numbered}
 use Rattle.operator_core.proofs.operator.Operator.all_begun.Goals as goal
 

@@ -1,5 +1,4 @@
-use Rattle.operator_rows.specs.Rows.{AreChanges}
-use Rattle.operator_rows.specs.Sound.{IsSound}
+use Rattle.operator_rows.specs.{AreChanges, IsSound}
 use Rattle.operator_rows.proofs.RowChanges.{row_changes}
 use Rattle.operator_core.proofs.operator.Operator.carry_out.Goals as goal
 

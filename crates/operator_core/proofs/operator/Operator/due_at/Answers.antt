@@ -1,6 +1,6 @@
-use Rattle.outbox.specs.Due.{AreExactly, IsDue}
-use Rattle.reservation_book.specs.Calls.{AreExpired}
-use Rattle.operator_rows.specs.State.{as_outbox}
+use Rattle.outbox.specs.{AreExactly, IsDue}
+use Rattle.reservation_book.specs.{AreExpired}
+use Rattle.operator_rows.specs.{as_outbox}
 use Rattle.operator_core.proofs.operator.Operator.due_at.Goals as goal
 
 pub returns : goal.returns

@@ -1,5 +1,4 @@
-use Rattle.std.proofs.Common.{◌≡◌, sym}
-use Rattle.std.specs.Prelude.{Some}
+use Rattle.std.proofs.Common.{◌≡◌, sym, Some}
 use Rattle.std.specs.FinMap.{get}
 use Rattle.operator_core.proofs.Parts.{none_more}
 use Rattle.operator_core.proofs.operator.Operator.ended_by.Goals as goal

@@ -1,6 +1,5 @@
-use Rattle.std.proofs.Common.{ap}
-use Rattle.std.specs.Prelude.{is_some}
-use Rattle.operator_steps.specs.Tick.{TickLine}
+use Rattle.std.proofs.Common.{ap, is_some}
+use Rattle.operator_steps.specs.{TickLine}
 use Rattle.operator_core.specs.Planned.{AreBeginnings}
 use Rattle.operator_core.proofs.TickDrafts.{all_happen, starved_own}
 use Rattle.operator_core.proofs.operator.Operator.happening.Goals as goal

@@ -1,5 +1,5 @@
 use Rattle.std.proofs.Common.{◌≡◌}
-use Rattle.operator_steps.specs.Tick.{TickLine}
+use Rattle.operator_steps.specs.{TickLine}
 use Rattle.operator_core.specs.Happenings.{unreplaced}
 use Rattle.operator_core.proofs.CountedDrafts.{returned}
 use Rattle.operator_core.proofs.TickDrafts.{peers_begin, starved_own, unnumbered}

@@ -1,5 +1,5 @@
-use Rattle.ocpi_text.specs.Text.{key}
-use Rattle.session_tables.specs.Places.{IsConnectorAt}
+use Rattle.ocpi_text.specs.{key}
+use Rattle.session_tables.specs.{IsConnectorAt}
 use Rattle.operator_core.proofs.operator.Operator.location_of.Goals as goal
 
 pub unreachable-requires : goal.unreachable-requires

@@ -1,7 +1,6 @@
-use Rattle.std.proofs.Common.{◌≡◌, inl, inr, sym}
-use Rattle.std.specs.Prelude.{Some, None}
+use Rattle.std.proofs.Common.{◌≡◌, inl, inr, sym, Some, None}
 use Rattle.std.specs.FinMap.{get}
-use Rattle.site_book.specs.declared.claim.Claim.TheVariants.{OpenStart}
+use Rattle.site_book.specs.{OpenStart}
 use Rattle.operator_core.proofs.operator.Operator.open_start_at.Goals as goal
 
 pub returns-in_err-provider-clause-none : goal.returns-in_err-provider-clause-none

@@ -1,9 +1,9 @@
 use Rattle.std.proofs.Common.{[], ◌∷◌, refl}
 use Rattle.std.proofs.lemmas.Result.{IfOk-weaker}
-use Rattle.node_steps.specs.Acts.{acknowledged}
-use Rattle.operator_steps.specs.Steps.{Acknowledges, Comes}
-use Rattle.ocpi_types.specs.declared.rows.Change.TheVariants.{Drop}
-use Rattle.ocpi_types.specs.declared.rows.RowKey.TheVariants as keys
+use Rattle.node_steps.specs.{acknowledged}
+use Rattle.operator_steps.specs.{Acknowledges, Comes}
+use Rattle.ocpi_types.specs.{Drop}
+use Rattle.ocpi_types.specs.keys
 use Rattle.operator_core.proofs.PacketLines.{acknowledged_comes, idle_comes}
 use Rattle.operator_core.proofs.PlannedActs.{IsNoCount, change_in_range, may_step, none_in_range, planned_change, planned_none}
 use Rattle.operator_core.proofs.operator.Operator.plan_ack.Goals as goal

@@ -1,8 +1,7 @@
 use Rattle.std.proofs.Common.{◌≡◌, ◌+◌, ℕ, List, length, ap, ◌∙◌}
-use Rattle.node_steps.specs.Acts.{Act, all_messages, all_requests}
-use Rattle.node_steps.specs.Drafts.{Gathered}
+use Rattle.node_steps.specs.{Act, Gathered, all_messages, all_requests}
 use Rattle.node_steps.proofs.Gathering.{has_all, step_is}
-use Rattle.operator_steps.specs.Moves.{counters_of}
+use Rattle.operator_steps.specs.{counters_of}
 use Rattle.operator_core.specs.Happenings.{happening_acts}
 use Rattle.operator_core.proofs.CountedDrafts.{counted_in_range, counted_refused, counted_starved}
 use Rattle.operator_core.proofs.TickDrafts.{happening_ask, happening_send, happening_within}

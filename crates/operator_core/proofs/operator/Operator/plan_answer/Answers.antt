@@ -1,12 +1,7 @@
 use Rattle.std.proofs.Common.{◌≡◌, List, [], ◌∷◌, sym, subst}
-use Rattle.authorization_book.specs.declared.waiting.Waiting.{Waiting}
-use Rattle.authorization_book.specs.declared.waiting.Waiting.TheVariants.{Ends}
-use Rattle.node_steps.specs.Drafts.{step_of}
-use Rattle.node_steps.specs.declared.fault.NodeFault.TheVariants.{Memory}
-use Rattle.operator_steps.specs.Asking.{IsAwaited}
-use Rattle.operator_steps.specs.Faults.{IsDue}
-use Rattle.operator_steps.specs.Moves.{PlannedBy}
-use Rattle.operator_steps.specs.Steps.{Comes}
+use Rattle.authorization_book.specs.{Ends, Waiting}
+use Rattle.node_steps.specs.{Memory, step_of}
+use Rattle.operator_steps.specs.{Comes, IsAwaited, IsDue, PlannedBy}
 use Rattle.operator_core.proofs.PacketLines.{answer_fault, answer_may, answer_planned, unasked_comes}
 use Rattle.operator_core.proofs.Parts.{err_one}
 use Rattle.operator_core.proofs.PlannedActs.{planned_none}

@@ -1,7 +1,6 @@
 use Rattle.std.proofs.Common.{arith}
-use Rattle.node_steps.specs.Drafts.{step_of}
-use Rattle.node_steps.specs.Peers.{IsPeer}
-use Rattle.operator_steps.specs.Moves.{counters_of}
+use Rattle.node_steps.specs.{IsPeer, step_of}
+use Rattle.operator_steps.specs.{counters_of}
 use Rattle.operator_core.proofs.AskedDrafts.{ask_planned, ask_refused, ask_starved}
 use Rattle.operator_core.proofs.CountedDrafts.{opened_with}
 use Rattle.operator_core.proofs.operator.Operator.plan_asked.Goals as goal

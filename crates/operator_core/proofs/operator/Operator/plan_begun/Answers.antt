@@ -1,9 +1,8 @@
 use Rattle.std.proofs.Common.{◌≡◌, ◌≤◌, ◌+◌, ℕ, List, length, subst, ◌∙◌, arith}
-use Rattle.ocpi_text.specs.Whole.{max_whole}
-use Rattle.node_steps.specs.Acts.{Act}
-use Rattle.node_steps.specs.Drafts.{with_acts}
+use Rattle.ocpi_text.specs.{max_whole}
+use Rattle.node_steps.specs.{Act, with_acts}
 use Rattle.node_steps.proofs.Gathering.{step_is}
-use Rattle.operator_steps.specs.Moves.{counters_of}
+use Rattle.operator_steps.specs.{counters_of}
 use Rattle.operator_core.specs.Planned.{IsNewSession, begins_acts}
 use Rattle.operator_core.proofs.BeginningCounts.{begins_ask, begins_line, begins_send, begins_within}
 use Rattle.operator_core.proofs.BeginningStops.{begins_refused, begins_starved, begins_unnumbered}

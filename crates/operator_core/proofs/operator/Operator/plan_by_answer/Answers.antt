@@ -1,12 +1,9 @@
-use Rattle.std.proofs.Common.{[], refl, sym, subst, ◌∙◌}
-use Rattle.std.specs.Prelude.{None}
-use Rattle.ocpi_text.specs.Text.{key}
-use Rattle.node_steps.specs.Drafts.{step_of}
-use Rattle.node_steps.specs.Peers.{HasPeer}
+use Rattle.std.proofs.Common.{[], refl, sym, subst, ◌∙◌, None}
+use Rattle.ocpi_text.specs.{key}
+use Rattle.node_steps.specs.{HasPeer, step_of}
 use Rattle.node_steps.proofs.Gathering.{step_of_none}
-use Rattle.operator_steps.specs.Moves.{counters_of}
-use Rattle.session_tables.specs.Answers.{BeginsByAnswer, Decided}
-use Rattle.session_tables.specs.declared.beginning.Beginning.{Beginning}
+use Rattle.operator_steps.specs.{counters_of}
+use Rattle.session_tables.specs.{Beginning, BeginsByAnswer, Decided}
 use Rattle.operator_core.proofs.AnswerActs.{answer_plans, answer_stops}
 use Rattle.operator_core.proofs.PlannedActs.{none_in_range}
 use Rattle.operator_core.proofs.operator.Operator.plan_by_answer.Goals as goal

@@ -1,12 +1,7 @@
-use Rattle.std.proofs.Common.{[], ◌∷◌, sym, subst}
-use Rattle.std.specs.Prelude.{None}
+use Rattle.std.proofs.Common.{[], ◌∷◌, sym, subst, None}
 use Rattle.tables.proofs.Elements.{in_single}
-use Rattle.operator_rows.specs.FullSteps.{full_step_of}
-use Rattle.operator_steps.specs.declared.ending.Ending.{Ending}
-use Rattle.operator_steps.specs.Charger.{ChargerLine}
-use Rattle.operator_steps.specs.Ends.{IsOpen}
-use Rattle.operator_steps.specs.Faults.{IsReportFault}
-use Rattle.operator_steps.specs.Moves.{PlannedBy, quiet}
+use Rattle.operator_rows.specs.{full_step_of}
+use Rattle.operator_steps.specs.{ChargerLine, Ending, IsOpen, IsReportFault, PlannedBy, quiet}
 use Rattle.operator_steps.proofs.ReportSteps.{reports}
 use Rattle.operator_core.specs.Planned.{BeginsWith}
 use Rattle.operator_core.specs.Requests.{acts_of_end}

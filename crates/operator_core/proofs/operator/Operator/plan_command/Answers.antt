@@ -1,7 +1,5 @@
-use Rattle.node_steps.specs.Drafts.{step_of}
-use Rattle.operator_steps.specs.Acts.{decided_acts}
-use Rattle.operator_steps.specs.Moves.{quiet}
-use Rattle.operator_steps.specs.Steps.{Comes}
+use Rattle.node_steps.specs.{step_of}
+use Rattle.operator_steps.specs.{Comes, decided_acts, quiet}
 use Rattle.operator_core.proofs.PacketLines.{decided_comes, due_faults}
 use Rattle.operator_core.proofs.PlannedActs.{all_planned}
 use Rattle.operator_core.proofs.operator.Operator.plan_command.Goals as goal

@@ -1,4 +1,4 @@
-use Rattle.node_steps.specs.Drafts.{step_of}
+use Rattle.node_steps.specs.{step_of}
 use Rattle.operator_core.specs.Bills.{IsRecorded, completed_acts}
 use Rattle.operator_core.proofs.Billing.{recorded_completed, unbilled}
 use Rattle.operator_core.proofs.CountedDrafts.{line_planned, line_stops_early, returned, starved_early}

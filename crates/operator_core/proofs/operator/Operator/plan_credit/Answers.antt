@@ -1,6 +1,5 @@
 use Rattle.std.proofs.Common.{sym, subst}
-use Rattle.operator_steps.specs.Credits.{CreditLine, CreditsTo}
-use Rattle.operator_steps.specs.Moves.{PlannedBy, Quietly, Work}
+use Rattle.operator_steps.specs.{CreditLine, CreditsTo, PlannedBy, Quietly, Work}
 use Rattle.operator_steps.proofs.CreditSteps.{credits}
 use Rattle.operator_core.proofs.CountedDrafts.{returned}
 use Rattle.operator_core.proofs.Crediting.{credit_fault, credits_to, goes_nowhere, none_uncredited, taken_back}

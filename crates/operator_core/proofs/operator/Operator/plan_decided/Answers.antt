@@ -1,11 +1,9 @@
 use Rattle.std.proofs.Common.{◌≡◌, ◌∙◌, ℕ, ◌+◌, length, ap}
-use Rattle.ocpi_types.specs.declared.commands.Command.{Command}
-use Rattle.node_steps.specs.Acts.{all_messages, all_requests}
+use Rattle.ocpi_types.specs.{Command}
+use Rattle.node_steps.specs.{all_messages, all_requests}
 use Rattle.node_steps.proofs.Gathering.{has_all, step_is}
-use Rattle.operator_tables.specs.declared.decision.Decision.{Decision}
-use Rattle.operator_tables.specs.declared.request.Request.{Request}
-use Rattle.operator_steps.specs.Acts.{result_of}
-use Rattle.operator_steps.specs.Moves.{counters_of}
+use Rattle.operator_tables.specs.{Decision, Request}
+use Rattle.operator_steps.specs.{counters_of, result_of}
 use Rattle.operator_core.specs.Requests.{decided_by, result_count}
 use Rattle.operator_core.proofs.Decisions.{decided_asks, decided_within, decided_sends}
 use Rattle.operator_core.proofs.CountedDrafts.{counted_in_range, counted_refused, counted_starved}

@@ -1,8 +1,7 @@
 use Rattle.std.proofs.Common.{◌∙◌, ℕ, List, [], ◌∷◌, sym}
-use Rattle.node_steps.specs.Acts.{Act}
+use Rattle.node_steps.specs.{Act}
 use Rattle.node_steps.proofs.Gathering.{has_all, step_is}
-use Rattle.operator_steps.specs.Ends.{ends_acts}
-use Rattle.operator_steps.specs.Moves.{counters_of}
+use Rattle.operator_steps.specs.{counters_of, ends_acts}
 use Rattle.operator_steps.proofs.Ends.{ends_ask, ends_send}
 use Rattle.operator_core.proofs.CountedDrafts.{counted_in_range, counted_refused, counted_starved}
 use Rattle.operator_core.proofs.operator.Operator.plan_end.Goals as goal

@@ -1,4 +1,4 @@
-use Rattle.node_steps.specs.Drafts.{step_of}
+use Rattle.node_steps.specs.{step_of}
 use Rattle.operator_core.specs.Bills.{IsRecorded}
 use Rattle.operator_core.specs.Planned.{version_acts}
 use Rattle.operator_core.proofs.Billing.{recorded_going}

@@ -1,9 +1,7 @@
 use Rattle.std.proofs.Common.{sym, subst}
-use Rattle.operator_steps.specs.Charger.{ChargerLine}
-use Rattle.operator_steps.specs.Faults.{IsReportFault}
-use Rattle.operator_steps.specs.Moves.{PlannedBy}
+use Rattle.operator_steps.specs.{ChargerLine, IsReportFault, PlannedBy}
 use Rattle.operator_core.specs.Bills.{IsRecorded}
-use Rattle.session_tables.specs.Moved.{IsMoved}
+use Rattle.session_tables.specs.{IsMoved}
 use Rattle.session_tables.specs.declared.outcome.Moved.TheVariants as moved
 use Rattle.operator_core.proofs.Parts.{err_one}
 use Rattle.operator_core.proofs.ReportLines.{completed_moves, early_fault, line_planned, moved_line, moved_place, moved_provider, nothing_moves, refused_moves, to_moves}

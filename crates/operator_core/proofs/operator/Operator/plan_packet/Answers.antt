@@ -1,11 +1,7 @@
-use Rattle.std.proofs.Common.{ℕ, inl, inr, sym, subst}
-use Rattle.std.specs.Prelude.{IfOk, IfErr}
-use Rattle.node_steps.specs.declared.fault.NodeFault.TheVariants.{Memory}
-use Rattle.operator_rows.specs.FullSteps.{full_step_of}
-use Rattle.operator_rows.specs.Steps.{MayFollowFull}
-use Rattle.operator_steps.specs.Faults.{IsDue}
-use Rattle.operator_steps.specs.Moves.{PlannedBy}
-use Rattle.operator_steps.specs.Steps.{Comes}
+use Rattle.std.proofs.Common.{ℕ, inl, inr, sym, subst, IfOk, IfErr}
+use Rattle.node_steps.specs.{Memory}
+use Rattle.operator_rows.specs.{MayFollowFull, full_step_of}
+use Rattle.operator_steps.specs.{Comes, IsDue, PlannedBy}
 use Rattle.operator_steps.proofs.PacketSteps.{packets}
 use Rattle.operator_core.proofs.PacketLines.{request_at}
 use Rattle.operator_core.proofs.Parts.{err_none, err_one}

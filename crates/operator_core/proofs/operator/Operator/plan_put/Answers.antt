@@ -1,10 +1,8 @@
-use Rattle.std.proofs.Common.{◌≡◌, ◌∙◌, arith}
-use Rattle.std.specs.Prelude.{IfOk}
-use Rattle.ocpi_text.specs.Text.{key}
-use Rattle.token_desk.specs.Putting.{PutLine}
+use Rattle.std.proofs.Common.{◌≡◌, ◌∙◌, arith, IfOk}
+use Rattle.ocpi_text.specs.{key}
+use Rattle.token_desk.specs.{PutLine}
 use Rattle.node_steps.proofs.Gathering.{step_is}
-use Rattle.operator_steps.specs.Moves.{counters_of}
-use Rattle.operator_steps.specs.Steps.{TokenLine}
+use Rattle.operator_steps.specs.{TokenLine, counters_of}
 use Rattle.operator_core.specs.Requests.{put_acts}
 use Rattle.operator_core.proofs.CountedDrafts.{counted_in_range, counted_refused, counted_starved, opened_with, line_stops}
 use Rattle.operator_core.proofs.TokenLines.{put_asks, put_within, put_sends, token_line}

@@ -1,11 +1,8 @@
-use Rattle.std.proofs.Common.{◌≡◌, [], ◌∷◌, ◌∙◌, ap, sym, inl, inr}
-use Rattle.ocpi_types.specs.declared.packet.Body.TheVariants as body
-use Rattle.std.specs.Prelude.{Some, None}
+use Rattle.std.proofs.Common.{◌≡◌, [], ◌∷◌, ◌∙◌, ap, sym, inl, inr, Some, None}
+use Rattle.ocpi_types.specs.body
 use Rattle.std.specs.FinMap.{get}
-use Rattle.node_steps.specs.Acts.{repeated}
-use Rattle.node_steps.specs.Drafts.{step_of}
-use Rattle.operator_steps.specs.Moves.{quiet}
-use Rattle.operator_steps.specs.Steps.{Comes, TokenLine}
+use Rattle.node_steps.specs.{repeated, step_of}
+use Rattle.operator_steps.specs.{Comes, TokenLine, quiet}
 use Rattle.operator_core.proofs.PacketLines.{again_comes, due_faults, token_comes, token_faults}
 use Rattle.operator_core.proofs.PlannedActs.{all_planned, all_quiet}
 use Rattle.operator_core.proofs.operator.Operator.plan_request.Goals as goal

@@ -1,10 +1,9 @@
 use Rattle.std.proofs.Common.{◌∷◌, [], refl, sym, subst}
-use Rattle.operator_steps.specs.Moves.{PlannedBy, Quietly, Work}
-use Rattle.operator_steps.specs.Service.{ServiceLine}
+use Rattle.operator_steps.specs.{PlannedBy, Quietly, ServiceLine, Work}
 use Rattle.operator_steps.proofs.ServiceSteps.{services}
 use Rattle.operator_core.proofs.PlannedActs.{planned_change, planned_may, planned_none}
 use Rattle.operator_core.proofs.ServiceChanges.{service_no_count}
-use Rattle.node_steps.specs.Acts.{changed}
+use Rattle.node_steps.specs.{changed}
 use Rattle.operator_core.proofs.operator.Operator.plan_service.Goals as goal
 
 pub returns-in_ok-one-in-Some-clause-step : goal.returns-in_ok-one-in-Some-clause-step

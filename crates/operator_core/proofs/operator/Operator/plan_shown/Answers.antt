@@ -1,18 +1,11 @@
-use Rattle.std.proofs.Common.{◌≡◌, ◌⊎◌, List, [], ℕ, inl, inr, refl, sym, subst}
-use Rattle.std.specs.Prelude.{None}
-use Rattle.ocpi_types.specs.declared.rows.Place.{Place}
-use Rattle.ocpi_types.specs.declared.token.Token.{Token}
-use Rattle.operator_rows.specs.FullSteps.{full_step_of}
+use Rattle.std.proofs.Common.{◌≡◌, ◌⊎◌, List, [], ℕ, inl, inr, refl, sym, subst, None}
+use Rattle.ocpi_types.specs.{ChargerEvent, Place, Token}
+use Rattle.operator_rows.specs.{full_step_of}
 use Rattle.operator_rows.specs.State.{State}
-use Rattle.ocpi_types.specs.declared.events.ChargerEvent.{ChargerEvent}
-use Rattle.operator_steps.specs.Asking.{IsAsked}
-use Rattle.operator_steps.specs.Charger.{ChargerLine, Idle, Shows}
-use Rattle.operator_steps.specs.Faults.{IsReportFault}
-use Rattle.operator_steps.specs.Moves.{PlannedBy}
+use Rattle.operator_steps.specs.{ChargerLine, Idle, IsAsked, IsReportFault, PlannedBy, Shows}
 use Rattle.operator_core.specs.Planned.{BeginsWith}
-use Rattle.session_tables.specs.declared.beginning.Beginning.{Beginning}
-use Rattle.session_tables.specs.declared.shown.Shown.{Shown}
-use Rattle.session_tables.specs.declared.shown.Shown.TheVariants as shown
+use Rattle.session_tables.specs.{Beginning, Shown}
+use Rattle.session_tables.specs.shown
 use Rattle.operator_core.proofs.Parts.{err_one}
 use Rattle.operator_core.proofs.PlannedActs.{planned_none}
 use Rattle.operator_core.proofs.ReportLines.{asked_line, asks_provider, begins_provider, begun_line, line_fault, line_planned, works_faults, works_planned}

@@ -1,9 +1,9 @@
 use Rattle.std.proofs.Common.{◌≡◌, map}
 use Rattle.authorization_book.specs.Waits as waits
-use Rattle.authorization_book.specs.declared.waiting.Waiting.TheVariants.{Ends}
-use Rattle.outbox.specs.Due.{AreExactly}
-use Rattle.node_steps.specs.Drafts.{step_of}
-use Rattle.operator_steps.specs.Tick.{TickLine}
+use Rattle.authorization_book.specs.{Ends}
+use Rattle.outbox.specs.{AreExactly}
+use Rattle.node_steps.specs.{step_of}
+use Rattle.operator_steps.specs.{TickLine}
 use Rattle.operator_steps.proofs.TickSteps.{ticks, timed_open}
 use Rattle.operator_core.specs.Happenings.{IsHappening}
 use Rattle.operator_core.proofs.CountedDrafts.{returned}

@@ -1,7 +1,7 @@
 use Rattle.std.proofs.Common.{ℕ, List, ◌∙◌, arith}
-use Rattle.node_steps.specs.Acts.{Act}
+use Rattle.node_steps.specs.{Act}
 use Rattle.node_steps.proofs.Gathering.{step_is}
-use Rattle.operator_steps.specs.Moves.{counters_of}
+use Rattle.operator_steps.specs.{counters_of}
 use Rattle.operator_core.specs.Planned.{version_acts}
 use Rattle.operator_core.proofs.CountedDrafts.{counted_in_range, counted_refused, counted_starved, opened_with}
 use Rattle.operator_core.proofs.VersionCounts.{version_asks, version_sends, version_within}

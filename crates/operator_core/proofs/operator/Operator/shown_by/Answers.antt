@@ -1,9 +1,8 @@
 use Rattle.std.proofs.Common.{inr, subst}
-use Rattle.operator_steps.specs.Charger.{Shows}
+use Rattle.operator_steps.specs.{Shows}
 use Rattle.operator_core.proofs.Showing.{swipe_nothing}
 use Rattle.operator_core.proofs.operator.Operator.shown_by.Goals as goal
-use Rattle.session_tables.specs.Swipes.{SwipeLine}
-use Rattle.session_tables.specs.declared.shown.Shown.{Shown}
+use Rattle.session_tables.specs.{Shown, SwipeLine}
 
 pub returns-in-Swipe-clause-shows : goal.returns-in-Swipe-clause-shows
 returns-in-Swipe-clause-shows c =

@@ -1,9 +1,8 @@
-use Rattle.std.proofs.Common.{◌≡◌, ◌∙◌, ℕ, List, sym}
-use Rattle.std.specs.Prelude.{Some, None, Contains}
+use Rattle.std.proofs.Common.{◌≡◌, ◌∙◌, ℕ, List, sym, Some, None, Contains}
 use Rattle.std.specs.FinMap.{get}
-use Rattle.ocpi_text.specs.Text.{key}
+use Rattle.ocpi_text.specs.{key}
 use Rattle.session_tables.specs.Accepts.{Accepts}
-use Rattle.session_tables.specs.Answers.{Decided}
+use Rattle.session_tables.specs.{Decided}
 use Rattle.operator_core.proofs.StartedLines.{started_is, starts_unbegun, starts_unlisted, starts_unopened}
 use Rattle.operator_core.proofs.operator.Operator.started_by.Goals as goal
 

@@ -1,7 +1,5 @@
-use Rattle.std.proofs.Common.{◌≡◌, map, take}
-use Rattle.std.specs.Prelude.{Contains}
-use Rattle.operator_steps.specs.declared.ending.Ending.{Ending}
-use Rattle.operator_steps.specs.Tick.{IsTimeout, request_of}
+use Rattle.std.proofs.Common.{◌≡◌, map, take, Contains}
+use Rattle.operator_steps.specs.{Ending, IsTimeout, request_of}
 use Rattle.operator_core.proofs.operator.Operator.timed_out.Given as goal
 
 abbrev pub invariant-loop-provider : goal.invariant-loop-provider

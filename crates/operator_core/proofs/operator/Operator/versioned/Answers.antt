@@ -1,10 +1,10 @@
 use Rattle.std.proofs.Common.{◌≡◌, ap, subst, refl}
-use Rattle.ocpi_types.specs.declared.sessions.Session.{Session}
-use Rattle.ocpi_types.specs.declared.stored.Push.TheVariants as push
-use Rattle.outbox.specs.Outbox.{OutboxRows}
-use Rattle.outbox.specs.Pushes.{IsReplaced, Pushes, subject}
-use Rattle.node_steps.specs.Peers.{IsPeer}
-use Rattle.operator_rows.specs.State.{as_outbox}
+use Rattle.ocpi_types.specs.{Session}
+use Rattle.ocpi_types.specs.push
+use Rattle.outbox.specs.{IsReplaced, OutboxRows, subject}
+use Rattle.outbox.specs.Pushes.{Pushes}
+use Rattle.node_steps.specs.{IsPeer}
+use Rattle.operator_rows.specs.{as_outbox}
 use Rattle.operator_core.proofs.operator.Operator.versioned.Goals as goal
 
 pub returns : goal.returns

@@ -1,5 +1,5 @@
 use Rattle.std.proofs.Common.{◌≡◌, map, take}
-use Rattle.authorization_book.specs.declared.waiting.Waiting.TheVariants.{Ends}
+use Rattle.authorization_book.specs.{Ends}
 use Rattle.operator_core.proofs.ticks.late_authorizations.ended.Given as goal
 
 abbrev pub invariant-loop-number : goal.invariant-loop-number

@@ -1,7 +1,6 @@
 use Rattle.std.proofs.Common.{sym, subst}
-use Rattle.tables.specs.Keys.{text_pair_cmp}
-use Rattle.tables.specs.Tables.{shown_of}
-use Rattle.node_steps.specs.Drafts.{step_of}
+use Rattle.tables.specs.{shown_of, text_pair_cmp}
+use Rattle.node_steps.specs.{step_of}
 use Rattle.operator_rows.specs.Steps.{Node, HaveTimeRoom}
 use Rattle.operator_rows.proofs.KeepingRows.{kept_resent}
 use Rattle.operator_rows.proofs.TimeRooms.{step_room}

@@ -1,4 +1,4 @@
-use Rattle.node_steps.specs.Drafts.{step_of}
+use Rattle.node_steps.specs.{step_of}
 use Rattle.operator_rows.proofs.KeepingTimes.{awaitable_after}
 use Rattle.operator_rows.proofs.books.Books.apply_full.Goals as goal
 

@@ -1,6 +1,6 @@
 use Rattle.std.proofs.Common.{◌≡◌, length}
 use Rattle.std.specs.Vec.Iter.{into_iter_items, into_iter_len}
-use Rattle.outbox.specs.Resend.{SendRooms}
+use Rattle.outbox.specs.{SendRooms}
 use Rattle.operator_rows.specs.Sound.{MayChangeAll}
 use Rattle.operator_rows.specs.Steps.{KeepsTimeRoom, untimed_all}
 use Rattle.operator_rows.specs.Stored.{AreApart, Each, HasRoom, changed_all}

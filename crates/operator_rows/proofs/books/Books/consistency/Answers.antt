@@ -1,5 +1,5 @@
 use Rattle.std.proofs.Common.{subst}
-use Rattle.outbox.specs.Outbox.{AreResent}
+use Rattle.outbox.specs.{AreResent}
 use Rattle.operator_rows.specs.Sound.{IsConsistent}
 use Rattle.operator_rows.specs.Steps.{Node}
 use Rattle.operator_rows.proofs.KeepingRows.{all_of_outbox}

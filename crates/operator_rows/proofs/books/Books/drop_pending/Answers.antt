@@ -1,5 +1,5 @@
 use Rattle.std.proofs.Common.{sym, subst}
-use Rattle.ocpi_types.specs.declared.rows.RowKey.TheVariants as keys
+use Rattle.ocpi_types.specs.keys
 use Rattle.operator_rows.specs.contracts.books.Books.{the_view}
 use Rattle.operator_rows.specs.Steps.{Node}
 use Rattle.operator_rows.proofs.ClaimIndex.{IsTaken}

@@ -1,8 +1,7 @@
 use Rattle.std.proofs.Common.{ap, ◌∙◌}
 use Rattle.std.specs.Ordering.{nat_cmp}
 use Rattle.std.specs.FinMap.{get, get-empty}
-use Rattle.tables.specs.Keys.{text_pair_cmp}
-use Rattle.tables.specs.Tables.{shown_of}
+use Rattle.tables.specs.{shown_of, text_pair_cmp}
 use Rattle.operator_rows.proofs.KeepingRows.{kept_drop_push}
 use Rattle.operator_rows.proofs.books.Books.drop_push.Goals as goal
 

@@ -1,6 +1,6 @@
 use Rattle.std.proofs.Common.{refl}
-use Rattle.ocpi_types.specs.declared.rows.RowKey.TheVariants as keys
-use Rattle.site_book.specs.declared.claim.SiteFault.TheVariants.{UnknownEvse}
+use Rattle.ocpi_types.specs.keys
+use Rattle.site_book.specs.{UnknownEvse}
 use Rattle.operator_rows.proofs.KeepingRows.{kept_drop, was_done}
 use Rattle.operator_rows.proofs.books.Books.drop_service.Goals as goal
 

@@ -1,6 +1,6 @@
 use Rattle.std.proofs.Common.{sym, subst}
 use Rattle.authorization_book.specs.Waits as waits
-use Rattle.node_steps.specs.Drafts.{step_of}
+use Rattle.node_steps.specs.{step_of}
 use Rattle.operator_rows.specs.FullSteps.{full_step_of}
 use Rattle.operator_rows.proofs.TimeRooms.{full_room, same_room}
 use Rattle.operator_rows.proofs.books.Books.make_full_room.Goals as goal

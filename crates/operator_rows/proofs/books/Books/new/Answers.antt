@@ -1,5 +1,4 @@
-use Rattle.tables.specs.Keys.{text_pair_cmp}
-use Rattle.tables.specs.Tables.{shown_of}
+use Rattle.tables.specs.{shown_of, text_pair_cmp}
 use Rattle.operator_rows.proofs.KeepingRows.{kept_new}
 use Rattle.operator_rows.proofs.books.Books.new.Goals as goal
 

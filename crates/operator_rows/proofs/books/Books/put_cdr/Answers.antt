@@ -1,5 +1,5 @@
 use Rattle.std.proofs.Common.{refl}
-use Rattle.ocpi_types.specs.declared.rows.Row.TheVariants as row
+use Rattle.ocpi_types.specs.row
 use Rattle.operator_rows.proofs.KeepingRows.{kept_put}
 use Rattle.operator_rows.proofs.books.Books.put_cdr.Goals as goal
 

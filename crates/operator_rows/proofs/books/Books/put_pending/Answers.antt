@@ -1,7 +1,7 @@
 use Rattle.std.proofs.Common.{sym, subst}
-use Rattle.ocpi_types.specs.declared.rows.RowKey.TheVariants as keys
+use Rattle.ocpi_types.specs.keys
 use Rattle.operator_rows.specs.contracts.books.Books.{the_view}
-use Rattle.ocpi_types.specs.declared.stored.OpenCommand.{OpenCommand}
+use Rattle.ocpi_types.specs.{OpenCommand}
 use Rattle.operator_rows.specs.Steps.{Node}
 use Rattle.operator_rows.proofs.ClaimIndex.{IsTaken, AreTakenBy, taken_of_site}
 use Rattle.operator_rows.proofs.KeepingRows.{kept_put_open}

@@ -1,8 +1,6 @@
 use Rattle.std.proofs.Common.{sym, subst}
-use Rattle.tables.specs.Keys.{text_pair_cmp}
-use Rattle.tables.specs.Tables.{shown_of}
-use Rattle.outbox.specs.Pushes.{subject}
-use Rattle.outbox.specs.Outbox.{OutboxRows, MayPutPush}
+use Rattle.tables.specs.{shown_of, text_pair_cmp}
+use Rattle.outbox.specs.{MayPutPush, OutboxRows, subject}
 use Rattle.operator_rows.proofs.KeepingRows.{kept_put_push, all_of_outbox}
 use Rattle.operator_rows.proofs.books.Books.put_push.Goals as goal
 

@@ -1,6 +1,6 @@
 use Rattle.std.proofs.Common.{refl}
-use Rattle.ocpi_types.specs.declared.rows.Row.TheVariants as row
-use Rattle.site_book.specs.declared.claim.SiteFault.TheVariants.{UnknownEvse}
+use Rattle.ocpi_types.specs.row
+use Rattle.site_book.specs.{UnknownEvse}
 use Rattle.operator_rows.proofs.KeepingRows.{kept_put, was_done}
 use Rattle.operator_rows.proofs.books.Books.put_service.Goals as goal
 

@@ -1,6 +1,6 @@
 use Rattle.std.proofs.Common.{sym, subst}
-use Rattle.ocpi_text.specs.Text.{key}
-use Rattle.ocpi_types.specs.declared.sessions.Session.{Session}
+use Rattle.ocpi_text.specs.{key}
+use Rattle.ocpi_types.specs.{Session}
 use Rattle.operator_rows.specs.contracts.books.Books.{the_view}
 use Rattle.operator_rows.specs.Steps.{Node}
 use Rattle.operator_rows.proofs.KeepingRows.{kept_put_live}

@@ -1,5 +1,4 @@
-use Rattle.std.proofs.Common.{◌∙◌, sym, subst}
-use Rattle.std.specs.Prelude.{IsTrue}
+use Rattle.std.proofs.Common.{◌∙◌, sym, subst, IsTrue}
 use Rattle.std.specs.FinMap.{contains_key}
 use Rattle.outbox.specs.Resend.{Moments}
 use Rattle.outbox.proofs.Timing.{queue_set, room_set, both_rooms}

@@ -1,5 +1,4 @@
-use Rattle.std.proofs.Common.{ap}
-use Rattle.std.specs.Prelude.{is_some}
+use Rattle.std.proofs.Common.{ap, is_some}
 use Rattle.outbox.proofs.Timing.{least_number, none_number}
 use Rattle.outbox.proofs.sent_commands.SentCommands.lowest_from.Goals as goal
 

@@ -1,6 +1,5 @@
-use Rattle.std.proofs.Common.{◌≡◌, ◌∷◌, ◌++◌, ℕ, List, [], ap, append_assoc, arith, codes}
-use Rattle.std.specs.Prelude.{decimal}
-use Rattle.provider_steps.specs.Acts.{own_url}
+use Rattle.std.proofs.Common.{◌≡◌, ◌∷◌, ◌++◌, ℕ, List, [], ap, append_assoc, arith, codes, decimal}
+use Rattle.provider_steps.specs.{own_url}
 use Rattle.provider_core.proofs.OwnUrls.{own_url_is}
 use Rattle.provider_core.proofs.orders.response_urls.own_url.Goals as goal
 

@@ -1,9 +1,8 @@
 use Rattle.std.proofs.Common.{◌≡◌, ℕ, List, sym, subst, ◌∙◌, arith}
 use Rattle.std.specs.FinMap.{get}
-use Rattle.node_steps.specs.Acts.{Act}
-use Rattle.node_steps.specs.Drafts.{HasNumbersOf}
+use Rattle.node_steps.specs.{Act, HasNumbersOf}
 use Rattle.node_steps.proofs.Gathering.{turn_at, turn_at_has, all_turns}
-use Rattle.provider_steps.specs.Tick.{resent_acts, all_resent}
+use Rattle.provider_steps.specs.{all_resent, resent_acts}
 use Rattle.provider_core.proofs.Loops.{flat_done, flat_in_turn}
 use Rattle.provider_core.proofs.provider.Provider.add_all_resent.Goals as goal
 

@@ -1,7 +1,7 @@
 use Rattle.std.proofs.Common.{◌≡◌, drop}
 use Rattle.std.specs.FinMap.{get}
 use Rattle.node_steps.proofs.Gathering.{all_turns}
-use Rattle.provider_steps.specs.Tick.{resent_acts}
+use Rattle.provider_steps.specs.{resent_acts}
 use Rattle.provider_core.proofs.provider.Provider.add_all_resent.Given as goal
 
 -- with the requests that are left, all are sent again

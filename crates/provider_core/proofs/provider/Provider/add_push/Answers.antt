@@ -1,8 +1,8 @@
 use Rattle.std.proofs.Common.{◌≡◌, ap, subst}
-use Rattle.ocpi_types.specs.declared.stored.Push.TheVariants as push
-use Rattle.ocpi_types.specs.declared.token.Token.{Token}
-use Rattle.outbox.specs.Outbox.{OutboxRows}
-use Rattle.outbox.specs.Pushes.{IsReplaced, Pushes, subject}
+use Rattle.ocpi_types.specs.push
+use Rattle.ocpi_types.specs.{Token}
+use Rattle.outbox.specs.{IsReplaced, OutboxRows, subject}
+use Rattle.outbox.specs.Pushes.{Pushes}
 use Rattle.provider_core.proofs.Plans.{on_more}
 use Rattle.provider_core.proofs.Pushing.{push_is}
 use Rattle.provider_core.proofs.provider.Provider.add_push.Goals as goal

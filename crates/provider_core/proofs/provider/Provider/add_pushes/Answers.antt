@@ -1,6 +1,6 @@
 use Rattle.std.proofs.Common.{◌≡◌, ◌≤◌, length, refl, sym, ap, subst, arith}
-use Rattle.node_steps.specs.Drafts.{HasNumbers}
-use Rattle.provider_core.proofs.Pushing.{all_pushed, next_has, none_pushed, turn_pushed}
+use Rattle.node_steps.specs.{HasNumbers}
+use Rattle.provider_core.proofs.Pushing.{all_pushed, next_has, turn_pushed}
 use Rattle.provider_core.proofs.provider.Provider.add_pushes.Goals as goal
 
 pub add_push-requires : goal.add_push-requires

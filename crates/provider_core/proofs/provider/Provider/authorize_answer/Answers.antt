@@ -1,10 +1,8 @@
 use Rattle.std.proofs.Common.{◌≡◌, refl, subst}
-use Rattle.ocpi_text.specs.Text.{key}
-use Rattle.token_desk.specs.Authorizing.{AuthorizedLine, IsAuthorizeFault}
-use Rattle.token_desk.specs.References.{reference_of}
-use Rattle.token_desk.specs.declared.answers.Authorized.TheVariants.{Allowed, Blocked}
-use Rattle.token_desk.specs.declared.fault.TokenFault.TheVariants.{NumbersUsedUp, UnknownToken}
-use Rattle.provider_steps.specs.Orders.{next_reference}
+use Rattle.ocpi_text.specs.{key}
+use Rattle.token_desk.specs.{Allowed, AuthorizedLine, Blocked, IsAuthorizeFault, NumbersUsedUp, UnknownToken}
+use Rattle.token_desk.specs.{reference_of}
+use Rattle.provider_steps.specs.{next_reference}
 use Rattle.provider_core.proofs.Deciding.{allowed, blocked, unknown}
 use Rattle.provider_core.proofs.provider.Provider.authorize_answer.Goals as goal
 

@@ -1,5 +1,5 @@
 use Rattle.std.proofs.Common.{◌≡◌}
-use Rattle.provider_rows.specs.Rows.{AreChanges}
+use Rattle.provider_rows.specs.{AreChanges}
 use Rattle.provider_core.proofs.provider.Provider.carry_out.Goals as goal
 
 pub returns-clause-rows : goal.returns-clause-rows

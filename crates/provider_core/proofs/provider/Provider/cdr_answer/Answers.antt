@@ -1,9 +1,7 @@
-use Rattle.std.proofs.Common.{◌≡◌}
-use Rattle.std.specs.Prelude.{Some}
+use Rattle.std.proofs.Common.{◌≡◌, Some}
 use Rattle.std.specs.FinMap.{get}
-use Rattle.handover.specs.Cdrs.{cdr_key}
-use Rattle.handover.specs.Inbox.{IsInConflict}
-use Rattle.provider_steps.specs.Packets.{IsRight}
+use Rattle.handover.specs.{IsInConflict, cdr_key}
+use Rattle.provider_steps.specs.{IsRight}
 use Rattle.provider_core.proofs.Deciding.{cdr_in_conflict, cdr_kept, cdr_refused, cdr_taken}
 use Rattle.provider_core.proofs.provider.Provider.cdr_answer.Goals as goal
 

@@ -1,8 +1,8 @@
 use Rattle.std.proofs.Common.{◌≡◌, [], ◌∷◌, refl}
 use Rattle.std.proofs.lemmas.Result.{IfOk-weaker}
-use Rattle.provider_steps.specs.Packets.{Acknowledged, Acknowledges, Idle, PacketLine}
-use Rattle.ocpi_types.specs.declared.rows.Change.TheVariants.{Drop}
-use Rattle.ocpi_types.specs.declared.rows.RowKey.TheVariants as keys
+use Rattle.provider_steps.specs.{Acknowledged, Acknowledges, Idle, PacketLine}
+use Rattle.ocpi_types.specs.{Drop}
+use Rattle.ocpi_types.specs.keys
 use Rattle.provider_core.proofs.Plans.{may_change, may_none, planned_change, planned_none}
 use Rattle.provider_core.proofs.provider.Provider.plan_ack.Goals as goal
 

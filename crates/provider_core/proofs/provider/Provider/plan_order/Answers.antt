@@ -1,7 +1,6 @@
-use Rattle.node_steps.specs.Drafts.{step_of}
-use Rattle.node_steps.specs.Peers.{IsPeer}
-use Rattle.provider_rows.specs.Sound.{IsConsistent}
-use Rattle.provider_steps.specs.Orders.{OrderLine}
+use Rattle.node_steps.specs.{IsPeer, step_of}
+use Rattle.provider_rows.specs.{IsConsistent}
+use Rattle.provider_steps.specs.{OrderLine}
 use Rattle.provider_core.specs.Making.{order_acts}
 use Rattle.provider_core.proofs.Ordering.{order_fault, order_line, order_within, unprepared}
 use Rattle.provider_core.proofs.Plans.{all_may, all_planned, faults_are, line_faults, returned}

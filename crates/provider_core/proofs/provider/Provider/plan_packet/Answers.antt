@@ -1,6 +1,6 @@
-use Rattle.node_steps.specs.Drafts.{step_of}
-use Rattle.provider_rows.specs.Sound.{IsConsistent}
-use Rattle.provider_steps.specs.Packets.{Comes, PacketLine}
+use Rattle.node_steps.specs.{step_of}
+use Rattle.provider_rows.specs.{IsConsistent}
+use Rattle.provider_steps.specs.{Comes, PacketLine}
 use Rattle.provider_core.proofs.Lines.{comes, packet_fault}
 use Rattle.provider_core.proofs.Plans.{all_also, all_may, fault_also, faults_are}
 use Rattle.provider_core.proofs.provider.Provider.plan_packet.Goals as goal

@@ -1,7 +1,7 @@
 use Rattle.std.proofs.Common.{◌≡◌, ◌∙◌, ℕ, List, [], ◌∷◌, length, refl}
-use Rattle.node_steps.specs.Acts.{Act}
+use Rattle.node_steps.specs.{Act}
 use Rattle.node_steps.proofs.Gathering.{range_is, refused, starved, step_is}
-use Rattle.provider_steps.specs.Moves.{counters_of}
+use Rattle.provider_steps.specs.{counters_of}
 use Rattle.provider_core.specs.Making.{order_acts}
 use Rattle.provider_core.proofs.Ordering.{order_asks, order_sends}
 use Rattle.provider_core.proofs.Plans.{opened_has}

@@ -1,10 +1,8 @@
-use Rattle.std.proofs.Common.{◌≡◌, [], ◌∷◌, sym}
-use Rattle.std.specs.Prelude.{Some, None}
+use Rattle.std.proofs.Common.{◌≡◌, [], ◌∷◌, sym, Some, None}
 use Rattle.std.specs.FinMap.{get}
-use Rattle.ocpi_text.specs.Text.{key}
-use Rattle.node_steps.specs.Acts.{repeated}
-use Rattle.node_steps.specs.Drafts.{step_of}
-use Rattle.provider_steps.specs.Packets.{PacketLine}
+use Rattle.ocpi_text.specs.{key}
+use Rattle.node_steps.specs.{repeated, step_of}
+use Rattle.provider_steps.specs.{PacketLine}
 use Rattle.provider_core.specs.Answering.{answer_acts}
 use Rattle.provider_core.proofs.Lines.{again, answer_within, answered, used_up}
 use Rattle.provider_core.proofs.Plans.{all_planned, line_faults}

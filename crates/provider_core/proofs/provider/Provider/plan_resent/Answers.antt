@@ -1,8 +1,7 @@
 use Rattle.std.proofs.Common.{◌≡◌, ◌∙◌, ℕ, List, [], ◌∷◌, length, refl}
-use Rattle.node_steps.specs.Acts.{Act}
+use Rattle.node_steps.specs.{Act}
 use Rattle.node_steps.proofs.Gathering.{has_all, range_is, refused, starved, step_is}
-use Rattle.provider_steps.specs.Moves.{counters_of}
-use Rattle.provider_steps.specs.Tick.{all_resent}
+use Rattle.provider_steps.specs.{all_resent, counters_of}
 use Rattle.provider_core.proofs.Resending.{resent_asks, resent_sends}
 use Rattle.provider_core.proofs.provider.Provider.plan_resent.Goals as goal
 

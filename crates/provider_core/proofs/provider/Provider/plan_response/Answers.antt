@@ -1,10 +1,8 @@
 use Rattle.std.proofs.Common.{◌≡◌, [], ◌∷◌, refl, ap, ◌∙◌}
 use Rattle.std.proofs.lemmas.Result.{IfOk-weaker}
-use Rattle.ocpi_types.specs.declared.rows.Change.TheVariants.{Put}
-use Rattle.ocpi_types.specs.declared.rows.Row.TheVariants as row
-use Rattle.ocpi_types.specs.declared.stored.SentCommand.{SentCommand}
-use Rattle.provider_steps.specs.Acts.{kept, with_answer}
-use Rattle.provider_steps.specs.Packets.{LateResponse, PacketLine, Responded}
+use Rattle.ocpi_types.specs.{Put, SentCommand}
+use Rattle.ocpi_types.specs.row
+use Rattle.provider_steps.specs.{LateResponse, PacketLine, Responded, kept, with_answer}
 use Rattle.provider_core.proofs.Plans.{may_change, may_none, planned_change, planned_none}
 use Rattle.provider_core.proofs.provider.Provider.plan_response.Goals as goal
 

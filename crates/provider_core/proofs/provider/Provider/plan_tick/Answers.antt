@@ -1,7 +1,7 @@
-use Rattle.outbox.specs.Due.{AreExactly, IsDue}
-use Rattle.node_steps.specs.Drafts.{step_of}
-use Rattle.provider_rows.specs.Sound.{IsConsistent}
-use Rattle.provider_steps.specs.Tick.{TickLine, all_resent}
+use Rattle.outbox.specs.{AreExactly, IsDue}
+use Rattle.node_steps.specs.{step_of}
+use Rattle.provider_rows.specs.{IsConsistent}
+use Rattle.provider_steps.specs.{TickLine, all_resent}
 use Rattle.provider_core.proofs.Plans.{all_may, all_planned}
 use Rattle.provider_core.proofs.Resending.{resent_within, tick_line}
 use Rattle.provider_core.proofs.provider.Provider.plan_tick.Goals as goal

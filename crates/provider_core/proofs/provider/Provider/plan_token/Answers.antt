@@ -1,9 +1,9 @@
 use Rattle.std.proofs.Common.{◌≡◌, refl}
-use Rattle.ocpi_text.specs.Text.{key}
-use Rattle.node_steps.specs.Drafts.{step_of}
-use Rattle.token_desk.specs.Putting.{HasNext, next_version}
-use Rattle.provider_rows.specs.Sound.{IsConsistent}
-use Rattle.provider_steps.specs.Tokens.{TokenLine}
+use Rattle.ocpi_text.specs.{key}
+use Rattle.node_steps.specs.{step_of}
+use Rattle.token_desk.specs.{HasNext, next_version}
+use Rattle.provider_rows.specs.{IsConsistent}
+use Rattle.provider_steps.specs.{TokenLine}
 use Rattle.provider_core.proofs.Plans.{all_may}
 use Rattle.provider_core.proofs.Versions.{token_faults, token_planned}
 use Rattle.provider_core.proofs.provider.Provider.plan_token.Goals as goal

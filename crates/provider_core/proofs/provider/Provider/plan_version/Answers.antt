@@ -1,6 +1,6 @@
 use Rattle.std.proofs.Common.{◌≡◌, ℕ, length, ap, subst}
-use Rattle.node_steps.specs.Drafts.{opened}
-use Rattle.provider_steps.specs.Moves.{counters_of}
+use Rattle.node_steps.specs.{opened}
+use Rattle.provider_steps.specs.{counters_of}
 use Rattle.provider_core.proofs.Pushing.{versioned}
 use Rattle.provider_core.proofs.provider.Provider.plan_version.Goals as goal
 

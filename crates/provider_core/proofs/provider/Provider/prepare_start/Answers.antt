@@ -1,8 +1,7 @@
 use Rattle.std.proofs.Common.{◌≡◌, ◌≤◌, sym, subst}
-use Rattle.ocpi_text.specs.Whole.{max_whole}
-use Rattle.ocpi_types.specs.declared.events.Order.TheVariants as order
-use Rattle.node_steps.specs.declared.fault.NodeFault.{NodeFault}
-use Rattle.node_steps.specs.declared.fault.NodeFault.TheVariants.{NumbersUsedUp}
+use Rattle.ocpi_text.specs.{max_whole}
+use Rattle.ocpi_types.specs.order
+use Rattle.node_steps.specs.{NodeFault, NumbersUsedUp}
 use Rattle.provider_core.specs.Making.{IsUnprepared}
 use Rattle.provider_core.proofs.Ordering.{start_lacks, start_prepared}
 use Rattle.provider_core.proofs.Plans.{returned}

@@ -1,8 +1,7 @@
-use Rattle.std.proofs.Common.{◌≡◌, ℕ, sym, ap, ◌∙◌}
-use Rattle.std.specs.Prelude.{None, Some}
+use Rattle.std.proofs.Common.{◌≡◌, ℕ, sym, ap, ◌∙◌, None, Some}
 use Rattle.std.specs.FinMap.{get}
-use Rattle.ocpi_types.specs.declared.stored.SentCommand.{SentCommand}
-use Rattle.provider_rows.specs.Urls.{Fits}
+use Rattle.ocpi_types.specs.{SentCommand}
+use Rattle.provider_rows.specs.{Fits}
 use Rattle.provider_core.proofs.Deciding.{result_known, result_of_none, result_taken}
 use Rattle.provider_core.proofs.provider.Provider.result_answer.Goals as goal
 

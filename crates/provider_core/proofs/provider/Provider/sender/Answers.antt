@@ -1,5 +1,5 @@
 use Rattle.std.proofs.Common.{refl}
-use Rattle.provider_steps.specs.Packets.{IsTaken}
+use Rattle.provider_steps.specs.{IsTaken}
 use Rattle.provider_core.proofs.Plans.{some_any}
 use Rattle.provider_core.proofs.provider.Provider.sender.Goals as goal
 

@@ -1,7 +1,7 @@
 use Rattle.std.proofs.Common.{◌≡◌}
 use Rattle.std.specs.FinMap.{get}
-use Rattle.handover.specs.Inbox.{IsNews, session_key}
-use Rattle.provider_steps.specs.Packets.{IsRight}
+use Rattle.handover.specs.{IsNews, session_key}
+use Rattle.provider_steps.specs.{IsRight}
 use Rattle.provider_core.proofs.Deciding.{session_kept, session_refused, session_taken}
 use Rattle.provider_core.proofs.provider.Provider.session_answer.Goals as goal
 

@@ -1,7 +1,7 @@
 use Rattle.std.proofs.Common.{sym, subst}
-use Rattle.tables.specs.Tables.{shown_of}
-use Rattle.outbox.specs.Resend.{moment_number_cmp}
-use Rattle.node_steps.specs.Drafts.{step_of}
+use Rattle.tables.specs.{shown_of}
+use Rattle.outbox.specs.{moment_number_cmp}
+use Rattle.node_steps.specs.{step_of}
 use Rattle.provider_rows.specs.Steps.{Node, HaveTimeRoom}
 use Rattle.provider_rows.proofs.KeepingRows.{kept_resent}
 use Rattle.provider_rows.proofs.TimeRooms.{step_room}

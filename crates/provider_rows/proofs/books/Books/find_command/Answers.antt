@@ -2,8 +2,8 @@ use Rattle.std.proofs.Common.{rules, ◌≡◌, ◌≢◌, sym, ap, ◌∙◌}
 use Rattle.std.specs.Map.{keys_of}
 use Rattle.std.specs.BTreeMap.Range.{entries_from}
 use Rattle.std.specs.FinMap.{entries}
-use Rattle.tables.specs.Tables.{shown_of}
-use Rattle.outbox.specs.Resend.{moment_number_cmp}
+use Rattle.tables.specs.{shown_of}
+use Rattle.outbox.specs.{moment_number_cmp}
 use Rattle.provider_rows.specs.Urls.{Fits, url_place}
 use Rattle.provider_rows.proofs.Finding.{differ, fits_not, all_left, fewer_left, none_past, none_left}
 use Rattle.provider_rows.proofs.books.Books.find_command.Goals as goal

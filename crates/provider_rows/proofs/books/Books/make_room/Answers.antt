@@ -1,5 +1,5 @@
 use Rattle.std.proofs.Common.{sym, subst}
-use Rattle.node_steps.specs.Drafts.{step_of}
+use Rattle.node_steps.specs.{step_of}
 use Rattle.provider_rows.specs.Steps.{Node}
 use Rattle.provider_rows.specs.Stored.{Each, HasRoom}
 use Rattle.provider_rows.specs.contracts.books.Books.{the_view}

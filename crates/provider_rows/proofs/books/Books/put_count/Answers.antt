@@ -1,8 +1,8 @@
 use Rattle.std.proofs.Common.{refl}
-use Rattle.tables.specs.Tables.{shown_of}
-use Rattle.outbox.specs.Resend.{moment_number_cmp}
-use Rattle.ocpi_types.specs.declared.rows.Row.TheVariants as row
-use Rattle.ocpi_types.specs.declared.rows.Counter.TheVariants as counter
+use Rattle.tables.specs.{shown_of}
+use Rattle.outbox.specs.{moment_number_cmp}
+use Rattle.ocpi_types.specs.row
+use Rattle.ocpi_types.specs.counter
 use Rattle.provider_rows.proofs.KeepingRows.{kept_put, kept_put_request}
 use Rattle.provider_rows.proofs.books.Books.put_count.Goals as goal
 

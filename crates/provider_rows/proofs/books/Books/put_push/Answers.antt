@@ -1,5 +1,5 @@
-use Rattle.tables.specs.Tables.{shown_of}
-use Rattle.outbox.specs.Resend.{moment_number_cmp}
+use Rattle.tables.specs.{shown_of}
+use Rattle.outbox.specs.{moment_number_cmp}
 use Rattle.provider_rows.proofs.KeepingRows.{kept_put_push}
 use Rattle.provider_rows.proofs.books.Books.put_push.Goals as goal
 

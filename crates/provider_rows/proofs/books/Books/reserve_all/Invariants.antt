@@ -1,6 +1,5 @@
-use Rattle.std.proofs.Common.{◌≡◌, ℕ, ◌<◌}
-use Rattle.std.specs.Prelude.{Some, slice_get}
-use Rattle.ocpi_types.specs.declared.rows.Change.{Change}
+use Rattle.std.proofs.Common.{◌≡◌, ℕ, ◌<◌, Some, slice_get}
+use Rattle.ocpi_types.specs.{Change}
 use Rattle.provider_rows.specs.Stored.{HasRoom, KeepsRoom}
 use Rattle.provider_rows.proofs.books.Books.reserve_all.Given as goal
 

@@ -1,5 +1,5 @@
-use Rattle.tables.specs.Tables.{rooms_of}
-use Rattle.outbox.specs.Resend.{moment_number_cmp}
+use Rattle.tables.specs.{rooms_of}
+use Rattle.outbox.specs.{moment_number_cmp}
 use Rattle.provider_rows.specs.contracts.books.Books.{the_view}
 use Rattle.provider_rows.proofs.RowRooms.{keeps_replies, keeps_desk, keeps_outbox, keeps_command, keeps_inbox}
 use Rattle.provider_rows.proofs.books.Books.reserve_row.Goals as goal

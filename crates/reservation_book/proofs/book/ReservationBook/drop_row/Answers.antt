@@ -1,4 +1,4 @@
-use Rattle.tables.specs.Keys.{text_pair_total, text_pair_exact}
+use Rattle.tables.specs.{text_pair_exact, text_pair_total}
 use Rattle.tables.proofs.Maps.{others_keep, key_gone}
 use Rattle.reservation_book.proofs.Rooms.{keeps_but_mark, keeps_without, gives_back}
 use Rattle.reservation_book.proofs.book.ReservationBook.drop_row.Goals as goal

@@ -1,5 +1,5 @@
 use Rattle.std.proofs.Common.{ap}
-use Rattle.tables.specs.Keys.{text_pair_total, text_pair_exact}
+use Rattle.tables.specs.{text_pair_exact, text_pair_total}
 use Rattle.tables.proofs.Nothing.{no_entries, ok_not_err}
 use Rattle.reservation_book.specs.Rows.{Rows}
 use Rattle.reservation_book.proofs.book.ReservationBook.push_rows.Goals as goal

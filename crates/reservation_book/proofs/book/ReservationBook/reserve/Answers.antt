@@ -1,7 +1,6 @@
-use Rattle.std.proofs.Common.{sym, ap, subst, ◌∙◌}
-use Rattle.std.specs.Prelude.{Option}
+use Rattle.std.proofs.Common.{sym, ap, subst, ◌∙◌, Option}
 use Rattle.std.specs.FinMap.{get}
-use Rattle.ocpi_types.specs.declared.stored.Reservation.{Reservation}
+use Rattle.ocpi_types.specs.{Reservation}
 use Rattle.ocpi_types.proofs.Ids.{on_err}
 use Rattle.reservation_book.specs.Rows.{Rows, Rooms, HasRoomOf}
 use Rattle.reservation_book.proofs.Rooms.{keeps_for_mark, keeps_for_reservation, keeps_but_reservation}

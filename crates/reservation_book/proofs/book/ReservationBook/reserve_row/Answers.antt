@@ -1,5 +1,4 @@
-use Rattle.std.proofs.Common.{sym, subst}
-use Rattle.std.specs.Prelude.{IsTrue}
+use Rattle.std.proofs.Common.{sym, subst, IsTrue}
 use Rattle.std.specs.FinMap.{contains_key}
 use Rattle.reservation_book.proofs.Rooms.{keeps_room}
 use Rattle.reservation_book.proofs.book.ReservationBook.reserve_row.Goals as goal

@@ -1,5 +1,5 @@
 use Rattle.std.proofs.Common.{ap}
-use Rattle.tables.specs.Tables.{rooms_of}
+use Rattle.tables.specs.{rooms_of}
 use Rattle.reservation_book.specs.Places.{expiry_cmp, place_cmp}
 use Rattle.reservation_book.proofs.listings.Listings.release.Goals as goal
 

@@ -1,5 +1,4 @@
-use Rattle.std.proofs.Common.{◌≡◌, sym, ap, subst, ◌∙◌}
-use Rattle.std.specs.Prelude.{IsTrue}
+use Rattle.std.proofs.Common.{◌≡◌, sym, ap, subst, ◌∙◌, IsTrue}
 use Rattle.std.specs.FinMap.{FinMap, insert, contains_key}
 use Rattle.std.proofs.lemmas.Option.{same_Some}
 use Rattle.tables.proofs.Options.{not_both}

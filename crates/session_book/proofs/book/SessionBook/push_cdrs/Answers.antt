@@ -1,5 +1,5 @@
 use Rattle.std.proofs.Common.{ap, ◌∙◌}
-use Rattle.tables.specs.Keys.{text_total, text_exact}
+use Rattle.tables.specs.{text_exact, text_total}
 use Rattle.tables.proofs.Nothing.{no_entries}
 use Rattle.tables.proofs.Elements.{not_none}
 use Rattle.session_book.specs.Stored.{Held}

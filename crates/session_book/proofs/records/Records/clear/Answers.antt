@@ -1,8 +1,7 @@
-use Rattle.std.proofs.Common.{sym, ap, subst, ◌∙◌, option_copied, Bor}
-use Rattle.std.specs.Prelude.{Option, IsTrue}
+use Rattle.std.proofs.Common.{sym, ap, subst, ◌∙◌, option_copied, Bor, Option, IsTrue}
 use Rattle.std.specs.FinMap.{contains_key}
-use Rattle.ocpi_types.specs.declared.cdrs.Cdr.{Cdr}
-use Rattle.tables.specs.Keys.{text_total, text_exact}
+use Rattle.ocpi_types.specs.{Cdr}
+use Rattle.tables.specs.{text_exact, text_total}
 use Rattle.tables.proofs.Maps.{remove_absent}
 use Rattle.session_book.proofs.Keeping.{cleared}
 use Rattle.session_book.proofs.records.Records.clear.Goals as goal

@@ -1,4 +1,4 @@
-use Rattle.tables.specs.Keys.{text_total, text_exact}
+use Rattle.tables.specs.{text_exact, text_total}
 use Rattle.tables.proofs.Maps.{get-remove_same, insert_removed}
 use Rattle.session_book.proofs.records.Records.put.Goals as goal
 

@@ -1,5 +1,5 @@
 use Rattle.std.proofs.Common.{sym, ◌∙◌}
-use Rattle.tables.specs.Keys.{text_total, text_exact}
+use Rattle.tables.specs.{text_exact, text_total}
 use Rattle.tables.proofs.Rooms.{other_room}
 use Rattle.session_book.proofs.Keeping.{cleared, none_cleared}
 use Rattle.session_book.proofs.records.Records.remove.Goals as goal

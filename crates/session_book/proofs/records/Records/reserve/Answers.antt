@@ -1,6 +1,5 @@
 use Rattle.std.proofs.Common.{◌≡◌, ◌∙◌, sym, ap}
-use Rattle.tables.specs.Keys.{text_cmp}
-use Rattle.tables.specs.Tables.{rooms_of, shown_of}
+use Rattle.tables.specs.{rooms_of, shown_of, text_cmp}
 use Rattle.tables.proofs.Nothing.{ok_not_err}
 use Rattle.session_book.specs.Stored.{session_cmp}
 use Rattle.session_book.proofs.Keeping.{given_back, held_same, kept_more, kept_same, room_again, rooms_same}

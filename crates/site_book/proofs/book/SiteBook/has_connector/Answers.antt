@@ -1,6 +1,5 @@
-use Rattle.std.proofs.Common.{subst}
-use Rattle.std.specs.Prelude.{Contains}
-use Rattle.ocpi_types.specs.declared.site.Evse.{Evse}
+use Rattle.std.proofs.Common.{subst, Contains}
+use Rattle.ocpi_types.specs.{Evse}
 use Rattle.site_book.specs.Sites.{location_of}
 use Rattle.site_book.proofs.book.SiteBook.has_connector.Goals as goal
 

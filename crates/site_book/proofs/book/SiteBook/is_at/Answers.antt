@@ -1,6 +1,6 @@
 use Rattle.std.proofs.Common.{sym, ap, ◌∙◌}
-use Rattle.ocpi_text.specs.Text.{key}
-use Rattle.ocpi_types.specs.declared.site.Location.{Location}
+use Rattle.ocpi_text.specs.{key}
+use Rattle.ocpi_types.specs.{Location}
 use Rattle.site_book.specs.Sites.{location_of}
 use Rattle.site_book.proofs.book.SiteBook.is_at.Goals as goal
 

@@ -1,5 +1,5 @@
 use Rattle.std.proofs.lemmas.Option.{IfSome_then}
-use Rattle.ocpi_text.specs.Text.{key}
+use Rattle.ocpi_text.specs.{key}
 use Rattle.site_book.proofs.Finding.{none_from, none_then, unknown_uid, other_location, found_uid, sole_uid, no_evse_there}
 use Rattle.site_book.proofs.book.SiteBook.named_evse.Goals as goal
 

@@ -1,8 +1,6 @@
-use Rattle.std.proofs.Common.{◌≡◌, refl, sym, ap, ◌∙◌, true, Option, Some, None, Bor}
-use Rattle.std.specs.Prelude.{is_some, option_copied}
+use Rattle.std.proofs.Common.{◌≡◌, refl, sym, ap, ◌∙◌, true, Option, Some, None, Bor, is_some, option_copied}
 use Rattle.std.specs.FinMap.{get, contains_key}
-use Rattle.tables.specs.Keys.{text_cmp}
-use Rattle.tables.specs.Tables.{shown_of}
+use Rattle.tables.specs.{shown_of, text_cmp}
 use Rattle.site_book.specs.Sites.{Claims, OutOfService}
 use Rattle.site_book.specs.Positions.{Position}
 use Rattle.site_book.proofs.Finding.{known_evse}

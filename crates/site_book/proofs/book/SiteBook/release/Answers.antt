@@ -1,7 +1,6 @@
 use Rattle.std.proofs.Common.{◌≡◌, ap, ◌∙◌, Some, None}
 use Rattle.std.specs.FinMap.{get, contains_key}
-use Rattle.tables.specs.Keys.{text_cmp}
-use Rattle.tables.specs.Tables.{shown_of}
+use Rattle.tables.specs.{shown_of, text_cmp}
 use Rattle.site_book.specs.Sites.{Claims, OutOfService}
 use Rattle.site_book.proofs.Remarking.{flags_stand, removed_other, remarked, unknown_unclaimed}
 use Rattle.site_book.proofs.book.SiteBook.release.Goals as goal

@@ -1,7 +1,6 @@
 use Rattle.std.proofs.Common.{◌≡◌, refl, ap, ◌∙◌, Some, None}
 use Rattle.std.specs.FinMap.{get, contains_key}
-use Rattle.tables.specs.Keys.{text_cmp}
-use Rattle.tables.specs.Tables.{shown_of}
+use Rattle.tables.specs.{shown_of, text_cmp}
 use Rattle.site_book.specs.Sites.{Claims, OutOfService}
 use Rattle.site_book.proofs.Finding.{of_site, unknown_evse}
 use Rattle.site_book.proofs.Remarking.{flags_stand, serviced_other, remarked}

@@ -1,5 +1,4 @@
-use Rattle.std.proofs.Common.{◌≡◌, ◌<◌, ◌≤◌, ℕ, true, length, slice_get}
-use Rattle.std.specs.Prelude.{Some}
+use Rattle.std.proofs.Common.{◌≡◌, ◌<◌, ◌≤◌, ℕ, true, length, slice_get, Some}
 use Rattle.site_book.proofs.flags.Flags.first.Given as goal
 
 abbrev pub invariant-loop-place : goal.invariant-loop-place

@@ -1,7 +1,6 @@
 use Rattle.std.proofs.Common.{◌≡◌, ◌≤◌, length, refl, sym, ap, subst, ◌∙◌, Some, slice_get, List}
 use Rattle.std.proofs.lemmas.Option.{slice_get_read}
-use Rattle.ocpi_types.specs.declared.site.Location.{Location}
-use Rattle.ocpi_types.specs.declared.site.Evse.{Evse}
+use Rattle.ocpi_types.specs.{Evse, Location}
 use Rattle.site_book.proofs.Filling.{evse_added}
 use Rattle.site_book.proofs.Indexing.{next_location}
 use Rattle.site_book.proofs.indexes.Indexes.add_evses.Goals as goal

@@ -1,6 +1,5 @@
 use Rattle.std.proofs.Common.{◌≡◌}
-use Rattle.tables.specs.Keys.{text_cmp}
-use Rattle.tables.specs.Tables.{shown_of}
+use Rattle.tables.specs.{shown_of, text_cmp}
 use Rattle.site_book.specs.Indexes.{HaveEvses}
 use Rattle.site_book.specs.Positions.{IsBefore}
 use Rattle.site_book.proofs.indexes.Indexes.add_evses.Given as goal

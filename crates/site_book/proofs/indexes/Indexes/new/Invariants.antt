@@ -1,8 +1,7 @@
 use Rattle.std.proofs.Common.{◌≡◌, length}
 use Rattle.std.specs.FinMap.{empty}
-use Rattle.ocpi_types.specs.Locations.{location_keys}
-use Rattle.tables.specs.Keys.{text_cmp}
-use Rattle.tables.specs.Tables.{shown_of}
+use Rattle.ocpi_types.specs.{location_keys}
+use Rattle.tables.specs.{shown_of, text_cmp}
 use Rattle.site_book.specs.Indexes.{HaveEvses, AreAllSet}
 use Rattle.site_book.specs.Positions.{IsBefore}
 use Rattle.site_book.proofs.indexes.Indexes.new.Given as goal

@@ -1,6 +1,5 @@
-use Rattle.std.proofs.Common.{◌≡◌, ℕ, ◌≤◌, ◌+◌, Bool, true, false, arith, refl}
-use Rattle.std.specs.Prelude.{not}
-use Rattle.ocpi_text.specs.Whole.{max_whole}
+use Rattle.std.proofs.Common.{◌≡◌, ℕ, ◌≤◌, ◌+◌, Bool, true, false, arith, refl, not}
+use Rattle.ocpi_text.specs.{max_whole}
 use Rattle.token_desk.proofs.desk.TokenDesk.judge_authorize.Goals as goal
 
 is_valid : (b : Bool) → not b ≡ false → b ≡ true

@@ -1,5 +1,4 @@
-use Rattle.std.proofs.Common.{◌≡◌, ◌<◌, ◌∙◌, length, sym, ap, subst, rules, arith}
-use Rattle.std.specs.Prelude.{Contains}
+use Rattle.std.proofs.Common.{◌≡◌, ◌<◌, ◌∙◌, length, sym, ap, subst, rules, arith, Contains}
 use Rattle.transcripts.proofs.AccusingLemmas.{nothing_in}
 use Rattle.transcripts.proofs.reading.Reading.into_first.Goals as goal
 

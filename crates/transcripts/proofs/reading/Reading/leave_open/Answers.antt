@@ -1,5 +1,5 @@
 use Rattle.std.proofs.Common.{Some, refl, sym, ap, subst, ◌∙◌}
-use Rattle.transcript_parts.specs.Lines.{Line}
+use Rattle.transcript_parts.specs.{Line}
 use Rattle.transcripts.specs.Following.{LeftOpen, LeftOut, TellsNotARun, in_run}
 use Rattle.transcripts.specs.Ways.{LeavesTooMany}
 use Rattle.transcripts.proofs.AccusingLemmas.{keeps_left_open, keeps_left_out}

@@ -1,12 +1,11 @@
-use Rattle.std.proofs.Common.{◌≡◌, [], ◌∷◌, ◌++◌, None, true, refl, sym, ap, subst, ◌∙◌, rules, arith}
-use Rattle.std.specs.Prelude.{Contains}
-use Rattle.ocpi_types.specs.Setups.{party_of}
-use Rattle.transcript_lines.specs.declared.done.Done.TheVariants as done
-use Rattle.transcript_parts.specs.declared.line_read.Ending.TheVariants.{Answered}
+use Rattle.std.proofs.Common.{◌≡◌, [], ◌∷◌, ◌++◌, None, true, refl, sym, ap, subst, ◌∙◌, rules, arith, Contains}
+use Rattle.ocpi_types.specs.{party_of}
+use Rattle.transcript_lines.specs.done
+use Rattle.transcript_parts.specs.{Answered}
 use Rattle.transcripts.specs.Following.{IsNew, opening_told}
 use Rattle.transcripts.proofs.AccusingLemmas.{keeps_first}
 use Rattle.transcripts.proofs.FollowingLemmas.{opened_first, reading}
-use Rattle.world_laws.specs.Laws.{IsSetup}
+use Rattle.world_laws.specs.{IsSetup}
 use Rattle.transcripts.proofs.reading.Reading.open_first.Goals as goal
 
 pub returns-clause-each : goal.returns-clause-each

@@ -1,5 +1,4 @@
-use Rattle.std.proofs.Common.{◌≡◌, ◌<◌, ◌∙◌, length, refl, sym, ap, subst, rules, arith}
-use Rattle.std.specs.Prelude.{Contains}
+use Rattle.std.proofs.Common.{◌≡◌, ◌<◌, ◌∙◌, length, refl, sym, ap, subst, rules, arith, Contains}
 use Rattle.transcripts.specs.Covering.{LosesNoneByRun}
 use Rattle.transcripts.specs.Diverging.{KeepDiverged}
 use Rattle.transcripts.specs.Following.{AllGoOn}

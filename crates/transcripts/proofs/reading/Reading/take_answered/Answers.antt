@@ -1,5 +1,4 @@
-use Rattle.std.proofs.Common.{subst}
-use Rattle.std.specs.Prelude.{IfErr}
+use Rattle.std.proofs.Common.{subst, IfErr}
 use Rattle.transcripts.specs.Accusing.{ComesToNone, EndsByLine}
 use Rattle.transcripts.specs.Following.{TakesLine, in_run}
 use Rattle.transcripts.specs.Ways.{TellsTooMany}

@@ -1,5 +1,4 @@
-use Rattle.std.proofs.Common.{inr, refl, subst, rules}
-use Rattle.std.specs.Prelude.{IfErr}
+use Rattle.std.proofs.Common.{inr, refl, subst, rules, IfErr}
 use Rattle.transcripts.specs.Accusing.{ComesToNone, EndsByLine}
 use Rattle.transcripts.specs.Following.{Last, TakesLine, in_run}
 use Rattle.transcripts.specs.Ways.{TellsTooMany}

@@ -1,7 +1,6 @@
 use Rattle.std.proofs.Common.{false, refl, sym, ap, subst, rules}
 use Rattle.transcripts.specs.Following.{FitsEvent, NoEvent, NoSetup}
-use Rattle.transcript_parts.specs.Lines.{Line}
-use Rattle.transcript_parts.specs.Parts.{FitsFirst}
+use Rattle.transcript_parts.specs.{FitsFirst, Line}
 use Rattle.transcripts.proofs.AccusingLemmas.{ends_malformed, ends_malformed_shown, keeps_no_event, keeps_no_setup}
 use Rattle.transcripts.proofs.FollowingLemmas.{passes, passes_line, standing}
 use Rattle.transcripts.proofs.reading.Reading.take_malformed.Goals as goal

@@ -1,5 +1,5 @@
 use Rattle.std.proofs.Common.{refl}
-use Rattle.transcript_parts.specs.Beginnings.{Accuses, IsNoRun, IsNotPassed}
+use Rattle.transcript_parts.specs.{Accuses, IsNoRun, IsNotPassed}
 use Rattle.transcripts.specs.Accusing.{EndsByLine}
 use Rattle.transcripts.specs.Following.{Outside}
 use Rattle.transcripts.specs.Ways.{TellsTooMany}

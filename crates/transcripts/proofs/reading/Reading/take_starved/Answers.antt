@@ -1,6 +1,6 @@
 use Rattle.std.proofs.Common.{refl, sym, subst, rules}
 use Rattle.transcripts.specs.Following.{MayStarve, Starved}
-use Rattle.transcript_parts.specs.Lines.{Line}
+use Rattle.transcript_parts.specs.{Line}
 use Rattle.transcripts.proofs.AccusingLemmas.{ends_starved, keeps_starved}
 use Rattle.transcripts.proofs.FollowingLemmas.{passes_line}
 use Rattle.transcripts.proofs.reading.Reading.take_starved.Goals as goal

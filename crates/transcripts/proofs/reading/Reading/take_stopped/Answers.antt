@@ -1,6 +1,5 @@
-use Rattle.std.proofs.Common.{◌∙◌, inl, ap, subst}
-use Rattle.std.specs.Prelude.{IfErr, OnOk}
-use Rattle.transcript_parts.specs.Beginnings.{Accuses}
+use Rattle.std.proofs.Common.{◌∙◌, inl, ap, subst, IfErr, OnOk}
+use Rattle.transcript_parts.specs.{Accuses}
 use Rattle.transcripts.specs.Accusing.{ComesToNone, EndsByLine, KeepsComing, KeepsLine}
 use Rattle.transcripts.specs.Following.{TakesLine, in_run}
 use Rattle.transcripts.specs.Ways.{TellsTooMany}

@@ -1,6 +1,6 @@
 use Rattle.std.proofs.Common.{◌≡◌, [], ◌∷◌, ◌++◌, true, false, refl, sym, ap, subst, ◌∙◌, rules}
-use Rattle.ocpi_text.specs.Text.{key}
-use Rattle.ocpi_types.specs.Setups.{party_of}
+use Rattle.ocpi_text.specs.{key}
+use Rattle.ocpi_types.specs.{party_of}
 use Rattle.node_replay.specs.Replayed.{Answers, IsNotEntered, Passes, Refuses}
 use Rattle.transcripts.specs.Exact.{OnlyGives}
 use Rattle.transcripts.specs.Following.{Gives}

@@ -1,8 +1,6 @@
-use Rattle.std.proofs.Common.{◌∙◌, List, ap, subst}
-use Rattle.std.specs.Prelude.{Contains}
-use Rattle.histories.specs.declared.entry.Entry.{Entry}
-use Rattle.ocpi_types.specs.Setups.{party_of}
-use Rattle.ocpi_types.specs.declared.setup.Node.{Node}
+use Rattle.std.proofs.Common.{◌∙◌, List, ap, subst, Contains}
+use Rattle.histories.specs.{Entry}
+use Rattle.ocpi_types.specs.{Node, party_of}
 use Rattle.transcripts.specs.Ways.{AreRepeats, Repeats}
 use Rattle.transcripts.proofs.RepeatingLemmas.{repeats_all, repeats_have_sources}
 use Rattle.transcripts.proofs.StandingLemmas.{spelled_once}

@@ -1,6 +1,6 @@
 use Rattle.std.proofs.Common.{◌≡◌, List, eq-eqb, eqb-true, length, rules, subst}
-use Rattle.ocpi_types.specs.declared.rows.Row.{Row}
-use Rattle.stored_laws.specs.Nodes.{AreNodeRows}
+use Rattle.ocpi_types.specs.{Row}
+use Rattle.stored_laws.specs.{AreNodeRows}
 use Rattle.transcripts.specs.Told.{Told}
 use Rattle.transcripts.proofs.StandingLemmas.{stands_by}
 use Rattle.transcripts.proofs.way.Way.stands_at.Goals as goal

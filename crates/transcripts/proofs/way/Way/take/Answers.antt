@@ -1,8 +1,7 @@
-use Rattle.std.proofs.Common.{◌∙◌, IfOk, ap, refl, subst, sym}
+use Rattle.std.proofs.Common.{◌∙◌, IfOk, ap, refl, subst, sym, IfSome}
 use Rattle.std.proofs.lemmas.Option.{IfSome_then}
-use Rattle.std.specs.Prelude.{IfSome}
-use Rattle.ocpi_json.specs.NodeEventForms.{node_event_in}
-use Rattle.transcript_parts.specs.declared.echoed.EchoedLine.{EchoedLine}
+use Rattle.ocpi_json.specs.{node_event_in}
+use Rattle.transcript_parts.specs.{EchoedLine}
 use Rattle.transcripts.specs.Exact.{OnlyGives}
 use Rattle.transcripts.specs.Following.{Gives}
 use Rattle.transcripts.specs.LineEvents.{LineEvent}

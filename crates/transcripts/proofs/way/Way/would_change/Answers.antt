@@ -1,7 +1,7 @@
 use Rattle.std.proofs.Common.{◌∙◌, ap, inl, rules, subst}
 use Rattle.std.proofs.lemmas.Result.{IfOk-weaker}
 use Rattle.node_replay.specs.Replayed.{Foretells}
-use Rattle.ocpi_text.specs.Text.{key}
+use Rattle.ocpi_text.specs.{key}
 use Rattle.transcripts.specs.Exact.{WouldChange}
 use Rattle.transcripts.specs.Told.{Told}
 use Rattle.transcripts.proofs.way.Way.would_change.Goals as goal

@@ -1,11 +1,10 @@
 use Rattle.std.proofs.Common.{List, arith, subst, sym, take}
 use Rattle.node_core.proofs.Lists.{front_more}
-use Rattle.ocpi_types.specs.declared.events.Event.{Event}
+use Rattle.ocpi_types.specs.{Event}
 use Rattle.world.proofs.Steps.{run_more}
 use Rattle.world.proofs.world.World.run.Goals as goal
 use Rattle.world.specs.Seen.{told}
-use Rattle.world_steps.specs.Steps.{WorldRun}
-use Rattle.world_steps.specs.World.{opened}
+use Rattle.world_steps.specs.{WorldRun, opened}
 
 pub loop-event-preserved : goal.loop-event-preserved
 loop-event-preserved c =

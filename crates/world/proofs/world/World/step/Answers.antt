@@ -3,7 +3,7 @@ use Rattle.world.proofs.Steps.{one_event, reached_more}
 use Rattle.world.proofs.world.World.step.Goals as goal
 use Rattle.world.specs.Seen.{places_seen, told_in}
 use Rattle.world.specs.State.{WorldState}
-use Rattle.world_laws.specs.Later.{IsLater}
+use Rattle.world_laws.specs.{IsLater}
 
 pub invariant_of-self-2 : goal.invariant_of-self-2
 invariant_of-self-2 c =
