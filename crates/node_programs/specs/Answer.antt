@@ -2,6 +2,7 @@
 use Rattle.std.specs.Prelude.{◌≡◌, ℕ, List, [], Option, None, Some, Ok}
 use Rattle.program_lines.specs.Writing.{packet_lines, refusal_line}
 use Rattle.ocpi_types.specs.declared.packet.Packet.{Packet}
+use Rattle.ocpi_types.specs.declared.rows.Change.{Change}
 use Rattle.ocpi_types.specs.declared.site.SiteLine.{SiteLine}
 use Rattle.json_text.specs.declared.fault.JsonFault.{JsonFault}
 use Rattle.json_text.specs.declared.fault.JsonFault.TheVariants.{Syntax}
@@ -27,6 +28,10 @@ pub record Answering : Type 0 where
 -- what a site line makes: its operator, and its moment
 abbrev pub made_by : SiteLine → Answering
 made_by site = record { at = site.at; operator = opening site }
+
+-- what a step of the operator leaves, changes and sends
+abbrev pub out_with : State → List Change → List Packet → Out
+out_with s changes packets = record { state = s; changes = changes; packets = packets }
 
 -- The first line makes the operator. Where it is no site line, that is all.
 pub data SiteTurn (line : List ℕ) (turn : Turn) (out : List ℕ) (next : Option Answering) : Type 0 where

@@ -11,7 +11,7 @@ ghost use Rattle.line_runs.specs.Run.{Begins, Outputs, ReadsFewLines, StopsReadi
 ghost use Rattle.line_runs.specs.declared.run.Turn.{Turn as TurnOf};
 
 use line_runs::{AnswerLines, LineReader, Ran, RunFault, Turn, run_whole};
-use node_steps::{NodeFault, Stepped};
+use node_steps::NodeFault;
 use ocpi_json::{JsonFault, Scratch, read_packet, read_site};
 use ocpi_text::Moment;
 use ocpi_types::Packet;
@@ -49,18 +49,22 @@ impl Model for Running {
 }
 
 impl Running {
-    ghost use Rattle.operator_core.specs.Requests.{out_of};
+    ghost use Rattle.ocpi_types.specs.declared.rows.Change.{Change as ChangeOf};
     ghost use Rattle.operator_steps.specs.Faults.{IsDue};
     ghost use Rattle.operator_steps.specs.Steps.{OperatorStep};
+    ghost use Rattle.node_programs.specs.Answer.{out_with};
 
-    /// A packet comes to the operator. A refusal changes nothing and sends nothing.
-    fn on_packet(&mut self, packet: &Packet) -> Result<Stepped, NodeFault>
-        ensures step { IfOk result (λ x. OperatorStep self.old.operator self.old.at packet.now (out_of self.new.operator x)) }
+    /// A packet comes to the operator, and what it sends is answered. Nobody asks for the rows that change, so they are
+    /// not copied. A refusal changes nothing and sends nothing.
+    fn on_packet(&mut self, packet: &Packet) -> Result<Vec<Packet>, NodeFault>
+        ensures step { IfOk result (λ sent. (changes : List ChangeOf) × OperatorStep self.old.operator self.old.at packet.now (out_with self.new.operator changes sent.items)) }
         ensures fault { IfErr result (IsDue self.old.operator self.old.at packet.now) }
         ensures err { OnErr result (self.new ≡ self.old) }
         ensures at { self.new.at ≡ self.old.at }
     {
-        self.operator.on_packet(self.at, packet)
+        let plan = self.operator.plan_packet(self.at, packet)?;
+        self.operator.make_room(&plan)?;
+        Ok(self.operator.apply(plan))
     }
 }
 
@@ -182,8 +186,8 @@ fn answer_read(
         × ((line : List ℕ) → packet_in line ≡ Ok packet.now → PacketTurn running.old line turn out (Some running.new))) }
 {
     match running.on_packet(packet) {
-        Ok(stepped) => {
-            write_packets(alloc, stepped.packets.as_slice(), output)?;
+        Ok(sent) => {
+            write_packets(alloc, sent.as_slice(), output)?;
             Ok(Turn::Taken)
         }
         Err(fault) => {
