@@ -1,13 +1,13 @@
 //! What a node remembers of the requests that came to it.
 
-ghost use Rattle.std.specs.Prelude.{◌≡◌, ◌↔◌, ◌≢◌, ℕ, IfErr, IfNone, IfSome, IsOk, IsSome, OnErr, OnOk, option_copied};
+ghost use Rattle.std.specs.Prelude.{◌≡◌, ◌↔◌, ◌≢◌, ℕ, IfErr, IfNone, IfSome, IsOk, OnErr, OnOk, option_copied};
 ghost use Rattle.std.specs.FinMap as map;
 ghost use Rattle.tables.specs.Tables.{shown_of, rooms_of};
 ghost use Rattle.ocpi_types.specs.Rows.{key_of};
 ghost use Rattle.command_book.specs.Calls.{
   BarsOpening,
   BarsSettling,
-  IsStart,
+  IsPlaced,
   MayOpen,
   MaySettle,
   Leaves,
@@ -17,12 +17,12 @@ ghost use Rattle.command_book.specs.Calls.{
 };
 ghost use Rattle.command_book.specs.Queue.{deadline_cmp, deadline_of, unqueued};
 ghost use Rattle.command_book.specs.Room.{HasRoomOf, HasRoomUntil, KeepsRoom, KeepsOtherRoom, GivesBack};
-ghost use Rattle.command_book.specs.Stored.{no_rows, open_command, put_row, drop_row};
+ghost use Rattle.command_book.specs.Stored.{no_rows, put_row, drop_row};
 ghost use Rattle.command_book.specs.declared.fault.CommandFault.TheVariants.{AlreadyOpen, Settled};
 
 use crate::fault::CommandFault;
 use ocpi_text::{Moment, PartyKey, Whole};
-use ocpi_types::{Command, CommandResultType, OpenCommand, Place, Reply, Row, RowKey};
+use ocpi_types::{Boxed, CommandResultType, OpenCommand, Reply, Row, RowKey};
 use std::alloc::{AllocError, Global};
 use std::marker::Model;
 use tables::Table;
@@ -35,7 +35,7 @@ pub(crate) type Request = (PartyKey, Whole);
 #[derive(Drop)]
 pub struct CommandBook {
     pub(crate) replies: Table<Request, Reply>,
-    pub(crate) pending: Table<Request, OpenCommand>,
+    pub(crate) pending: Table<Request, Boxed<OpenCommand>>,
     pub(crate) results: Table<Request, CommandResultType>,
     /// The open commands, by their deadlines.
     pub(crate) queue: Table<(Moment, Request), ()>,
@@ -109,7 +109,10 @@ impl CommandBook {
     pub fn opened(&self, provider: PartyKey, number: Whole) -> Option<&OpenCommand>
         ensures { option_copied result ≡ map.get self.now.rows.pending (provider, number) }
     {
-        self.pending.get((provider, number))
+        match self.pending.get((provider, number)) {
+            Some(open) => Some(open),
+            None => None,
+        }
     }
 
     /// How the command of that number of a provider ended (OCPI 2.2.1, Commands: CommandResult).
@@ -201,14 +204,15 @@ impl CommandBook {
     }
 
     /// Puts an open command, in place of the one of the request if there is one.
-    fn put_open(&mut self, provider: PartyKey, number: Whole, command: OpenCommand)
+    fn put_open(&mut self, provider: PartyKey, number: Whole, command: Boxed<OpenCommand>)
         requires { HasRoomUntil self.old.rooms (provider, number) command.deadline }
         ensures rows { self.new.rows ≡ put_row (Row.Pending provider number command) self.old.rows }
         ensures room { HasRoomUntil self.new.rooms (provider, number) command.deadline }
         ensures keeps { KeepsOtherRoom (RowKey.Pending provider number) self.old.rooms self.new.rooms }
         ensures fresh { map.get self.old.rows.pending (provider, number) ≡ None → KeepsRoom self.old.rooms self.new.rooms }
     {
-        let deadline = command.deadline;
+        let seen = &*command;
+        let deadline = seen.deadline;
         let stale = self.stale(provider, number, deadline);
         unqueue(&mut self.queue, stale, provider, number);
         self.queue.put((deadline, (provider, number)), ());
@@ -232,7 +236,7 @@ impl CommandBook {
                 provider,
                 number,
                 open,
-            } => self.put_open(provider, number, open.into_inner()),
+            } => self.put_open(provider, number, open),
             Row::Result {
                 provider,
                 number,
@@ -311,36 +315,28 @@ impl CommandBook {
         Ok(())
     }
 
-    /// Opens a command that was accepted, until its result or the first tick at the deadline or later; a start with the
+    /// Opens a command that was accepted, until its result or the first tick at its deadline or later; a start with the
     /// place that it took. Refused is a command that is open or has its result (`AlreadyOpen`), and then want of memory
     /// (`Memory`); either leaves the rows as they were. What has room keeps it.
     pub fn open(
         &mut self,
         provider: PartyKey,
         number: Whole,
-        command: Command,
-        place: Option<Place>,
-        deadline: Moment,
+        command: Boxed<OpenCommand>,
     ) -> Result<(), CommandFault>
-        requires { IsStart command → IsSome place }
-        ensures ok { OnOk result (self.new.rows ≡ record self.old.rows { pending = map.insert self.old.rows.pending (provider, number) (open_command command place deadline) }) }
+        requires { IsPlaced command }
+        ensures ok { OnOk result (self.new.rows ≡ record self.old.rows { pending = map.insert self.old.rows.pending (provider, number) command }) }
         ensures may { OnOk result (MayOpen self.old.rows (provider, number)) }
         ensures refused { IfErr result (λ e. BarsOpening self.old.rows (provider, number) e) }
         ensures err { OnErr result (self.new.rows ≡ self.old.rows) }
-        ensures again { MayOpen self.old.rows (provider, number) → HasRoomOf self.old.rooms (Row.Pending provider number (open_command command place deadline)) → IsOk result }
-        ensures room { OnOk result (HasRoomOf self.new.rooms (Row.Pending provider number (open_command command place deadline))) }
+        ensures again { MayOpen self.old.rows (provider, number) → HasRoomOf self.old.rooms (Row.Pending provider number command) → IsOk result }
+        ensures room { OnOk result (HasRoomOf self.new.rooms (Row.Pending provider number command)) }
         ensures keeps { KeepsRoom self.old.rooms self.new.rooms }
-        ensures call { Leaves (Open (provider, number) (open_command command place deadline)) self.old.rows self.new.rows }
+        ensures call { Leaves (Open (provider, number) command) self.old.rows self.new.rows }
     {
         self.may_open(provider, number)?;
-        let open = OpenCommand {
-            command,
-            evse_uid: place.as_ref().map(|place| place.evse_uid),
-            connector_id: place.as_ref().map(|place| place.connector_id),
-            deadline,
-        };
-        self.reserve_open(provider, number, deadline)?;
-        self.put_open(provider, number, open);
+        self.reserve_open(provider, number, command.deadline)?;
+        self.put_open(provider, number, command);
         Ok(())
     }
 

@@ -4,7 +4,7 @@
 //! ```
 //! let mut book = CommandBook::new(alloc);
 //! book.keep_reply(provider, number, reply)?;
-//! book.open(provider, number, command, Some(place), deadline)?;
+//! book.open(provider, number, Boxed::new(alloc, open)?)?;
 //! let open = book.opened(provider, number);
 //! for (provider, number) in book.due(alloc, at)?.as_slice() {
 //!     book.settle(*provider, *number, CommandResultType::Timeout)?;
@@ -16,6 +16,7 @@
 //!
 //! - Replies and results stay for good, and an open command has no result, over every list of calls. By laws
 //!   `replies_stay`, `results_stay`, `stays_consistent`.
+//! - A command that is opened comes boxed, so that no memory is taken for it. By `open`.
 //! - Exactly the open commands whose deadline is at or before the moment are listed, by provider and number. By `due`.
 //! - What has room keeps it in each call, and a command that is settled gives its room back. By `keeps`, `room`,
 //!   `gives_back`.

@@ -27,15 +27,14 @@ fn push_replies(replies: &Table<Request, Reply>, rows: &mut Vec<Row>) -> Result<
 }
 
 fn push_pending(
-    alloc: Global,
-    pending: &Table<Request, OpenCommand>,
+    pending: &Table<Request, Boxed<OpenCommand>>,
     rows: &mut Vec<Row>,
 ) -> Result<(), AllocError>
     ensures list { OnOk result (rows.new.items ≡ rows.old.items ++ map pending_row (entries (shown_of text_number_cmp pending.now))) }
     ensures none { entries (shown_of text_number_cmp pending.now) ≡ [] → IsOk result }
 {
     for (request, open) in pending.iter() {
-        let open = Boxed::new(alloc, open.copy()?)?;
+        let open = open.copy()?;
         rows.push(Row::Pending {
             provider: request.0,
             number: request.1,
@@ -64,12 +63,12 @@ fn push_results(
 
 impl CommandBook {
     /// The rows kind by kind, each in the order of its keys.
-    fn push_rows(&self, alloc: Global, rows: &mut Vec<Row>) -> Result<(), AllocError>
+    fn push_rows(&self, rows: &mut Vec<Row>) -> Result<(), AllocError>
         ensures list { OnOk result (rows.new.items ≡ rows.old.items ++ rows_of self.now.rows) }
         ensures none { self.now.rows ≡ no_rows → IsOk result }
     {
         push_replies(&self.replies, rows)?;
-        push_pending(alloc, &self.pending, rows)?;
+        push_pending(&self.pending, rows)?;
         push_results(&self.results, rows)?;
         Ok(())
     }
@@ -80,7 +79,7 @@ impl CommandBook {
         ensures none { self.now.rows ≡ no_rows → IsOk result }
     {
         let mut rows = Vec::new(alloc);
-        self.push_rows(alloc, &mut rows)?;
+        self.push_rows(&mut rows)?;
         Ok(rows)
     }
 

@@ -44,7 +44,7 @@ pub(crate) type Group = ((PartyKey, CiKey<36>), bool);
 /// Charge detail records by operator and id, the bills and credits of a session, and the sums of their costs.
 #[derive(Drop)]
 pub(crate) struct CdrBook {
-    cdrs: Table<(PartyKey, CiKey<39>), Cdr>,
+    cdrs: Table<(PartyKey, CiKey<39>), Boxed<Cdr>>,
     /// The ids of the bills, and those of the credits, of each operator and session.
     sessions: Table<(Group, CiKey<39>), ()>,
     sums: Sums,
@@ -123,11 +123,11 @@ impl CdrBook {
     }
 
     /// Adds the row of each record to a list, in the order of their keys.
-    pub(crate) fn push_rows(&self, alloc: Global, rows: &mut Vec<Row>) -> Result<(), AllocError>
+    pub(crate) fn push_rows(&self, rows: &mut Vec<Row>) -> Result<(), AllocError>
         ensures { OnOk result (rows.new.items ≡ rows.old.items ++ cdr_rows self.now.cdrs) }
     {
         for (_, cdr) in self.cdrs.iter() {
-            let cdr = Boxed::new(alloc, cdr.copy()?)?;
+            let cdr = cdr.copy()?;
             rows.push(Row::Cdr { cdr })?;
         }
         Ok(())
@@ -137,7 +137,10 @@ impl CdrBook {
     pub(crate) fn get(&self, operator: PartyKey, id: CiKey<39>) -> Option<&Cdr>
         ensures value { option_copied result ≡ map.get self.now.cdrs (operator, id) }
     {
-        self.cdrs.get((operator, id))
+        match self.cdrs.get((operator, id)) {
+            Some(cdr) => Some(cdr),
+            None => None,
+        }
     }
 
     /// Whether one of the bills, or of the credits, of a session is held under a later id.
@@ -197,9 +200,10 @@ impl CdrBook {
         let Some(cdr) = self.cdrs.get((operator, id)) else {
             return;
         };
-        let group = group_of(cdr);
-        let currency = cdr.currency;
-        let cost = cost_of(cdr);
+        let seen = &**cdr;
+        let group = group_of(seen);
+        let currency = seen.currency;
+        let cost = cost_of(seen);
         let _most = self.cdrs.room_count();
         self.cdrs.clear((operator, id));
         self.sessions.clear((group, id));
@@ -207,17 +211,18 @@ impl CdrBook {
     }
 
     /// Puts a record where none of its operator and id is held. It takes no memory.
-    fn fill(&mut self, cdr: Cdr)
+    fn fill(&mut self, cdr: Boxed<Cdr>)
         requires room { HasRoomOfCdr self.old.rooms cdr }
         requires new { map.get self.old.cdrs (cdr_key cdr) ≡ None }
         ensures cdrs { self.new.cdrs ≡ map.insert self.old.cdrs (cdr_key cdr) cdr }
         ensures rooms { self.new.rooms ≡ self.old.rooms }
     {
-        let operator = cdr.party.key();
-        let id = cdr.id.key();
-        let group = group_of(&cdr);
-        let currency = cdr.currency;
-        let cost = cost_of(&cdr);
+        let seen = &*cdr;
+        let operator = seen.party.key();
+        let id = seen.id.key();
+        let group = group_of(seen);
+        let currency = seen.currency;
+        let cost = cost_of(seen);
         let _most = self.cdrs.room_count();
         self.cdrs.put((operator, id), cdr);
         self.sessions.put((group, id), ());
@@ -225,12 +230,13 @@ impl CdrBook {
     }
 
     /// Puts a record, in place of the one of its operator and id if there is one. It takes no memory.
-    pub(crate) fn put(&mut self, cdr: Cdr)
+    pub(crate) fn put(&mut self, cdr: Boxed<Cdr>)
         requires { HasRoomOfCdr self.old.rooms cdr }
         ensures cdrs { self.new.cdrs ≡ map.insert self.old.cdrs (cdr_key cdr) cdr }
         ensures rooms { self.new.rooms ≡ self.old.rooms }
     {
-        self.clear(cdr.party.key(), cdr.id.key());
+        let seen = &*cdr;
+        self.clear(seen.party.key(), seen.id.key());
         self.fill(cdr);
     }
 
@@ -244,9 +250,10 @@ impl CdrBook {
         let Some(cdr) = self.cdrs.remove((operator, id)) else {
             return;
         };
-        let group = group_of(&cdr);
-        let currency = cdr.currency;
-        let cost = cost_of(&cdr);
+        let seen = &*cdr;
+        let group = group_of(seen);
+        let currency = seen.currency;
+        let cost = cost_of(seen);
         self.sessions.remove((group, id));
         add_to(&mut self.sums, operator, currency, 0 - cost);
     }

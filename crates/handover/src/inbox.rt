@@ -32,7 +32,7 @@ use crate::fault::HandoverFault;
 use crate::sums::Currency;
 use crate::takings::{CdrTaking, SessionTaking};
 use ocpi_text::{CiKey, CiText, Party, PartyKey};
-use ocpi_types::{Cdr, Row, RowKey, Session, SessionStatus};
+use ocpi_types::{Boxed, Cdr, Row, RowKey, Session, SessionStatus};
 use std::alloc::{AllocError, Global};
 use std::marker::Model;
 use tables::Table;
@@ -42,7 +42,7 @@ use tables::Table;
 /// logarithm of what is held.
 #[derive(Drop)]
 pub struct Inbox {
-    pub(crate) sessions: Table<(PartyKey, CiKey<36>), Session>,
+    pub(crate) sessions: Table<(PartyKey, CiKey<36>), Boxed<Session>>,
     pub(crate) cdrs: CdrBook,
 }
 
@@ -103,7 +103,10 @@ impl Inbox {
     pub fn held(&self, operator: &Party, id: &CiText<36>) -> Option<&Session>
         ensures { option_copied result ≡ map.get self.now.rows.sessions (key operator.now, key id.now) }
     {
-        self.sessions.get((operator.key(), id.key()))
+        match self.sessions.get((operator.key(), id.key())) {
+            Some(session) => Some(session),
+            None => None,
+        }
     }
 
     /// The charge detail record of an operator and an id that is held. Ids are compared without case.
@@ -192,31 +195,32 @@ impl Inbox {
     }
 
     /// Puts a session that has room, in place of the one of its key. It takes no memory.
-    fn put_session(&mut self, session: &Session)
-        requires { HasRoomOf self.old.rooms (Row.Session session.now) }
-        ensures rows { self.new.rows ≡ put_row (Row.Session session.now) self.old.rows }
+    fn put_session(&mut self, session: Boxed<Session>)
+        requires { HasRoomOf self.old.rooms (Row.Session session) }
+        ensures rows { self.new.rows ≡ put_row (Row.Session session) self.old.rows }
         ensures rooms { self.new.rooms ≡ self.old.rooms }
     {
-        self.sessions
-            .put((session.party.key(), session.id.key()), *session);
+        let seen = &*session;
+        let key = (seen.party.key(), seen.id.key());
+        self.sessions.put(key, session);
     }
 
     /// Puts a session, in place of the one of its key. An error is want of memory, for one that has no room, and
     /// leaves the rows as they were.
-    fn add_session(&mut self, session: &Session) -> Result<(), AllocError>
-        ensures ok { OnOk result (self.new.rows ≡ put_row (Row.Session session.now) self.old.rows) }
+    fn add_session(&mut self, session: Boxed<Session>) -> Result<(), AllocError>
+        ensures ok { OnOk result (self.new.rows ≡ put_row (Row.Session session) self.old.rows) }
         ensures err { OnErr result (self.new.rows ≡ self.old.rows) }
         ensures keeps { KeepsRoom self.old.rooms self.new.rooms }
-        ensures again { HasRoomOf self.old.rooms (Row.Session session.now) → IsOk result }
+        ensures again { HasRoomOf self.old.rooms (Row.Session session) → IsOk result }
     {
-        self.reserve_session(session)?;
+        self.reserve_session(&session)?;
         self.put_session(session);
         Ok(())
     }
 
     /// Puts a charge detail record, in place of the one of its key. An error is want of memory, for one that has no
     /// room, and leaves the rows as they were.
-    fn add_cdr(&mut self, cdr: Cdr) -> Result<(), AllocError>
+    fn add_cdr(&mut self, cdr: Boxed<Cdr>) -> Result<(), AllocError>
         ensures ok { OnOk result (self.new.rows ≡ put_row (Row.Cdr cdr) self.old.rows) }
         ensures err { OnErr result (self.new.rows ≡ self.old.rows) }
         ensures keeps { KeepsRoom self.old.rooms self.new.rooms }
@@ -234,17 +238,17 @@ impl Inbox {
         &mut self,
         own: &Party,
         sender: &Party,
-        session: &Session,
+        session: Boxed<Session>,
     ) -> Result<SessionTaking, HandoverFault>
-        ensures ok { OnOk result (IsOfParties own.now sender.now session.now.cdr_token.party session.now.party) }
-        ensures taken { IfOk result (λ t. (t ≡ session_taking.Taken) ↔ IsNews (map.get self.old.rows.sessions (session_key session.now)) session.now) }
-        ensures rows { IfOk result (λ t. self.new.rows ≡ with_session t session.now self.old.rows) }
+        ensures ok { OnOk result (IsOfParties own.now sender.now session.cdr_token.party session.party) }
+        ensures taken { IfOk result (λ t. (t ≡ session_taking.Taken) ↔ IsNews (map.get self.old.rows.sessions (session_key session)) session) }
+        ensures rows { IfOk result (λ t. self.new.rows ≡ with_session t session self.old.rows) }
         ensures keeps { KeepsRoom self.old.rooms self.new.rooms }
-        ensures again { IsOfParties own.now sender.now session.now.cdr_token.party session.now.party → HasRoomOf self.old.rooms (Row.Session session.now) → IsOk result }
+        ensures again { IsOfParties own.now sender.now session.cdr_token.party session.party → HasRoomOf self.old.rooms (Row.Session session) → IsOk result }
         ensures err { OnErr result (self.new.rows ≡ self.old.rows) }
-        ensures fault { IfErr result (λ e. ((e ≡ WrongParty) × (IsOfParties own.now sender.now session.now.cdr_token.party session.now.party → ⊥)) ⊎ ((e ≡ Memory) × IsOfParties own.now sender.now session.now.cdr_token.party session.now.party × IsNews (map.get self.old.rows.sessions (session_key session.now)) session.now)) }
+        ensures fault { IfErr result (λ e. ((e ≡ WrongParty) × (IsOfParties own.now sender.now session.cdr_token.party session.party → ⊥)) ⊎ ((e ≡ Memory) × IsOfParties own.now sender.now session.cdr_token.party session.party × IsNews (map.get self.old.rows.sessions (session_key session)) session)) }
     {
-        match self.session_taking(own, sender, session)? {
+        match self.session_taking(own, sender, &session)? {
             SessionTaking::Kept => Ok(SessionTaking::Kept),
             SessionTaking::Taken => {
                 self.add_session(session)?;
@@ -262,7 +266,7 @@ impl Inbox {
         &mut self,
         own: &Party,
         sender: &Party,
-        cdr: Cdr,
+        cdr: Boxed<Cdr>,
     ) -> Result<CdrTaking, HandoverFault>
         ensures ok { OnOk result (IsOfParties own.now sender.now cdr.cdr_token.party cdr.party) }
         ensures conflict { IfOk result (λ t. (t ≡ cdr_taking.Conflict) ↔ IsInConflict self.old.rows.cdrs cdr) }
@@ -326,8 +330,8 @@ impl Inbox {
         ensures rooms { self.new.rooms ≡ self.old.rooms }
     {
         match row {
-            Row::Session { session } => self.put_session(&session),
-            Row::Cdr { cdr } => self.cdrs.put(cdr.into_inner()),
+            Row::Session { session } => self.put_session(session),
+            Row::Cdr { cdr } => self.cdrs.put(cdr),
             Row::Count { .. }
             | Row::Reply { .. }
             | Row::Token { .. }
@@ -342,6 +346,15 @@ impl Inbox {
         }
     }
 
+    /// Drops the session of an operator and an id, if one is held, and gives its room back. It takes no memory.
+    fn drop_session(&mut self, operator: PartyKey, id: CiKey<36>)
+        ensures rows { self.new.rows ≡ drop_row (RowKey.Session operator id) self.old.rows }
+        ensures keeps { KeepsOtherRoom (RowKey.Session operator id) self.old.rooms self.new.rooms }
+        ensures room { GivesBack (RowKey.Session operator id) self.old self.new.rooms }
+    {
+        drop(self.sessions.remove((operator, id)));
+    }
+
     /// Drops a session or a charge detail record, and gives its room back; keys of other kinds change nothing. It
     /// takes no memory.
     pub fn drop_row(&mut self, key: RowKey)
@@ -350,9 +363,7 @@ impl Inbox {
         ensures room { GivesBack key self.old self.new.rooms }
     {
         match key {
-            RowKey::Session { operator, id } => {
-                self.sessions.remove((operator, id));
-            }
+            RowKey::Session { operator, id } => self.drop_session(operator, id),
             RowKey::Cdr { operator, id } => self.cdrs.remove(operator, id),
             RowKey::Count { .. }
             | RowKey::Reply { .. }

@@ -13,14 +13,13 @@ use std::alloc::{AllocError, Global};
 use tables::Table;
 
 fn push_sessions(
-    alloc: Global,
-    sessions: &Table<(PartyKey, CiKey<36>), Session>,
+    sessions: &Table<(PartyKey, CiKey<36>), Boxed<Session>>,
     rows: &mut Vec<Row>,
 ) -> Result<(), AllocError>
     ensures { OnOk result (rows.new.items ≡ rows.old.items ++ session_rows (shown_of text_pair_cmp sessions.now)) }
 {
     for (_, session) in sessions.iter() {
-        let session = Boxed::new(alloc, *session)?;
+        let session = session.copy()?;
         rows.push(Row::Session { session })?;
     }
     Ok(())
@@ -45,11 +44,11 @@ impl Inbox {
     }
 
     /// The rows kind by kind, each in the order of its keys.
-    fn push_rows(&self, alloc: Global, rows: &mut Vec<Row>) -> Result<(), AllocError>
+    fn push_rows(&self, rows: &mut Vec<Row>) -> Result<(), AllocError>
         ensures { OnOk result (rows.new.items ≡ rows.old.items ++ rows_of self.now.rows) }
     {
-        push_sessions(alloc, &self.sessions, rows)?;
-        self.cdrs.push_rows(alloc, rows)?;
+        push_sessions(&self.sessions, rows)?;
+        self.cdrs.push_rows(rows)?;
         Ok(())
     }
 
@@ -70,7 +69,7 @@ impl Inbox {
     {
         self.consistency();
         let mut rows = Vec::new(alloc);
-        self.push_rows(alloc, &mut rows)?;
+        self.push_rows(&mut rows)?;
         Ok(rows)
     }
 
@@ -125,7 +124,7 @@ impl Inbox {
     {
         self.consistency();
         let mut rows = Vec::new(alloc);
-        self.push_rows(alloc, &mut rows)?;
+        self.push_rows(&mut rows)?;
         let mut copy = Inbox::new(alloc);
         copy.add_rows(rows)?;
         Ok(copy)

@@ -2,9 +2,9 @@
 //!
 //! ```
 //! let mut inbox = Inbox::new(alloc);
-//! let taking = inbox.take_session(&own, &sender, &session)?;
+//! let taking = inbox.take_session(&own, &sender, Boxed::new(alloc, session)?)?;
 //! let held = inbox.held(&session.party, &session.id);
-//! match inbox.take_cdr(&own, &sender, cdr)? {
+//! match inbox.take_cdr(&own, &sender, Boxed::new(alloc, cdr)?)? {
 //!     CdrTaking::Taken | CdrTaking::Kept => acknowledge(),
 //!     CdrTaking::Conflict => refuse(),
 //! }
@@ -24,6 +24,8 @@
 //! - Whether a record differs from a held one is told by equality in every field, as spelled. By `is_equal`.
 //! - What is owed is the sum over the held records, each once, those of credits negative; over a list, the sums of it.
 //!   By `settlement`, `settle_all`.
+//! - What is taken comes boxed, so that no memory is taken for it, and the packet and the row share it. By
+//!   `take_session`, `take_cdr`.
 #![tactic(auto)]
 
 mod cdr_book;

@@ -11,18 +11,17 @@ ghost use Rattle.tables.specs.Tables.{shown_of};
 use handover::{Currency, Sums, settle_all};
 use line_runs::{RunFault, flush, write_whole};
 use ocpi_text::{PartyKey, write_sum};
-use ocpi_types::{Cdr, Row};
+use ocpi_types::{Boxed, Cdr, Row};
 use std::alloc::{AllocError, Global};
 use std::io::Write;
 
 /// Adds the record of a row, where it is one of a charge detail record.
-fn push_cdr(cdrs: &mut Vec<Cdr>, row: &Row) -> Result<(), AllocError>
+fn push_cdr(cdrs: &mut Vec<Boxed<Cdr>>, row: &Row) -> Result<(), AllocError>
     ensures { OnOk result (cdrs.new.items ≡ cdrs.old.items ++ cdr_of row.now) }
 {
     match row {
         Row::Cdr { cdr } => {
-            let copy = cdr.copy()?;
-            cdrs.push(copy.into_inner())?;
+            cdrs.push(cdr.copy()?)?;
             Ok(())
         }
         _ => Ok(()),
@@ -30,7 +29,7 @@ fn push_cdr(cdrs: &mut Vec<Cdr>, row: &Row) -> Result<(), AllocError>
 }
 
 /// The charge detail records among rows.
-fn cdrs_of(alloc: Global, rows: &[Row]) -> Result<Vec<Cdr>, AllocError>
+fn cdrs_of(alloc: Global, rows: &[Row]) -> Result<Vec<Boxed<Cdr>>, AllocError>
     ensures { IfOk result (λ v. v.items ≡ cdrs_of rows.now) }
 {
     let mut cdrs = Vec::new(alloc);

@@ -3,7 +3,6 @@
 ghost use Rattle.std.specs.Prelude.{◌≡◌, IfOk, OnErr};
 ghost use Rattle.ocpi_types.specs.Memory.{AuthorizeOwnsMemory, ListOwnsMemory};
 
-use crate::copies::ListItem;
 use crate::limits::RefusalCode;
 use crate::lists::EvseUids;
 use crate::token::Token;
@@ -84,10 +83,4 @@ pub enum Authorization {
         timestamp: Moment,
         status_code: RefusalCode,
     },
-}
-
-impl ListItem for Authorization {
-    fn item_copy(&self) -> Result<Authorization, AllocError> {
-        Ok(*self)
-    }
 }

@@ -1,24 +1,27 @@
-//! Values on the heap, for large members of small enums.
+//! Values on the heap that several owners may share, for large members of small enums.
 
 ghost use Rattle.std.specs.Prelude.{◌≡◌, IfOk};
 
-use crate::copies::ListItem;
 use std::alloc::{AllocError, Global};
 use std::marker::Model;
 use std::ops::Deref;
+use std::sync::Arc;
 
-/// A value on the heap, which clauses see as the value itself.
+/// A value on the heap, which clauses see as the value itself. It has one owner or several, which see the same value
+/// and cannot change it, and it lies there until the last of them is let go.
 #[derive(Drop)]
 pub struct Boxed<T> {
-    inner: Box<T>,
+    inner: Arc<T>,
 }
 
 impl<T> Model for Boxed<T> {
+    ghost use Rattle.std.specs.Arc.{arc_value};
+
     ghost Value = { T };
 
     ghost coded = { T.code };
 
-    ghost view = { λ b. b.inner.value };
+    ghost view = { λ b. arc_value b.inner };
 }
 
 impl<T> Deref for Boxed<T> {
@@ -44,33 +47,25 @@ impl<T: PartialEq> PartialEq for Boxed<T> {
     }
 }
 
-impl<T> Boxed<T> {
-    /// The value, without its place on the heap.
-    pub fn into_inner(self) -> T
-        ensures { result ≡ self }
-    {
-        let Boxed { inner } = self;
-        Box::into_inner(inner)
-    }
-}
-
 impl<T: Drop> Boxed<T> {
-    /// Takes a place on the heap for a value. An error is want of memory.
+    /// Takes a place on the heap for a value, which has one owner then. An error is want of memory.
     pub fn new(alloc: Global, value: T) -> Result<Boxed<T>, AllocError>
         ensures { IfOk result (λ b. b ≡ value) }
     {
         Ok(Boxed {
-            inner: Box::new(alloc, value)?,
+            inner: Arc::new(alloc, value)?,
         })
     }
 }
 
-impl<T: ListItem> Boxed<T> {
-    /// An equal value, in a place of its own. An error is want of memory.
+impl<T> Boxed<T> {
+    /// One more owner of the value. It takes no memory. An error is told as want of memory: the count of owners, of 63
+    /// bits, is full.
     pub fn copy(&self) -> Result<Boxed<T>, AllocError>
         ensures { IfOk result (λ b. b ≡ self.now) }
     {
-        let copy = self.inner.item_copy()?;
-        Boxed::new(*Box::allocator(&self.inner), copy)
+        Ok(Boxed {
+            inner: Arc::try_clone(&self.inner)?,
+        })
     }
 }

@@ -192,9 +192,3 @@ impl Cdr {
         })
     }
 }
-
-impl ListItem for Cdr {
-    fn item_copy(&self) -> Result<Cdr, AllocError> {
-        self.copy()
-    }
-}

@@ -4,7 +4,6 @@ ghost use Rattle.std.specs.Prelude.{◌≡◌, IfOk};
 ghost use Rattle.ocpi_types.specs.Kinds.{kind_of_command};
 
 use crate::boxed::Boxed;
-use crate::copies::ListItem;
 use crate::token::Token;
 use crate::words::PacketKind;
 use ocpi_text::{CiText, FreeText, Moment};
@@ -129,18 +128,6 @@ impl UnlockConnector {
             evse_uid: self.evse_uid,
             connector_id: self.connector_id,
         })
-    }
-}
-
-impl ListItem for StartSession {
-    fn item_copy(&self) -> Result<StartSession, AllocError> {
-        self.copy()
-    }
-}
-
-impl ListItem for ReserveNow {
-    fn item_copy(&self) -> Result<ReserveNow, AllocError> {
-        self.copy()
     }
 }
 

@@ -1,10 +1,10 @@
-//! Copies of lists and of values on the heap.
+//! Copies of lists.
 
 ghost use Rattle.std.specs.Prelude.{◌≡◌, IfOk};
 
 use std::alloc::{AllocError, Global};
 
-/// What a list or a place on the heap may hold whose copy is wanted.
+/// What a list may hold whose copy is wanted.
 pub trait ListItem: Drop {
     /// An equal value.
     fn item_copy(&self) -> Result<Self, AllocError>

@@ -17,7 +17,8 @@
 //! # Promises
 //!
 //! - What OCPI bounds, and every record of it alone, is `Copy`. Large members stand on the heap in a `Boxed`, which
-//!   clauses see as the value itself. By `Token`, `CdrToken`, `Session`, `Price`, `Authorization`, `CommandResponse`,
+//!   clauses see as the value itself, and which nothing changes. `Boxed::copy` is one more owner of it, and takes no
+//!   memory. By `Boxed`; `Token`, `CdrToken`, `Session`, `Price`, `Authorization`, `CommandResponse`,
 //!   `Ack`, `Event`, `Reservation`, `Opening`, `RowKey`; `Body`, `Command`, `Reply`, `Push`, `Row`.
 //! - A row stands under its key in key form, for all thirteen kinds. By `Row::key` (`key_of`).
 //! - A value is made exactly where its limits hold (lengths, ids that differ, ranges), and else none. By `new` of

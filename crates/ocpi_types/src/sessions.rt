@@ -1,6 +1,5 @@
 //! Charging sessions (OCPI 2.2.1, Sessions: Session object).
 
-use crate::copies::ListItem;
 use crate::price::PricePerKwh;
 use crate::token::CdrToken;
 use crate::words::{AuthMethod, SessionStatus};
@@ -53,10 +52,4 @@ pub struct Opening {
     /// An ISO 4217 code, in which the price is.
     pub currency: ShortText<3, 12>,
     pub price: PricePerKwh,
-}
-
-impl ListItem for Session {
-    fn item_copy(&self) -> Result<Session, AllocError> {
-        Ok(*self)
-    }
 }

@@ -9,7 +9,6 @@ use crate::authorizations::Authorization;
 use crate::boxed::Boxed;
 use crate::cdrs::Cdr;
 use crate::commands::Command;
-use crate::copies::ListItem;
 use crate::packet::Body;
 use crate::replies::{Ack, CommandResponse, CommandResult};
 use crate::sessions::Session;
@@ -145,12 +144,6 @@ impl OpenCommand {
     }
 }
 
-impl ListItem for OpenCommand {
-    fn item_copy(&self) -> Result<OpenCommand, AllocError> {
-        self.copy()
-    }
-}
-
 /// A reservation of an EVSE for a token (OCPI 2.2.1, Commands: ReserveNow).
 #[derive(Clone, Copy)]
 pub struct Reservation {
@@ -161,12 +154,6 @@ pub struct Reservation {
     /// As the site spells it.
     pub location_id: CiText<36>,
     pub token: Token,
-}
-
-impl ListItem for Reservation {
-    fn item_copy(&self) -> Result<Reservation, AllocError> {
-        Ok(*self)
-    }
 }
 
 /// A command that a provider has sent, with what came back. As long as neither came it is sent again.
@@ -191,11 +178,5 @@ impl SentCommand {
             answer: self.answer,
             result: self.result,
         })
-    }
-}
-
-impl ListItem for SentCommand {
-    fn item_copy(&self) -> Result<SentCommand, AllocError> {
-        self.copy()
     }
 }

@@ -1,6 +1,5 @@
 //! Tokens (OCPI 2.2.1, Tokens: Token object).
 
-use crate::copies::ListItem;
 use crate::words::{TokenType, WhitelistType};
 use ocpi_text::{CiText, Moment, Party, ShortText};
 use std::alloc::AllocError;
@@ -29,10 +28,4 @@ pub struct CdrToken {
     /// The member `type`.
     pub token_type: TokenType,
     pub contract_id: CiText<36>,
-}
-
-impl ListItem for Token {
-    fn item_copy(&self) -> Result<Token, AllocError> {
-        Ok(*self)
-    }
 }

@@ -25,7 +25,7 @@ use crate::plans::quiet;
 use crate::reports::bills::{add_posted, add_recorded};
 use node_steps::{Needs, NodeFault, Plan, find_peer};
 use ocpi_text::{CiKey, Moment, Party};
-use ocpi_types::{Cdr, SessionStatus};
+use ocpi_types::{Boxed, Cdr, SessionStatus};
 use operator_rows::FullPlan;
 use session_state::{SessionFault, credit_id, credit_of};
 use std::alloc::AllocError;
@@ -85,8 +85,9 @@ impl Operator {
             requests: 1,
             changes: 2,
         })?;
-        add_posted(self.alloc, &mut draft, at, to, &credit)?;
-        add_recorded(self.alloc, &mut draft, credit)?;
+        let credit = Boxed::new(self.alloc, credit)?;
+        add_posted(&mut draft, at, to, &credit)?;
+        add_recorded(&mut draft, credit)?;
         Ok(draft.into_plan())
     }
 

@@ -62,32 +62,22 @@ fn add_replaced(draft: &mut Draft, older: Option<Whole>) -> Result<(), AllocErro
 
 /// Adds that a version of a session is pushed to a party.
 fn add_pushed(
-    alloc: Global,
     draft: &mut Draft,
     at: Moment,
     to: Party,
-    version: &Session,
+    version: &Boxed<Session>,
 ) -> Result<(), AllocError>
     requires { HasNumbers 1 1 draft.old }
     ensures { OnOk result (draft.new ≡ with_acts (pushed at (draft.old.counters.request + 1) to (push.PutSession version.now) ∷ []) draft.old) }
 {
-    // The proof wants the types of the members named.
-    let _total_cost = version.total_cost;
-    let _end_date_time = version.end_date_time;
-    let _reference = version.authorization_reference;
-    let sent = Boxed::new(alloc, *version)?;
+    let sent = version.copy()?;
     draft.push(at, to, Push::PutSession(sent))
 }
 
 /// Adds that a version of a session is stored.
-fn add_stored(alloc: Global, draft: &mut Draft, version: &Session) -> Result<(), AllocError>
-    ensures { OnOk result (draft.new ≡ with_acts (changed (change.Put (row.Session version.now)) ∷ []) draft.old) }
+fn add_stored(draft: &mut Draft, session: Boxed<Session>) -> Result<(), AllocError>
+    ensures { OnOk result (draft.new ≡ with_acts (changed (change.Put (row.Session session)) ∷ []) draft.old) }
 {
-    // The proof wants the types of the members named.
-    let _total_cost = version.total_cost;
-    let _end_date_time = version.end_date_time;
-    let _reference = version.authorization_reference;
-    let session = Boxed::new(alloc, *version)?;
     draft.change(Change::Put(Row::Session { session }))
 }
 
@@ -102,8 +92,14 @@ pub(crate) fn add_version(
     ensures { OnOk result (draft.new ≡ with_acts (version_acts at draft.old.counters.request versioned.now) draft.old) }
 {
     add_replaced(draft, versioned.older)?;
-    add_pushed(alloc, draft, at, versioned.to, &versioned.version)?;
-    add_stored(alloc, draft, &versioned.version)
+    // The proof wants the types of the members named.
+    let version = &versioned.version;
+    let _total_cost = version.total_cost;
+    let _end_date_time = version.end_date_time;
+    let _reference = version.authorization_reference;
+    let stored = Boxed::new(alloc, *version)?;
+    add_pushed(draft, at, versioned.to, &stored)?;
+    add_stored(draft, stored)
 }
 
 /// Adds that a session begins: the reservation that it uses, where it uses one, ends, and its first version is pushed

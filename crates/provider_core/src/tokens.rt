@@ -33,20 +33,25 @@ impl Provider {
         &self,
         draft: &mut Draft,
         at: Moment,
-        version: &Token,
+        version: &Boxed<Token>,
         to: Party,
     ) -> Result<(), AllocError>
         requires { HasNumbers 1 1 draft.old }
         ensures { OnOk result (IsPushed self.now.state.rows.outbox.pushes at version.now to draft.old draft.new) }
     {
-        let push = Push::PutToken(Boxed::new(self.alloc, *version)?);
+        let push = Push::PutToken(version.copy()?);
         let older = self.books.outbox().replaced(&to, &push);
         add_replaced(draft, older)?;
         draft.push(at, to, push)
     }
 
     /// Adds the pushes of a version of a token to each operator in turn.
-    fn add_pushes(&self, draft: &mut Draft, at: Moment, version: &Token) -> Result<(), AllocError>
+    fn add_pushes(
+        &self,
+        draft: &mut Draft,
+        at: Moment,
+        version: &Boxed<Token>,
+    ) -> Result<(), AllocError>
         requires { HasNumbers (length self.now.state.operators) (length self.now.state.operators) draft.old }
         ensures { OnOk result (ArePushed self.now.state at version.now draft.old draft.new) }
     {
@@ -61,9 +66,10 @@ impl Provider {
         requires { HasNumbers (length self.now.state.operators) (length self.now.state.operators) draft.old }
         ensures { OnOk result (IsGathered self.now.state at version.now draft.old draft.new) }
     {
-        let token = Boxed::new(self.alloc, *version)?;
+        let version = Boxed::new(self.alloc, *version)?;
+        let token = version.copy()?;
         draft.change(Change::Put(Row::Token { token }))?;
-        self.add_pushes(draft, at, version)
+        self.add_pushes(draft, at, &version)
     }
 
     /// The step in which a version of a token is stored, and pushed to each operator.

@@ -1,6 +1,6 @@
 //! Work that is carried out: all memory for it is taken first, and then nothing can fail.
 
-ghost use Rattle.std.specs.Prelude.{◌≡◌, ◌≤◌, ◌+◌, ◌++◌, ◌∷◌, [], IfOk, OnErr, OnOk, length, vec_capacity};
+ghost use Rattle.std.specs.Prelude.{◌≡◌, ◌≤◌, ◌+◌, ◌++◌, IfOk, OnErr, OnOk, length, vec_capacity};
 ghost use Rattle.node_core.specs.States.{state_of};
 ghost use Rattle.node_core.specs.Works.{MayDo, changes_by, packets_by, versions_by};
 ghost use Rattle.stored_laws.specs.Nodes.{IsWhole};
@@ -11,32 +11,24 @@ ghost use Rattle.world_steps.specs.Steps.{all_put, version_put};
 use crate::place::Place;
 use node_core::NodeWork;
 use node_steps::copies;
-use ocpi_types::{Change, Packet, Row, Session};
+use ocpi_types::{Boxed, Change, Packet, Row, Session};
 use std::alloc::{AllocError, Global};
 
-/// Adds a version. What a record is made of is known once a member of it is read.
-fn push_copy(versions: &mut Vec<Session>, version: &Session) -> Result<(), AllocError>
-    ensures { OnOk result (versions.new.items ≡ versions.old.items ++ version.now ∷ []) }
-{
-    let _end = version.end_date_time;
-    let _cost = version.total_cost;
-    let _reference = version.authorization_reference;
-    versions.push(*version)?;
-    Ok(())
-}
-
 /// Adds the version of a session that a change puts.
-fn push_version(versions: &mut Vec<Session>, change: &Change) -> Result<(), AllocError>
+fn push_version(versions: &mut Vec<Boxed<Session>>, change: &Change) -> Result<(), AllocError>
     ensures { OnOk result (versions.new.items ≡ versions.old.items ++ version_put change.now) }
 {
     match change {
-        Change::Put(Row::Session { session }) => push_copy(versions, session),
+        Change::Put(Row::Session { session }) => {
+            versions.push(session.copy()?)?;
+            Ok(())
+        }
         _ => Ok(()),
     }
 }
 
 /// The versions of sessions that changes put, in order. An error is want of memory.
-fn versions_put(alloc: Global, changes: &[Change]) -> Result<Vec<Session>, AllocError>
+fn versions_put(alloc: Global, changes: &[Change]) -> Result<Vec<Boxed<Session>>, AllocError>
     ensures { IfOk result (λ v. v.items ≡ all_put changes.now) }
 {
     let mut versions = Vec::new(alloc);
@@ -58,7 +50,7 @@ fn add_packets(sent: &mut Vec<Packet>, mut packets: Vec<Packet>)
 }
 
 /// Adds versions to a list that has room for them.
-fn add_versions(versions: &mut Vec<Session>, mut more: Vec<Session>)
+fn add_versions(versions: &mut Vec<Boxed<Session>>, mut more: Vec<Boxed<Session>>)
     requires { length versions.old.items + length more.items ≤ vec_capacity versions.old }
     ensures { versions.new.items ≡ versions.old.items ++ more.items }
 {
@@ -79,7 +71,7 @@ fn ready(alloc: Global, work: &NodeWork, sent: &mut Vec<Packet>) -> Result<Vec<C
 }
 
 /// The versions of its sessions that an operator stores by the work; a provider has none. An error is want of memory.
-fn versions_of(alloc: Global, work: &NodeWork) -> Result<Vec<Session>, AllocError>
+fn versions_of(alloc: Global, work: &NodeWork) -> Result<Vec<Boxed<Session>>, AllocError>
     ensures { IfOk result (λ v. v.items ≡ versions_by work.now) }
 {
     match work {
@@ -92,8 +84,8 @@ fn versions_of(alloc: Global, work: &NodeWork) -> Result<Vec<Session>, AllocErro
 fn ready_versions(
     alloc: Global,
     work: &NodeWork,
-    versions: &mut Vec<Session>,
-) -> Result<Vec<Session>, AllocError>
+    versions: &mut Vec<Boxed<Session>>,
+) -> Result<Vec<Boxed<Session>>, AllocError>
     ensures versions { IfOk result (λ v. v.items ≡ versions_by work.now) }
     ensures same { versions.new.items ≡ versions.old.items }
     ensures room { IfOk result (λ v. length versions.new.items + length v.items ≤ vec_capacity versions.new) }

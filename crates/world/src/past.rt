@@ -4,13 +4,13 @@ ghost use Rattle.std.specs.Iterator.{YieldsFirstRef, item_count};
 ghost use Rattle.world.specs.Seen.{versions_left};
 
 use ocpi_text::CiKey;
-use ocpi_types::Session;
+use ocpi_types::{Boxed, Session};
 
 /// The versions that a session had, oldest first: those that are left.
 #[derive(Drop)]
 pub struct Past<'w> {
     pub(crate) session: CiKey<36>,
-    pub(crate) versions: &'w [Session],
+    pub(crate) versions: &'w [Boxed<Session>],
 }
 
 impl<'w> Iterator for Past<'w> {

@@ -2,7 +2,7 @@
 
 use node_core::Node;
 use ocpi_text::Party;
-use ocpi_types::{Packet, Session};
+use ocpi_types::{Boxed, Packet, Session};
 
 /// The node of a party, all packets that it ever sent, and all versions of its sessions that it ever stored, oldest
 /// first.
@@ -11,5 +11,5 @@ pub(crate) struct Place {
     pub(crate) party: Party,
     pub(crate) node: Node,
     pub(crate) sent: Vec<Packet>,
-    pub(crate) versions: Vec<Session>,
+    pub(crate) versions: Vec<Boxed<Session>>,
 }

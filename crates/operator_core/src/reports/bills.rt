@@ -32,24 +32,22 @@ pub(crate) struct Bill {
 
 /// Adds that a charge detail record is pushed to a party.
 pub(crate) fn add_posted(
-    alloc: Global,
     draft: &mut Draft,
     at: Moment,
     to: Party,
-    cdr: &Cdr,
+    cdr: &Boxed<Cdr>,
 ) -> Result<(), AllocError>
     requires { HasNumbers 1 1 draft.old }
     ensures { OnOk result (draft.new ≡ with_acts (pushed at (draft.old.counters.request + 1) to (push.PostCdr cdr.now) ∷ []) draft.old) }
 {
-    let sent = Boxed::new(alloc, cdr.copy()?)?;
+    let sent = cdr.copy()?;
     draft.push(at, to, Push::PostCdr(sent))
 }
 
 /// Adds that a charge detail record is stored.
-pub(crate) fn add_recorded(alloc: Global, draft: &mut Draft, cdr: Cdr) -> Result<(), AllocError>
+pub(crate) fn add_recorded(draft: &mut Draft, cdr: Boxed<Cdr>) -> Result<(), AllocError>
     ensures { OnOk result (draft.new ≡ with_acts (changed (change.Put (row.Cdr cdr)) ∷ []) draft.old) }
 {
-    let cdr = Boxed::new(alloc, cdr)?;
     draft.change(Change::Put(Row::Cdr { cdr }))
 }
 
@@ -66,8 +64,9 @@ pub(crate) fn add_bill(
 {
     let Bill { number, cdr } = bill;
     add_number(draft, Counter::Cdr, number)?;
-    add_posted(alloc, draft, at, to, &cdr)?;
-    add_recorded(alloc, draft, cdr)
+    let cdr = Boxed::new(alloc, cdr)?;
+    add_posted(draft, at, to, &cdr)?;
+    add_recorded(draft, cdr)
 }
 
 /// The charge detail record of a draft, under the id of a number of a party. The draft is spent. An error is want of

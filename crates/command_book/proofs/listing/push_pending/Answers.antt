@@ -5,10 +5,7 @@ use Rattle.tables.proofs.Elements.{one_more, none_left, not_none}
 use Rattle.command_book.proofs.listing.push_pending.Goals as goal
 
 pub loop-request-preserved : goal.loop-request-preserved
-loop-request-preserved c = (one_more _ _ _ _ _ _ c.in_ok-push.ensures.items (ap (map pending_row) c.in-Some.ensures.steps ∙ ap (λ o. row.Pending c.in-Some.request.now.0 c.in-Some.request.now.1 o ∷ map pending_row c.next.new.self) (sym (c.in_ok-open.ensures ∙ c.in_ok-copy.ensures))) c.loop-request.invariant.0, λ none. not_none _ _ _ c.in-Some.ensures.steps (c.loop-request.invariant.1 none))
-
-pub returns-in_err-copy-clause-none : goal.returns-in_err-copy-clause-none
-returns-in_err-copy-clause-none c = λ none. not_none _ _ _ c.in-Some.ensures.steps (c.loop-request.invariant.1 ((cc) ∙ none))
+loop-request-preserved c = (one_more _ _ _ _ _ _ c.in_ok-push.ensures.items (ap (map pending_row) c.in-Some.ensures.steps ∙ ap (λ o. row.Pending c.in-Some.request.now.0 c.in-Some.request.now.1 o ∷ map pending_row c.next.new.self) (sym c.in_ok-open.ensures)) c.loop-request.invariant.0, λ none. not_none _ _ _ c.in-Some.ensures.steps (c.loop-request.invariant.1 none))
 
 pub returns-in_err-open-clause-none : goal.returns-in_err-open-clause-none
 returns-in_err-open-clause-none c = λ none. not_none _ _ _ c.in-Some.ensures.steps (c.loop-request.invariant.1 ((cc) ∙ none))

@@ -10,12 +10,12 @@ loop-cdr-init c = rw c.new-sums.ensures.shown (owed_start, small_start)
 
 pub loop-cdr-preserved : goal.loop-cdr-preserved
 loop-cdr-preserved c =
-    let small = subst (λ z. unsigned_abs z < e4_limit) c.cost_of.ensures.value c.cost_of.ensures.bound in
+    let small = subst (λ z. unsigned_abs z < e4_limit) (rw c.deref-seen.ensures at c.cost_of.ensures.value) c.cost_of.ensures.bound in
     let within = c.loop-cdr-test.true in
     let counted = c.number_of-count.ensures in
     let few = c.number_of-count.type_inv in
     let count : c.loop-cdr.cdr-index < 2 ^ 64 = omega arith in
     settled_more c.args.cdrs.now c.loop-cdr.cdr-index c.cdr-item.result _ _ (c.key-operator.result, c.cdr-item.result.currency) _
     (slice_get_read _ _ c.loop-cdr.cdr-index c.cdr-item.result refl c.loop-cdr-test.true c.cdr-item.is)
-    (λ i. (c.key-operator.ensures i, c.cdr-item.result.currency))
-    (cost_sum _ c.sum_in.result _ c.from.result c.cost_of.result c.loop-cdr.cdr-index c.sum_in.ensures c.from.ensures c.cost_of.ensures.value small (c.loop-cdr.invariant.1 (c.key-operator.result, c.cdr-item.result.currency)) count) small c.in_ok-insert.ensures.shown c.loop-cdr.invariant.0 c.loop-cdr.invariant.1
+    (λ i. ((rw c.deref-seen.ensures at c.key-operator.ensures) i, c.cdr-item.result.currency))
+    (cost_sum _ c.sum_in.result _ c.from.result c.cost_of.result c.loop-cdr.cdr-index (rw c.deref-seen.ensures at c.sum_in.ensures) c.from.ensures (rw c.deref-seen.ensures at c.cost_of.ensures.value) small (c.loop-cdr.invariant.1 (c.key-operator.result, c.cdr-item.result.currency)) count) small (rw c.deref-seen.ensures at c.in_ok-insert.ensures.shown) c.loop-cdr.invariant.0 c.loop-cdr.invariant.1

@@ -10,21 +10,22 @@ use Rattle.command_book.proofs.book.CommandBook.put_open.Goals as goal
 pub put-requires : goal.put-requires
 put-requires c =
     let room = rw (← c.self.view_is) at c.requires in
-    subst (λ (m : Queue). IsTrue (contains_key m (c.args.command.deadline, (c.args.provider, c.args.number)))) (sym c.unqueue.ensures.room)
-    (still_queued _ (c.args.provider, c.args.number) c.stale-stale.result c.args.command.deadline (c.args.provider, c.args.number) (apart_of_stale _ _ _ _ c.stale-stale.ensures.found) room.1)
+    let found = rw c.deref-seen.ensures at c.stale-stale.ensures.found in
+    rw c.deref-seen.ensures (subst (λ (m : Queue). IsTrue (contains_key m (c.args.command.deadline, (c.args.provider, c.args.number)))) (sym c.unqueue.ensures.room)
+    (still_queued _ (c.args.provider, c.args.number) c.stale-stale.result c.args.command.deadline (c.args.provider, c.args.number) (apart_of_stale _ _ _ _ found) room.1))
 
 pub invariant_of-self : goal.invariant_of-self
 invariant_of-self c =
-    rw (c.put.ensures.shown, c.unqueue.ensures.shown, c.put-2.ensures.shown)
+    rw (rw c.deref-seen.ensures at c.put.ensures.shown, c.unqueue.ensures.shown, c.put-2.ensures.shown)
     (queued_put _ _ (c.args.provider, c.args.number) c.args.command
-    (unqueued_stale _ _ c.self.invariant (c.args.provider, c.args.number) c.args.command.deadline c.stale-stale.result (rw (← c.self.view_is) at c.stale-stale.ensures.found) (rw (← c.self.view_is) at c.stale-stale.ensures.none)))
+    (unqueued_stale _ _ c.self.invariant (c.args.provider, c.args.number) c.args.command.deadline c.stale-stale.result (rw (← c.self.view_is, c.deref-seen.ensures) at c.stale-stale.ensures.found) (rw (← c.self.view_is, c.deref-seen.ensures) at c.stale-stale.ensures.none)))
 
 pub returns-clause-room : goal.returns-clause-room
 returns-clause-room c =
     let room = rw (← c.self.view_is) at c.requires in (
       rw c.put-2.ensures.room room.0,
       subst (λ (m : Queue). IsTrue (contains_key m (c.args.command.deadline, (c.args.provider, c.args.number)))) (sym (c.put.ensures.room ∙ c.unqueue.ensures.room))
-          (still_queued _ (c.args.provider, c.args.number) c.stale-stale.result c.args.command.deadline (c.args.provider, c.args.number) (apart_of_stale _ _ _ _ c.stale-stale.ensures.found) room.1),
+          (still_queued _ (c.args.provider, c.args.number) c.stale-stale.result c.args.command.deadline (c.args.provider, c.args.number) (apart_of_stale _ _ _ _ (rw c.deref-seen.ensures at c.stale-stale.ensures.found)) room.1),
     )
 
 pub returns-clause-keeps : goal.returns-clause-keeps

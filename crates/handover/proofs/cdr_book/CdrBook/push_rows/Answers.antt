@@ -5,7 +5,7 @@ use Rattle.tables.proofs.Elements.{one_more, none_left}
 use Rattle.handover.proofs.cdr_book.CdrBook.push_rows.Goals as goal
 
 pub loop-cdr-preserved : goal.loop-cdr-preserved
-loop-cdr-preserved c = one_more _ _ _ _ _ _ c.in_ok-push.ensures.items (ap (map cdr_row) c.in-Some.ensures.steps ∙ ap (λ x. row.Cdr x ∷ map cdr_row c.next.new.self) (sym (c.in_ok-cdr.ensures ∙ c.in_ok-copy.ensures))) c.loop-cdr.invariant
+loop-cdr-preserved c = one_more _ _ _ _ _ _ c.in_ok-push.ensures.items (ap (map cdr_row) c.in-Some.ensures.steps ∙ ap (λ x. row.Cdr x ∷ map cdr_row c.next.new.self) (sym c.in_ok-cdr.ensures)) c.loop-cdr.invariant
 
 pub returns : goal.returns
 returns c = rw (← c.self.view_is) (none_left _ _ _ (ap (map cdr_row) c.in-None.ensures.steps.0) c.loop-cdr.invariant ∙ ap (λ l. c.args.rows.now.items ++ map cdr_row l) (cc))

@@ -10,7 +10,7 @@ use Rattle.handover.proofs.cdr_book.CdrBook.remove.Goals as goal
 
 pub add_to-requires-clause-room : goal.add_to-requires-clause-room
 add_to-requires-clause-room c =
-    account_room _ _ _ _ c.self.invariant (c.args.operator, c.args.id) c.in-Some.cdr (sym c.remove.ensures.value ∙ c.in-Some.is)
+    rw c.deref-seen.ensures (account_room _ _ _ _ c.self.invariant (c.args.operator, c.args.id) c.in-Some.cdr (sym c.remove.ensures.value ∙ c.in-Some.is))
 
 pub add_to-requires-clause-bound : goal.add_to-requires-clause-bound
 add_to-requires-clause-bound c = sum_bound _ _ _ _ c.self.invariant _ c.room_count-most.result c.room_count-most.ensures.most c.room_count-most.ensures.small
@@ -31,22 +31,22 @@ returns-clause-cdrs c = rw (← c.self.view_is) c.remove.ensures.shown
 
 pub invariant_of-self-2 : goal.invariant_of-self-2
 invariant_of-self-2 c =
-    let value = c.cost_of-cost.ensures.value in
+    let value = (rw c.deref-seen.ensures at c.cost_of-cost.ensures.value) in
     let bound = c.cost_of-cost.ensures.bound in
     cleared _ _ _ _ c.self.invariant (c.args.operator, c.args.id) c.in-Some.cdr _ _ _ _ _ _
-    (sym c.remove.ensures.value ∙ c.in-Some.is) c.group_of-group.ensures (omega (arith, ints))
-    c.remove.ensures.shown c.remove-2.ensures.shown c.add_to.ensures.sums c.add_to.ensures.rooms
+    (sym c.remove.ensures.value ∙ c.in-Some.is) (rw c.deref-seen.ensures at c.group_of-group.ensures) (omega (arith, ints))
+    c.remove.ensures.shown c.remove-2.ensures.shown (rw c.deref-seen.ensures at c.add_to.ensures.sums) c.add_to.ensures.rooms
 
 pub returns-clause-rooms : goal.returns-clause-rooms
 returns-clause-rooms c =
     let had = sym c.remove.ensures.value ∙ c.in-Some.is in
     let operator = ap (λ (k : Texts). k.0) (c.self.invariant.own (c.args.operator, c.args.id) c.in-Some.cdr had) in
-    rw (← c.self.view_is, c.add_to.ensures.rooms) (λ x room apart. lost_both _ _ _ (c.args.operator, c.args.id) c.group_of-group.result (ap (λ (g : Group). g.0.0) c.group_of-group.ensures ∙ sym operator)
+    rw (← c.self.view_is, c.add_to.ensures.rooms) (λ x room apart. lost_both _ _ _ (c.args.operator, c.args.id) c.group_of-group.result (ap (λ (g : Group). g.0.0) (rw c.deref-seen.ensures at c.group_of-group.ensures) ∙ sym operator)
     c.remove.ensures.room c.remove-2.ensures.room x room apart)
 
 pub returns-clause-back : goal.returns-clause-back
 returns-clause-back c =
     let had = sym c.remove.ensures.value ∙ c.in-Some.is in
     let operator = ap (λ (k : Texts). k.0) (c.self.invariant.own (c.args.operator, c.args.id) c.in-Some.cdr had) in
-    rw (← c.self.view_is) (gave_both _ _ _ _ _ _ (c.args.operator, c.args.id) c.group_of-group.result c.in-Some.cdr had (c.group_of-group.ensures ∙ (λ i. ((sym operator i, key c.in-Some.cdr.session_id), is_credit c.in-Some.cdr)))
+    rw (← c.self.view_is) (gave_both _ _ _ _ _ _ (c.args.operator, c.args.id) c.group_of-group.result c.in-Some.cdr had ((rw c.deref-seen.ensures at c.group_of-group.ensures) ∙ (λ i. ((sym operator i, key c.in-Some.cdr.session_id), is_credit c.in-Some.cdr)))
     c.remove.ensures.room c.remove-2.ensures.room)
