@@ -1,6 +1,7 @@
 -- What of a node is told apart, so that its answer is one.
 use Rattle.std.specs.Prelude.{◌≡◌, ℕ, Some, Contains}
 use Rattle.std.specs.FinMap.{get}
+use Rattle.ocpi_types.specs.Commands.{url_of}
 use Rattle.ocpi_types.specs.Connectors.{AreConnectors}
 use Rattle.ocpi_types.specs.Locations.{AreLocations}
 use Rattle.ocpi_types.specs.Parties.{AreParties}
@@ -10,7 +11,6 @@ use Rattle.ocpi_types.specs.declared.site.Site.{Site}
 use Rattle.ocpi_types.specs.declared.stored.SentCommand.{SentCommand}
 use Rattle.operator_rows.specs.State as operator
 use Rattle.provider_rows.specs.State as provider
-use Rattle.provider_rows.specs.State.{url_of}
 use Rattle.world_steps.specs.World.{NodeState, Operates, Provides}
 
 -- no two commands of a provider have their results posted to one url. So it is of each that ran from its opening

@@ -199,7 +199,16 @@ impl CommandBook {
                 number,
                 ..
             } => self.results.reserve((*provider, *number)),
-            _ => Ok(()),
+            Row::Count { .. }
+            | Row::Token { .. }
+            | Row::Push { .. }
+            | Row::Service { .. }
+            | Row::Spent { .. }
+            | Row::Mark { .. }
+            | Row::Reservation { .. }
+            | Row::Session { .. }
+            | Row::Cdr { .. }
+            | Row::Command { .. } => Ok(()),
         }
     }
 
@@ -242,7 +251,16 @@ impl CommandBook {
                 number,
                 result,
             } => self.results.put((provider, number), result),
-            other => drop(other),
+            Row::Count { .. }
+            | Row::Token { .. }
+            | Row::Push { .. }
+            | Row::Service { .. }
+            | Row::Spent { .. }
+            | Row::Mark { .. }
+            | Row::Reservation { .. }
+            | Row::Session { .. }
+            | Row::Cdr { .. }
+            | Row::Command { .. } => {}
         }
     }
 
@@ -278,7 +296,16 @@ impl CommandBook {
             RowKey::Result { provider, number } => {
                 self.results.remove((provider, number));
             }
-            _ => {}
+            RowKey::Count { .. }
+            | RowKey::Token { .. }
+            | RowKey::Push { .. }
+            | RowKey::Service { .. }
+            | RowKey::Spent { .. }
+            | RowKey::Mark { .. }
+            | RowKey::Reservation { .. }
+            | RowKey::Session { .. }
+            | RowKey::Cdr { .. }
+            | RowKey::Command { .. } => {}
         }
     }
 

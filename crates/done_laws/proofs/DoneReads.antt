@@ -9,7 +9,7 @@ use Rattle.std.proofs.lemmas.List.{append_assoc}
 use Rattle.json.specs.Print.{escape, escape_byte, print_from, quoted}
 use Rattle.serde_json.specs.Data.{Data, string}
 use Rattle.serde_json.specs.Find.{get}
-use Rattle.json_text.specs.Fault.{Read}
+use Rattle.json_text.specs.Fault.{Read, fault_field as line_fault_field, fault_name as line_fault_name, fault_number as line_fault_number}
 use Rattle.json_text.specs.Line.{tree_at}
 use Rattle.json_text.specs.Tag.{is_tagged}
 use Rattle.json_text.specs.declared.fault.JsonFault.{JsonFault}
@@ -17,7 +17,7 @@ use Rattle.json_text.specs.declared.fault.JsonFault.TheVariants as line
 use Rattle.json_text.proofs.MemberForms.{party_begins}
 use Rattle.json_text.proofs.Tagged.{tagged}
 use Rattle.node_runs.specs.DoneLines.{all_line, fault_line, idle_line, line_of_refusal, malformed_line, opened_as, opened_line, refused_line, skipped_line, stepped_line, text_json}
-use Rattle.node_runs.specs.Names.{event_fault_name, event_fault_number, line_fault_field, line_fault_name, line_fault_number}
+use Rattle.node_steps.specs.FaultText.{fault_name as event_fault_name, fault_number as event_fault_number}
 use Rattle.node_steps.specs.declared.fault.NodeFault.{NodeFault}
 use Rattle.node_steps.specs.declared.fault.NodeFault.TheVariants as event
 use Rattle.ocpi_text.specs.Party.{party_at}
@@ -34,7 +34,7 @@ use Rattle.transcript_lines.specs.declared.done.Done.{Done}
 use Rattle.transcript_lines.specs.declared.done.Done.TheVariants as done
 use Rattle.transcript_lines.specs.declared.done.DoneFault.{DoneFault}
 use Rattle.transcript_lines.specs.declared.done.DoneLine.{DoneLine}
-use Rattle.transcript_lines.proofs.FoundMembers.{found}
+use Rattle.transcript_lines.proofs.FoundFaults.{event_fault_again, line_fault_again}
 use Rattle.done_laws.specs.Laws.{DoneLinesAreRead, IsLineNumber, IsPlace, IsRead, IsWhole}
 use Rattle.done_laws.proofs.NamedMembers.{AreMembers, AreNamed, IsText, Named, Number, Word, object_json, object_on, object_reads, object_then}
 use Rattle.done_laws.proofs.PlainTexts.{are_plain, plain_on}
@@ -335,20 +335,12 @@ unfolding escape_byte refused_members
 refused_text line None name number same = rw same refl
 refused_text line (Some place) name number same = rw same refl
 
-event_fault_same : (f : NodeFault) → event_fault (event_fault_name f) (event_fault_number f) ≡ Some f
-event_fault_same event.NotForMe = refl
-event_fault_same event.NumbersUsedUp = refl
-event_fault_same event.StampEnd = refl
-event_fault_same event.Memory = refl
-event_fault_same event.UnknownOperator = refl
-event_fault_same event.UnknownToken = refl
-
 pub refused_read : (line : ℕ) (place : Option ℕ) (fault : NodeFault) → IsLineNumber line → IsPlace place → IsRead (refused_line line place fault) (done.Refused (Some fault)) place
 refused_read line place fault number p =
     let is = event_fault_is fault in
     let name = event_fault_name fault in
     let n = event_fault_number fault in
-    subst (λ (o : Option NodeFault). IsRead (refused_line line place fault) (done.Refused o) place) (event_fault_same fault)
+    subst (λ (o : Option NodeFault). IsRead (refused_line line place fault) (done.Refused o) place) (event_fault_again fault)
     (read_so _ (refused_members line place name n) (done.Refused (event_fault name n)) place line (refused_text line place name n is.same) (refused_done line place name n number.whole p is.text (event_number_small fault)) number)
 
 -- ---- a line, or an event of one, was refused as a text
@@ -410,23 +402,13 @@ malformed_text line (Some place) fault None same = rw same refl
 malformed_text line None fault (Some f) same = rw (same, field_same f) refl
 malformed_text line (Some place) fault (Some f) same = rw (same, field_same f) refl
 
-line_fault_same : (f : JsonFault) → line_fault (line_fault_name f) (option_map name_of (line_fault_field f)) (line_fault_number f) ≡ Some f
-line_fault_same line.Syntax = refl
-line_fault_same line.BadNumberToken = refl
-line_fault_same line.TaggedText = refl
-line_fault_same (line.Missing field) = rw (found field) refl
-line_fault_same (line.WrongForm field) = rw (found field) refl
-line_fault_same (line.UnknownWord field) = rw (found field) refl
-line_fault_same line.UnknownKind = refl
-line_fault_same line.Memory = refl
-
 pub malformed_read : (line : ℕ) (place : Option ℕ) (fault : JsonFault) → IsLineNumber line → IsPlace place → IsRead (malformed_line line place fault) (done.Malformed (Some fault)) place
 malformed_read line place fault number p =
     let is = line_fault_is fault in
     let name = line_fault_name fault in
     let n = line_fault_number fault in
     let field = line_fault_field fault in
-    subst (λ (o : Option JsonFault). IsRead (malformed_line line place fault) (done.Malformed o) place) (line_fault_same fault)
+    subst (λ (o : Option JsonFault). IsRead (malformed_line line place fault) (done.Malformed o) place) (line_fault_again fault)
     (read_so _ (malformed_members line place field name n) (done.Malformed (line_fault name (option_map name_of field) n)) place line (malformed_text line place fault field is.same)
     (malformed_done line place field name n number.whole p is.text (line_number_small fault)) number)
 

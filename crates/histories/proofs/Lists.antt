@@ -1,37 +1,19 @@
 -- What stands at which place of lists that are joined or cut.
 use Rattle.std.proofs.Common.{zero, suc, ◌≡◌, ◌⊎◌, ℕ, ◌+◌, ◌<◌, ◌≤◌, List, [], ◌∷◌, ◌++◌, length, take, inl, inr, refl, sym, ap, ◌∙◌, arith, add-one, zero-add, suc-add}
 use Rattle.std.specs.Prelude.{Some, Contains, slice_get}
-use Rattle.std.proofs.lemmas.List.Elements.{Contains-append_cases, Contains-append_right}
+use Rattle.std.proofs.lemmas.List.Elements.{Contains-append_cases}
 use Rattle.tables.proofs.Elements.{in_none, in_single}
-
-pub some_same : {X : Type 0} (x y : X) → Some x ≡ Some y → x ≡ y
-some_same x y e = cc
+pub use Rattle.tables.proofs.Places.{got_within, is_in, stands}
+pub use Rattle.tables.proofs.Options.{some_same}
+pub use Rattle.tables.proofs.Elements.{in_later}
 
 module _ {X : Type 0} where
-  pub in_later : (x : X) (xs : List X) (y : X) → Contains xs y → Contains (x ∷ xs) y
-  in_later x xs y h = Contains-append_right (x ∷ []) xs y h
-
-  pub is_in : (xs : List X) (k : ℕ) (x : X) → slice_get xs k ≡ Some x → Contains xs x
-  is_in [] k x at = cc
-  is_in (y ∷ xs) zero x at = (zero, omega arith, cc)
-  is_in (y ∷ xs) (suc k) x at = in_later y xs x (is_in xs k x at)
-
   pub place_in : (xs : List X) (x : X) → Contains xs x → (k : ℕ) × (slice_get xs k ≡ Some x)
   place_in [] x h = absurd (in_none x h)
   place_in (y ∷ xs) x h = elim (Contains-append_cases (y ∷ []) xs x h) [
     | inl here ↦ (zero, ap Some (in_single y x here))
     | inr later ↦ let r = place_in xs x later in (suc r.0, r.1)
   ]
-
-  pub got_within : (xs : List X) (i : ℕ) (x : X) → slice_get xs i ≡ Some x → i < length xs
-  got_within [] i x at = cc
-  got_within (y ∷ xs) zero x at = omega arith
-  got_within (y ∷ xs) (suc i) x at = let h = got_within xs i x at in omega (arith, h)
-
-  pub stands : (xs : List X) (i : ℕ) → i < length xs → (x : X) × (slice_get xs i ≡ Some x)
-  stands [] i h = absurd (omega (arith, h))
-  stands (y ∷ xs) zero h = (y, refl)
-  stands (y ∷ xs) (suc i) h = stands xs i (omega (arith, h))
 
   -- what stands between two lists
   pub got_between : (xs : List X) (x : X) (ys : List X) (k : ℕ) → k ≡ length xs → slice_get (xs ++ x ∷ ys) k ≡ Some x

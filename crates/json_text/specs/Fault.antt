@@ -1,6 +1,7 @@
 -- What a reader answers, memory aside.
-use Rattle.std.specs.Prelude.{ℕ, ◌≡◌, List, ◌++◌, codes, Result, Ok, Err}
+use Rattle.std.specs.Prelude.{ℕ, ◌≡◌, List, ◌++◌, Option, None, Some, codes, Result, Ok, Err}
 use Rattle.ocpi_types.specs.Fields.{name_of}
+use Rattle.ocpi_types.specs.declared.field.Field.{Field}
 use Rattle.json_text.specs.declared.fault.JsonFault.{JsonFault}
 use Rattle.json_text.specs.declared.fault.JsonFault.TheVariants.{Syntax, BadNumberToken, TaggedText, Missing, WrongForm, UnknownWord, UnknownKind, Memory}
 
@@ -37,6 +38,39 @@ Gives (Err e) read = Fails e read
 abbrev pub IsBy : {X Y : Type 0} → (X → Y) → Read X → Read Y → Type 0
 IsBy view (Ok x) read = read ≡ Ok (view x)
 IsBy view (Err e) read = read ≡ Err e
+
+-- the number of a refusal
+abbrev pub fault_number : JsonFault → ℕ
+fault_number Syntax = 1
+fault_number BadNumberToken = 2
+fault_number TaggedText = 3
+fault_number (Missing f) = 4
+fault_number (WrongForm f) = 5
+fault_number (UnknownWord f) = 6
+fault_number UnknownKind = 7
+fault_number Memory = 8
+
+-- its name
+abbrev pub fault_name : JsonFault → List ℕ
+fault_name Syntax = codes "Syntax"
+fault_name BadNumberToken = codes "BadNumberToken"
+fault_name TaggedText = codes "TaggedText"
+fault_name (Missing f) = codes "Missing"
+fault_name (WrongForm f) = codes "WrongForm"
+fault_name (UnknownWord f) = codes "UnknownWord"
+fault_name UnknownKind = codes "UnknownKind"
+fault_name Memory = codes "Memory"
+
+-- the member that is at fault, where one is
+abbrev pub fault_field : JsonFault → Option Field
+fault_field Syntax = None
+fault_field BadNumberToken = None
+fault_field TaggedText = None
+fault_field (Missing f) = Some f
+fault_field (WrongForm f) = Some f
+fault_field (UnknownWord f) = Some f
+fault_field UnknownKind = None
+fault_field Memory = None
 
 -- how a refusal is told: its number and name, and the name of the member in brackets
 abbrev pub fault_text : JsonFault → List ℕ

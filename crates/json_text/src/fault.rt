@@ -1,6 +1,7 @@
 //! Why a line was refused.
 
 ghost use Rattle.std.specs.Prelude.{◌≡◌};
+ghost use Rattle.json_text.specs.Fault.{fault_field, fault_name, fault_number};
 ghost use Rattle.json_text.specs.declared.fault.JsonFault.TheVariants.{Memory};
 
 use ocpi_types::Field;
@@ -27,6 +28,56 @@ pub enum JsonFault {
     UnknownKind,
     /// Memory ran out.
     Memory,
+}
+
+impl JsonFault {
+    /// The number under which it is told.
+    pub fn number(self) -> u64
+        ensures { result ≡ fault_number self }
+    {
+        match self {
+            JsonFault::Syntax => 1,
+            JsonFault::BadNumberToken => 2,
+            JsonFault::TaggedText => 3,
+            JsonFault::Missing(_) => 4,
+            JsonFault::WrongForm(_) => 5,
+            JsonFault::UnknownWord(_) => 6,
+            JsonFault::UnknownKind => 7,
+            JsonFault::Memory => 8,
+        }
+    }
+
+    /// Its name.
+    pub fn name(self) -> &'static str
+        ensures { result.now ≡ fault_name self }
+    {
+        match self {
+            JsonFault::Syntax => "Syntax",
+            JsonFault::BadNumberToken => "BadNumberToken",
+            JsonFault::TaggedText => "TaggedText",
+            JsonFault::Missing(_) => "Missing",
+            JsonFault::WrongForm(_) => "WrongForm",
+            JsonFault::UnknownWord(_) => "UnknownWord",
+            JsonFault::UnknownKind => "UnknownKind",
+            JsonFault::Memory => "Memory",
+        }
+    }
+
+    /// The member that is at fault, where one is.
+    pub fn field(self) -> Option<Field>
+        ensures { result ≡ fault_field self }
+    {
+        match self {
+            JsonFault::Missing(field)
+            | JsonFault::WrongForm(field)
+            | JsonFault::UnknownWord(field) => Some(field),
+            JsonFault::Syntax
+            | JsonFault::BadNumberToken
+            | JsonFault::TaggedText
+            | JsonFault::UnknownKind
+            | JsonFault::Memory => None,
+        }
+    }
 }
 
 impl fmt::Display for JsonFault {

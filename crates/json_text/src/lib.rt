@@ -20,6 +20,8 @@
 //!   `quoted_numbers_are_json_numbers`, `unquoting_undoes_quoting`.
 //! - A line nests no deeper than 127; of a repeated name the last counts. By laws `lines_nest_no_deeper_than_127`,
 //!   `the_last_of_a_repeated_name_counts`.
+//! - `JsonFault` has the refusals of lines, each with its number, its name, the member at fault and its text
+//!   (`specs/Fault`). By `number`, `name`, `field`, `Display` of `JsonFault`.
 //!
 //! # How it is built
 //!

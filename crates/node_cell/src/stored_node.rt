@@ -29,7 +29,7 @@ ghost use Rattle.world_steps.specs.World.{NodeState, opening_of};
 
 use crate::fault::{ApplyFault, ReopenFault};
 use crate::transaction::Transaction;
-use node_core::{Node, NodeInput, NodeWork, Planned};
+use node_core::{Node, NodeInput, NodePlan, NodeWork};
 use node_rows::laws::{alike_are_classes, changes_are_held, restarts_are_held};
 use node_store::{Keep, StoreFault};
 use ocpi_types::{Change, Node as SetupNode, NodeEventKind, Packet};
@@ -285,15 +285,15 @@ impl<K: Keep> StoredNode<K> {
             });
         };
         match self.plan(&input) {
-            Ok(Planned::Skipped) => Ok(Applied::Skipped),
-            Ok(Planned::Refused(fault)) => Err(ApplyFault::Core(fault)),
-            Ok(Planned::Acts(work)) => self.carry_out(work),
+            Ok(NodePlan::Skipped) => Ok(Applied::Skipped),
+            Ok(NodePlan::Refused(fault)) => Err(ApplyFault::Core(fault)),
+            Ok(NodePlan::Acts(work)) => self.carry_out(work),
             Err(_) => Err(ApplyFault::Memory),
         }
     }
 
     /// What comes of what reaches the node, before anything changes. An error is want of memory.
-    pub fn plan(&self, input: &NodeInput<'_>) -> Result<Planned, AllocError>
+    pub fn plan(&self, input: &NodeInput<'_>) -> Result<NodePlan, AllocError>
         ensures { IfOk result (λ x. IsPlanned self.now.state input.now x) }
     {
         self.node.plan(input)

@@ -10,7 +10,7 @@ ghost use Rattle.node_store.specs.Faults.{IsCommitFault, counted_fault};
 
 use crate::fault::StepFault;
 use crate::stored_node::{Applied, StoredNode, commit, input_of};
-use node_core::{Node, NodeInput, NodeWork, Planned};
+use node_core::{Node, NodeInput, NodePlan, NodeWork};
 use node_rows::laws::{alike_are_classes, changes_are_held, restarts_are_held};
 use node_steps::copies;
 use node_store::{Keep, StoreFault};
@@ -122,15 +122,15 @@ impl<K: Keep> Transaction<K> {
             });
         };
         match self.plan(&input) {
-            Ok(Planned::Skipped) => Ok(Applied::Skipped),
-            Ok(Planned::Refused(fault)) => Err(StepFault::Core(fault)),
-            Ok(Planned::Acts(work)) => self.step(work),
+            Ok(NodePlan::Skipped) => Ok(Applied::Skipped),
+            Ok(NodePlan::Refused(fault)) => Err(StepFault::Core(fault)),
+            Ok(NodePlan::Acts(work)) => self.step(work),
             Err(_) => Err(StepFault::Memory),
         }
     }
 
     /// What comes of what reaches the node, before anything changes. An error is want of memory.
-    fn plan(&self, input: &NodeInput<'_>) -> Result<Planned, AllocError>
+    fn plan(&self, input: &NodeInput<'_>) -> Result<NodePlan, AllocError>
         ensures { IfOk result (λ x. IsPlanned self.now.state input.now x) }
     {
         self.node.plan(input)

@@ -8,8 +8,8 @@ use Rattle.node_core.specs.declared.node.Node.{Node}
 use Rattle.node_core.specs.declared.node.Node.TheVariants as node
 use Rattle.node_core.specs.declared.work.NodeWork.{NodeWork}
 use Rattle.node_core.specs.declared.work.NodeWork.TheVariants as work
-use Rattle.node_core.specs.declared.work.Planned.{Planned}
-use Rattle.node_core.specs.declared.work.Planned.TheVariants.{Acts, Refused, Skipped}
+use Rattle.node_core.specs.declared.work.NodePlan.{NodePlan}
+use Rattle.node_core.specs.declared.work.NodePlan.TheVariants.{Acts, Refused, Skipped}
 use Rattle.node_steps.specs.Drafts.{step_of}
 use Rattle.node_steps.specs.declared.fault.NodeFault.{NodeFault}
 use Rattle.node_steps.specs.declared.fault.NodeFault.TheVariants.{Memory}
@@ -105,7 +105,7 @@ pub record Refuses (n : NodeState) (i : NodeInput) (fault : NodeFault) : Type 0 
   pub refuses : NodeRefuses n input fault
   pub other : fault ≢ Memory
 
-abbrev pub IsPlanned : NodeState → NodeInput → Planned → Type 0
+abbrev pub IsPlanned : NodeState → NodeInput → NodePlan → Type 0
 IsPlanned n i Skipped = Passes n i
 IsPlanned n i (Refused fault) = Refuses n i fault
 IsPlanned n i (Acts x) = IsWork n i x
@@ -120,11 +120,11 @@ pub record Does (n : NodeState) (i : NodeInput) (x : NodeWork) : Type 0 where
   pub versions : versions_of event ≡ versions_by x
 
 -- what comes of a plan of an operator, where memory does not run out
-abbrev pub ComesOfFull : Result FullPlan NodeFault → Planned → Type 0
+abbrev pub ComesOfFull : Result FullPlan NodeFault → NodePlan → Type 0
 ComesOfFull (Ok x) planned = planned ≡ Acts (work.Operator x)
 ComesOfFull (Err fault) planned = (planned ≡ Refused fault) × (fault ≢ Memory)
 
 -- and of a provider
-abbrev pub ComesOf : Result Plan NodeFault → Planned → Type 0
+abbrev pub ComesOf : Result Plan NodeFault → NodePlan → Type 0
 ComesOf (Ok x) planned = planned ≡ Acts (work.Provider x)
 ComesOf (Err fault) planned = (planned ≡ Refused fault) × (fault ≢ Memory)

@@ -3,9 +3,9 @@
 //! ```
 //! let mut node = Node::open(alloc, nodes, member)?;
 //! match node.plan(&NodeInput::Tick { at })? {
-//!     Planned::Skipped => {}
-//!     Planned::Refused(fault) => {}
-//!     Planned::Acts(work) => {
+//!     NodePlan::Skipped => {}
+//!     NodePlan::Refused(fault) => {}
+//!     NodePlan::Acts(work) => {
 //!         node.make_room(&work)?;
 //!         let packets = node.apply(work);
 //!     }
@@ -49,4 +49,4 @@ mod work;
 pub use input::NodeInput;
 pub use node::Node;
 pub use opening::nodes_of;
-pub use work::{NodeWork, Planned};
+pub use work::{NodePlan, NodeWork};

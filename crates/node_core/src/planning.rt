@@ -7,7 +7,7 @@ ghost use Rattle.world_steps.specs.World.{Operates, Provides};
 
 use crate::input::NodeInput;
 use crate::node::Node;
-use crate::work::{NodeWork, Planned};
+use crate::work::{NodePlan, NodeWork};
 use node_steps::{NodeFault, Plan};
 use operator_core::Operator;
 use operator_rows::FullPlan;
@@ -15,39 +15,39 @@ use provider_core::Provider;
 use std::alloc::AllocError;
 
 /// What comes of a plan of an operator. An error is want of memory.
-fn of_operator(planned: Result<FullPlan, NodeFault>) -> Result<Planned, AllocError>
+fn of_operator(planned: Result<FullPlan, NodeFault>) -> Result<NodePlan, AllocError>
     ensures { IfOk result (λ x. ComesOfFull planned x) }
 {
     match planned {
-        Ok(plan) => Ok(Planned::Acts(NodeWork::Operator(plan))),
+        Ok(plan) => Ok(NodePlan::Acts(NodeWork::Operator(plan))),
         Err(NodeFault::Memory) => Err(AllocError),
-        Err(fault) => Ok(Planned::Refused(fault)),
+        Err(fault) => Ok(NodePlan::Refused(fault)),
     }
 }
 
 /// What comes of a plan of a provider. An error is want of memory.
-fn of_provider(planned: Result<Plan, NodeFault>) -> Result<Planned, AllocError>
+fn of_provider(planned: Result<Plan, NodeFault>) -> Result<NodePlan, AllocError>
     ensures { IfOk result (λ x. ComesOf planned x) }
 {
     match planned {
-        Ok(plan) => Ok(Planned::Acts(NodeWork::Provider(plan))),
+        Ok(plan) => Ok(NodePlan::Acts(NodeWork::Provider(plan))),
         Err(NodeFault::Memory) => Err(AllocError),
-        Err(fault) => Ok(Planned::Refused(fault)),
+        Err(fault) => Ok(NodePlan::Refused(fault)),
     }
 }
 
 /// What comes of what reaches an operator. An error is want of memory.
-fn plan_operator(operator: &Operator, input: &NodeInput<'_>) -> Result<Planned, AllocError>
+fn plan_operator(operator: &Operator, input: &NodeInput<'_>) -> Result<NodePlan, AllocError>
     ensures { IfOk result (λ x. IsPlanned (Operates operator.now.state) input.now x) }
 {
     match input {
-        NodeInput::Submit { .. } | NodeInput::Token { .. } => Ok(Planned::Skipped),
+        NodeInput::Submit { .. } | NodeInput::Token { .. } => Ok(NodePlan::Skipped),
         NodeInput::Service {
             evse_uid,
             in_service,
         } => {
             let plan = operator.plan_service(*evse_uid, *in_service)?;
-            Ok(Planned::Acts(NodeWork::Operator(plan)))
+            Ok(NodePlan::Acts(NodeWork::Operator(plan)))
         }
         NodeInput::Charger { at, event } => of_operator(operator.plan_charger(*at, *event)),
         NodeInput::Credit { at, session_id } => {
@@ -55,12 +55,12 @@ fn plan_operator(operator: &Operator, input: &NodeInput<'_>) -> Result<Planned, 
         }
         NodeInput::Arrives { at, packet } => of_operator(operator.plan_packet(*at, *packet)),
         NodeInput::Tick { at } => of_operator(operator.plan_tick(*at)),
-        NodeInput::Restart => Ok(Planned::Acts(NodeWork::Restart)),
+        NodeInput::Restart => Ok(NodePlan::Acts(NodeWork::Restart)),
     }
 }
 
 /// What comes of what reaches a provider. An error is want of memory.
-fn plan_provider(provider: &Provider, input: &NodeInput<'_>) -> Result<Planned, AllocError>
+fn plan_provider(provider: &Provider, input: &NodeInput<'_>) -> Result<NodePlan, AllocError>
     ensures { IfOk result (λ x. IsPlanned (Provides provider.now.state) input.now x) }
 {
     match input {
@@ -71,11 +71,11 @@ fn plan_provider(provider: &Provider, input: &NodeInput<'_>) -> Result<Planned, 
         } => of_provider(provider.plan_order(*at, *operator, *order)),
         NodeInput::Token { at, token } => of_provider(provider.plan_token(*at, *token)),
         NodeInput::Service { .. } | NodeInput::Charger { .. } | NodeInput::Credit { .. } => {
-            Ok(Planned::Skipped)
+            Ok(NodePlan::Skipped)
         }
         NodeInput::Arrives { at, packet } => of_provider(provider.plan_packet(*at, *packet)),
         NodeInput::Tick { at } => of_provider(provider.plan_tick(*at)),
-        NodeInput::Restart => Ok(Planned::Acts(NodeWork::Restart)),
+        NodeInput::Restart => Ok(NodePlan::Acts(NodeWork::Restart)),
     }
 }
 
@@ -83,7 +83,7 @@ impl Node {
     /// What comes of what reaches the node: it is skipped where it is not for a node of this role, refused for a fault
     /// that the node has (`NodeFault`, but for want of memory), and else the node is to do what the tables of its role
     /// say. Nothing changes. An error is want of memory.
-    pub fn plan(&self, input: &NodeInput<'_>) -> Result<Planned, AllocError>
+    pub fn plan(&self, input: &NodeInput<'_>) -> Result<NodePlan, AllocError>
         ensures { IfOk result (λ x. IsPlanned (state_of self.now) input.now x) }
     {
         match self {

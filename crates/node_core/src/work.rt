@@ -41,7 +41,7 @@ impl NodeWork {
 
 /// What comes of what reaches a node.
 #[derive(Drop)]
-pub enum Planned {
+pub enum NodePlan {
     /// It is not for a node of this role.
     Skipped,
     /// The node refuses it, for a reason that is not want of memory.

@@ -10,7 +10,7 @@ ghost use Rattle.node_history.specs.Cells.{Adds, IsNoRoom, IsNotDone, StoredStep
 use crate::fault::{CellFault, cell_fault};
 use histories::{Entry, Packets, copies};
 use node_cell::{Applied, ApplyFault, StoredNode, input_of};
-use node_core::{NodeWork, Planned};
+use node_core::{NodePlan, NodeWork};
 use node_store::Keep;
 use ocpi_types::NodeEventKind;
 use std::alloc::Global;
@@ -77,9 +77,9 @@ fn step<K: Keep>(
         return Ok(nothing_sent(alloc));
     };
     match stored.plan(&input) {
-        Ok(Planned::Skipped) => Ok(nothing_sent(alloc)),
-        Ok(Planned::Refused(fault)) => Err(ApplyFault::Core(fault)),
-        Ok(Planned::Acts(work)) => carry_out(alloc, stored, work),
+        Ok(NodePlan::Skipped) => Ok(nothing_sent(alloc)),
+        Ok(NodePlan::Refused(fault)) => Err(ApplyFault::Core(fault)),
+        Ok(NodePlan::Acts(work)) => carry_out(alloc, stored, work),
         Err(_) => Err(ApplyFault::Memory),
     }
 }

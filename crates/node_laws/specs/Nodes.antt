@@ -4,6 +4,7 @@ use Rattle.std.specs.List.{flat_map}
 use Rattle.std.specs.FinMap.{FinMap, get}
 use Rattle.ocpi_text.specs.Text.{key}
 use Rattle.tables.specs.Keys.{text_number_cmp}
+use Rattle.ocpi_types.specs.Commands.{url_of}
 use Rattle.ocpi_types.specs.Stored.{body_of_reply, body_of_push}
 use Rattle.ocpi_types.specs.declared.authorizations.Authorize.{Authorize}
 use Rattle.ocpi_types.specs.declared.packet.Packet.{Packet}
@@ -106,14 +107,6 @@ pub data AreAboutSame (a b : Request) : Type 0 where
   Tokens : (x y : Token) → a.body ≡ body.PutToken x → b.body ≡ body.PutToken y → key a.to ≡ key b.to → key x.party ≡ key y.party → x.token_type ≡ y.token_type → key x.uid ≡ key y.uid →
       AreAboutSame a b
 
--- to where the result of a command is posted (OCPI 2.2.1, Commands: response_url)
-abbrev pub posted_to : Command → List ℕ
-posted_to (command.StartSession c) = c.response_url
-posted_to (command.StopSession c) = c.response_url
-posted_to (command.ReserveNow c) = c.response_url
-posted_to (command.CancelReservation c) = c.response_url
-posted_to (command.UnlockConnector c) = c.response_url
-
 -- the request of that number is settled: its addressee acknowledged it, or a newer one about the same went out; or it
 -- is a command, and its addressee answered it, or posted its result to where it says
 pub data IsSettled (e : Exchange) (n : ℕ) (r : Request) : Type 0 where
@@ -122,7 +115,7 @@ pub data IsSettled (e : Exchange) (n : ℕ) (r : Request) : Type 0 where
   Responded : (c : Command) → r.body ≡ body.Command c → (q : Packet) → Contains e.came q → (w : CommandResponse) → q.body ≡ body.CommandResponse w → key q.from ≡ key r.to → q.request ≡ n →
       IsSettled e n r
   Resulted : (c : Command) → r.body ≡ body.Command c → (q : Packet) → Contains e.came q → (w : CommandResult) → q.body ≡ body.CommandResult w → key q.from ≡ key r.to →
-      w.response_url ≡ posted_to c → IsSettled e n r
+      w.response_url ≡ url_of c → IsSettled e n r
 
 -- the request was made under that number, and sent
 pub record IsMade (s : Node) (e : Exchange) (t : Node) (n : ℕ) (r : Request) : Type 0 where

@@ -10,7 +10,7 @@ ghost use Rattle.stored_laws.specs.Nodes.{restarted};
 use crate::outcome::{ReplayFault, Replayed};
 use histories::{Entry, Packets};
 use node_cell::input_of;
-use node_core::{Node, NodeWork, Planned};
+use node_core::{Node, NodePlan, NodeWork};
 use ocpi_types::NodeEventKind;
 use std::alloc::{AllocError, Global};
 
@@ -61,9 +61,9 @@ fn step(alloc: Global, node: &mut Node, event: &NodeEventKind) -> Result<Option<
         }));
     };
     match node.plan(&input) {
-        Ok(Planned::Skipped) => Ok(None),
-        Ok(Planned::Refused(fault)) => Err(ReplayFault::Core(fault)),
-        Ok(Planned::Acts(work)) => match carry_out(node, work) {
+        Ok(NodePlan::Skipped) => Ok(None),
+        Ok(NodePlan::Refused(fault)) => Err(ReplayFault::Core(fault)),
+        Ok(NodePlan::Acts(work)) => match carry_out(node, work) {
             Ok(done) => Ok(Some(done)),
             Err(_) => Err(ReplayFault::Memory),
         },
@@ -118,9 +118,9 @@ pub(crate) fn foretell(node: &Node, event: &NodeEventKind) -> Result<bool, Alloc
         return Ok(false);
     };
     match node.plan(&input) {
-        Ok(Planned::Skipped) => Ok(false),
-        Ok(Planned::Refused(_)) => Ok(false),
-        Ok(Planned::Acts(work)) => Ok(changes_rows(&work)),
+        Ok(NodePlan::Skipped) => Ok(false),
+        Ok(NodePlan::Refused(_)) => Ok(false),
+        Ok(NodePlan::Acts(work)) => Ok(changes_rows(&work)),
         Err(_) => Err(AllocError),
     }
 }

@@ -2,11 +2,12 @@
 use Rattle.std.specs.Prelude.{ℕ, List, [], ◌∷◌, ◌++◌, Option, None, Some, codes, decimal}
 use Rattle.json.specs.Print.{print}
 use Rattle.json.specs.Token.{string}
+use Rattle.json_text.specs.Fault.{fault_field as line_fault_field, fault_name as line_fault_name, fault_number as line_fault_number}
 use Rattle.json_text.specs.declared.fault.JsonFault.{JsonFault}
+use Rattle.node_steps.specs.FaultText.{fault_name as event_fault_name, fault_number as event_fault_number}
 use Rattle.node_steps.specs.declared.fault.NodeFault.{NodeFault}
 use Rattle.ocpi_types.specs.Fields.{name_of}
 use Rattle.ocpi_types.specs.declared.field.Field.{Field}
-use Rattle.node_runs.specs.Names.{event_fault_name, event_fault_number, line_fault_field, line_fault_name, line_fault_number}
 
 -- the member that tells the place of an event in its line, from 0; where the line is one event, it is left out
 abbrev pub place_member : Option ℕ → List ℕ

@@ -1,4 +1,3 @@
-pub mod Names
 pub mod DoneLines
 pub mod Stops
 pub mod NodeTurns

@@ -4,9 +4,6 @@
 ghost use Rattle.std.specs.Prelude.{◌≡◌, ◌++◌, IfOk, None, OnOk, Some, string_bytes};
 ghost use Rattle.node_runs.specs.DoneLines.{all_line, fault_line, idle_line, malformed_line, opened_line, refused_line, skipped_line, stepped_line, text_json};
 
-use crate::names::{
-    event_fault_name, event_fault_number, line_fault_field, line_fault_name, line_fault_number,
-};
 use json::Writer;
 use node_steps::NodeFault;
 use ocpi_json::JsonFault;
@@ -109,13 +106,16 @@ fn write_malformed_member(
 ) -> Result<(), AllocError>
     ensures { OnOk result (string_bytes output.new ≡ string_bytes output.old ++ fault_line line place fault (Some field)) }
 {
+    let member = field.name();
+    let name = fault.name();
+    let number = fault.number();
     writeln!(
         output,
         "{{\"done\":\"malformed\"{},\"field\":\"{}\",\"line\":{line},\"name\":\"{}\",\"number\":{}}}",
         PlaceMember(place),
-        field.name(),
-        line_fault_name(fault),
-        line_fault_number(fault)
+        member,
+        name,
+        number
     )
 }
 
@@ -128,12 +128,14 @@ fn write_malformed_line(
 ) -> Result<(), AllocError>
     ensures { OnOk result (string_bytes output.new ≡ string_bytes output.old ++ fault_line line place fault None) }
 {
+    let name = fault.name();
+    let number = fault.number();
     writeln!(
         output,
         "{{\"done\":\"malformed\"{},\"line\":{line},\"name\":\"{}\",\"number\":{}}}",
         PlaceMember(place),
-        line_fault_name(fault),
-        line_fault_number(fault)
+        name,
+        number
     )
 }
 
@@ -146,7 +148,7 @@ pub fn write_malformed(
 ) -> Result<(), AllocError>
     ensures { OnOk result (string_bytes output.new ≡ string_bytes output.old ++ malformed_line line place fault) }
 {
-    match line_fault_field(fault) {
+    match fault.field() {
         Some(field) => write_malformed_member(line, place, fault, field, output),
         None => write_malformed_line(line, place, fault, output),
     }
@@ -161,12 +163,14 @@ pub fn write_refused(
 ) -> Result<(), AllocError>
     ensures { OnOk result (string_bytes output.new ≡ string_bytes output.old ++ refused_line line place fault) }
 {
+    let name = fault.name();
+    let number = fault.number();
     writeln!(
         output,
         "{{\"done\":\"refused\"{},\"line\":{line},\"name\":\"{}\",\"number\":{}}}",
         PlaceMember(place),
-        event_fault_name(fault),
-        event_fault_number(fault)
+        name,
+        number
     )
 }
 

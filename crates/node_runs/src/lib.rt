@@ -42,7 +42,6 @@ mod event_lines;
 mod fault;
 pub mod laws;
 mod list_lines;
-mod names;
 mod node_run;
 
 pub use fault::{NodeRunFault, NodeStop, UNKNOWN_PARTY, status_after_node};

@@ -1,6 +1,7 @@
 //! Why an event was refused.
 
 ghost use Rattle.std.specs.Prelude.{◌≡◌, Some};
+ghost use Rattle.node_steps.specs.FaultText.{fault_name, fault_number};
 
 use std::alloc::{AllocError, AllocFailed};
 use std::error::Error;
@@ -22,6 +23,36 @@ pub enum NodeFault {
     NumbersUsedUp,
     /// Memory ran out, for an event that has none of these faults.
     Memory,
+}
+
+impl NodeFault {
+    /// The number under which it is told.
+    pub fn number(self) -> u64
+        ensures { result ≡ fault_number self }
+    {
+        match self {
+            NodeFault::NotForMe => 1,
+            NodeFault::NumbersUsedUp => 2,
+            NodeFault::StampEnd => 3,
+            NodeFault::Memory => 4,
+            NodeFault::UnknownOperator => 5,
+            NodeFault::UnknownToken => 6,
+        }
+    }
+
+    /// Its name.
+    pub fn name(self) -> &'static str
+        ensures { result.now ≡ fault_name self }
+    {
+        match self {
+            NodeFault::NotForMe => "NotForMe",
+            NodeFault::NumbersUsedUp => "NumbersUsedUp",
+            NodeFault::StampEnd => "StampEnd",
+            NodeFault::Memory => "Memory",
+            NodeFault::UnknownOperator => "UnknownOperator",
+            NodeFault::UnknownToken => "UnknownToken",
+        }
+    }
 }
 
 impl fmt::Display for NodeFault {

@@ -27,7 +27,8 @@
 //!   `counters_in_range`.
 //! - The party of a list is found without case, or there is none. Copies equal their changes; a plan may do nothing, or
 //!   change one row. By `find_peer`, `peer_of`, `copies`, `Plan::nothing`, `Plan::one`.
-//! - `NodeFault` has the refusals of both nodes, each with its text (`specs/FaultText`). By `Display` of `NodeFault`.
+//! - `NodeFault` has the refusals of both nodes, each with its number, its name and its text (`specs/FaultText`). By
+//!   `number`, `name`, `Display` of `NodeFault`.
 //!
 //! # How it is built
 //!

@@ -1,4 +1,5 @@
 pub mod Apart
+pub mod Commands
 pub mod Connectors
 pub mod Credits
 pub mod Fields

@@ -1,6 +1,7 @@
 //! What a provider asks of an operator (OCPI 2.2.1, Commands). The result of a command is posted to its `response_url`.
 
 ghost use Rattle.std.specs.Prelude.{◌≡◌, IfOk};
+ghost use Rattle.ocpi_types.specs.Commands.{reference_of, url_of};
 ghost use Rattle.ocpi_types.specs.Kinds.{kind_of_command};
 
 use crate::boxed::Boxed;
@@ -152,6 +153,33 @@ impl Command {
             Command::ReserveNow(_) => PacketKind::ReserveNow,
             Command::CancelReservation(_) => PacketKind::CancelReservation,
             Command::UnlockConnector(_) => PacketKind::UnlockConnector,
+        }
+    }
+
+    /// To where its result is posted (OCPI 2.2.1, Commands: response_url).
+    pub fn response_url(&self) -> &FreeText<255>
+        ensures { result.now ≡ url_of self.now }
+    {
+        match self {
+            Command::StartSession(command) => &command.response_url,
+            Command::StopSession(command) => &command.response_url,
+            Command::ReserveNow(command) => &command.response_url,
+            Command::CancelReservation(command) => &command.response_url,
+            Command::UnlockConnector(command) => &command.response_url,
+        }
+    }
+
+    /// The authorization reference of a start. None, where it has none, or the command is another (OCPI 2.2.1,
+    /// Commands: StartSession object, authorization_reference).
+    pub fn authorization_reference(&self) -> Option<CiText<36>>
+        ensures { result ≡ reference_of self.now }
+    {
+        match self {
+            Command::StartSession(command) => command.authorization_reference,
+            Command::StopSession(_)
+            | Command::ReserveNow(_)
+            | Command::CancelReservation(_)
+            | Command::UnlockConnector(_) => None,
         }
     }
 

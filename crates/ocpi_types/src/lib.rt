@@ -25,6 +25,8 @@
 //!   `NonEmpty`, `Connectors`, `Evses`, `Locations`, `Parties`, `Setup`, `StatusCode`, `RefusalCode`, `PricePerKwh`.
 //! - A set of ids is a finite set of keys. By `IdSet::insert`: `added`, `after`, `err`, `absent`.
 //! - A word list names each entry, the kinds of packets too. By `Word` of each list.
+//! - A command tells to where its result is posted, and a start its authorization reference. By `response_url`,
+//!   `authorization_reference` of `Command`.
 //! - A copy equals its source; of a packet, a row or a change it wants memory only where that may own some. By `copy`:
 //!   `equal`, `err`.
 //! - A later version is updated at the moment of its event, or 1 ms after the one before it where that is later. There

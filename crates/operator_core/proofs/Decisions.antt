@@ -1,6 +1,7 @@
 -- How many numbers the acts of a decision take, and that they store no counter past its last number.
 use Rattle.std.proofs.Common.{◌≡◌, ◌+◌, ◌++◌, ℕ, List, [], ◌∷◌, length, refl}
 use Rattle.std.specs.Prelude.{Option, Some, None}
+use Rattle.ocpi_types.specs.Commands.{reference_of}
 use Rattle.ocpi_types.specs.declared.rows.Place.{Place}
 use Rattle.ocpi_types.specs.declared.commands.Command.{Command}
 use Rattle.ocpi_types.specs.declared.words.CommandResponseType.TheVariants as word
@@ -8,7 +9,7 @@ use Rattle.command_book.specs.Stored as book
 use Rattle.node_steps.specs.Acts.{Act, all_messages, all_requests, answered}
 use Rattle.operator_tables.specs.declared.decision.Decision.{Decision}
 use Rattle.operator_tables.specs.declared.decision.Decision.TheVariants.{Refused, Answered, Opened, Started, Resulted, Noted, Reserved, Cancelled}
-use Rattle.operator_steps.specs.Acts.{deadline, decided_acts, opened, reference_of, responded, result_of, spent, used}
+use Rattle.operator_steps.specs.Acts.{deadline, decided_acts, opened, responded, result_of, spent, used}
 use Rattle.operator_core.specs.Requests.{result_count}
 use Rattle.operator_core.proofs.CountedDrafts.{CountWithin}
 

@@ -2,6 +2,7 @@
 use Rattle.std.specs.Prelude.{◌≡◌, ℕ, List, [], ◌∷◌, Option, Some, None, Result, Ok, Err, IsTrue, Contains}
 use Rattle.std.specs.FinMap.{contains_key, get}
 use Rattle.ocpi_text.specs.Text.{key}
+use Rattle.ocpi_types.specs.Commands.{url_of}
 use Rattle.ocpi_types.specs.declared.packet.Packet.{Packet}
 use Rattle.ocpi_types.specs.declared.replies.CommandResult.{CommandResult}
 use Rattle.ocpi_types.specs.declared.rows.Place.{Place}
@@ -23,7 +24,7 @@ use Rattle.operator_rows.specs.State.{Rows, State}
 use Rattle.operator_tables.specs.declared.decision.Decision.{Decision}
 use Rattle.operator_tables.specs.declared.request.Request.{Request}
 use Rattle.operator_steps.specs.declared.ending.Ending.{Ending}
-use Rattle.operator_steps.specs.Acts.{deadline, decided_acts, opened, own_acts, settled_if, told, url_of}
+use Rattle.operator_steps.specs.Acts.{deadline, decided_acts, opened, own_acts, settled_if, told}
 use Rattle.operator_steps.specs.Ends.{ends_acts, url_in}
 use Rattle.operator_steps.specs.Moves.{Out}
 use Rattle.operator_steps.specs.Steps.{acknowledgement}

@@ -20,6 +20,7 @@ ghost use Rattle.operator_core.specs.Credits.{
 };
 ghost use Rattle.operator_core.specs.Planned.{PlansActs, StopsActs};
 
+use crate::changes::CHANGES_OF_A_CREDIT;
 use crate::operator::Operator;
 use crate::plans::quiet;
 use crate::reports::bills::{add_posted, add_recorded};
@@ -83,7 +84,7 @@ impl Operator {
         let mut draft = self.draft(Needs {
             packets: 1,
             requests: 1,
-            changes: 2,
+            changes: CHANGES_OF_A_CREDIT,
         })?;
         let credit = Boxed::new(self.alloc, credit)?;
         add_posted(&mut draft, at, to, &credit)?;

@@ -91,6 +91,7 @@
 //! the ones before left (`AreFit`), and what they send stands (`ActsAreSent`).
 #![tactic(auto)]
 
+mod changes;
 mod command_ends;
 mod credits;
 mod from_rows;

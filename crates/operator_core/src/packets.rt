@@ -20,6 +20,7 @@ pub(crate) mod command_acts;
 mod command_responses;
 mod tokens;
 
+use crate::changes::CHANGES_OF_A_DECISION;
 use crate::operator::Operator;
 use crate::packets::bodies::is_taken;
 use crate::packets::command_acts::add_decided;
@@ -30,10 +31,6 @@ use ocpi_types::{Ack, Body, Change, Command, CommandResultType, Packet, Reply, R
 use operator_rows::FullPlan;
 use operator_tables::{Decision, Request, decide};
 use std::alloc::AllocError;
-
-/// The most rows that a decision changes, beside the counters: a reply, a mark, a reservation, a push and a result; or
-/// a reply, a reservation, an open command and a reference.
-const MOST_CHANGES: usize = 5;
 
 /// How many results there are: one, or none.
 fn count(outcome: Option<CommandResultType>) -> usize
@@ -106,7 +103,7 @@ impl Operator {
         let mut draft = self.draft(Needs {
             packets: 1 + results,
             requests: results,
-            changes: MOST_CHANGES,
+            changes: CHANGES_OF_A_DECISION,
         })?;
         add_decided(self.alloc, &mut draft, request, command, decision)?;
         Ok(draft.into_plan())

@@ -29,6 +29,7 @@ pub(crate) mod bills;
 mod session_updates;
 mod swipes;
 
+use crate::changes::CHANGES_OF_AN_END;
 use crate::operator::Operator;
 use crate::plans::quiet;
 use node_steps::{Needs, NodeFault, Plan};
@@ -147,7 +148,7 @@ impl Operator {
         let mut draft = self.draft(Needs {
             packets: 1,
             requests: 1,
-            changes: 3,
+            changes: CHANGES_OF_AN_END,
         })?;
         self.add_ends(&mut draft, at, &[ending])?;
         Ok(draft.into_plan())

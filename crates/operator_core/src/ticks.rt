@@ -20,6 +20,7 @@ ghost use Rattle.operator_core.specs.Requests.{AllStand};
 
 mod late_authorizations;
 
+use crate::changes::{CHANGES_OF_A_BEGINNING, CHANGES_OF_AN_END};
 use crate::command_ends::add_expired;
 use crate::operator::Operator;
 use crate::sessions::{Begun, add_all_begun, add_number};
@@ -32,13 +33,6 @@ use operator_steps::Ending;
 use reservation_book::Standing;
 use session_tables::Beginning;
 use std::alloc::AllocError;
-
-/// The rows that the end of a command changes: the open command, its push and its result.
-const CHANGES_OF_AN_END: usize = 3;
-
-/// The most rows that the beginning of a session changes: a reservation, the push of an older version, the push of the
-/// first one, and this version.
-const CHANGES_OF_A_BEGINNING: usize = 4;
 
 /// What is due at a moment, as it stands before it.
 #[derive(Drop)]

@@ -2,9 +2,9 @@
 use Rattle.std.specs.Prelude.{◌≡◌, ℕ, List, Some}
 use Rattle.std.specs.FinMap.{get}
 use Rattle.ocpi_text.specs.Text.{key}
+use Rattle.ocpi_types.specs.Commands.{reference_of}
 use Rattle.ocpi_types.specs.declared.stored.OpenCommand.{OpenCommand}
 use Rattle.operator_rows.specs.State.{Rows}
-use Rattle.operator_steps.specs.Acts.{reference_of}
 
 -- the open command is a start with that reference, in key form
 abbrev pub Uses : OpenCommand → List ℕ → Type 0

@@ -2,6 +2,7 @@
 use Rattle.std.specs.Prelude.{◌≡◌, ◌⊎◌, ◌≤◌, ℕ, List, Some, None, Contains}
 use Rattle.std.specs.FinMap.{get}
 use Rattle.ocpi_text.specs.Text.{key}
+use Rattle.ocpi_types.specs.Commands.{url_of}
 use Rattle.ocpi_types.specs.declared.commands.CancelReservation.{CancelReservation}
 use Rattle.ocpi_types.specs.declared.commands.ReserveNow.{ReserveNow}
 use Rattle.ocpi_types.specs.declared.packet.Body.TheVariants as body
@@ -16,7 +17,7 @@ use Rattle.ocpi_types.specs.declared.stored.Reservation.{Reservation}
 use Rattle.ocpi_types.specs.declared.words.CommandResponseType.TheVariants.{Accepted}
 use Rattle.ocpi_types.specs.declared.words.CommandResultType.{CommandResultType}
 use Rattle.operator_rows.specs.State.{State, opening}
-use Rattle.operator_steps.specs.Acts.{responded, url_of}
+use Rattle.operator_steps.specs.Acts.{responded}
 use Rattle.operator_steps.specs.Events.{Arrives, Event, Happens}
 use Rattle.operator_laws.specs.Laws.{Came, IsOfParty, Run, sent}
 

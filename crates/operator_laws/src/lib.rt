@@ -78,4 +78,4 @@
 #![tactic(auto)]
 
 pub mod laws;
-pub mod session_laws;
+pub mod session_runs;

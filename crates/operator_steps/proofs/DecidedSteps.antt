@@ -6,6 +6,7 @@ use Rattle.tables.specs.Keys.{text_number_total, text_number_exact, text_pair_to
 use Rattle.tables.proofs.Options.{known, none_contained}
 use Rattle.tables.proofs.Maps.{get-insert_same, of_remove}
 use Rattle.ocpi_text.specs.Text.{key}
+use Rattle.ocpi_types.specs.Commands.{reference_of, url_of}
 use Rattle.ocpi_types.specs.declared.rows.Place.{Place}
 use Rattle.ocpi_types.specs.declared.commands.Command.{Command}
 use Rattle.ocpi_types.specs.declared.commands.Command.TheVariants as command
@@ -25,7 +26,7 @@ use Rattle.operator_rows.specs.Sound.{HasPlace, IsConsistent, IsOwnStart, IsSoun
 use Rattle.operator_tables.specs.declared.decision.Decision.{Decision}
 use Rattle.operator_tables.specs.declared.decision.Decision.TheVariants as decision
 use Rattle.operator_tables.specs.Outcomes.{HoldsFor, Opens, Reserves, Starts, Tells}
-use Rattle.operator_steps.specs.Acts.{deadline, decided_acts, freed, marked, opened, own_acts, reference_of, reply_of, settled, spent, url_of, used}
+use Rattle.operator_steps.specs.Acts.{deadline, decided_acts, freed, marked, opened, own_acts, reply_of, settled, spent, used}
 use Rattle.operator_steps.proofs.Orderly.{AreOrderly, orderly_kinds}
 use Rattle.operator_steps.proofs.Fitting.{AreFit, fit_none, left_by_act, numbered_for}
 use Rattle.operator_steps.proofs.Sending.{ActsAreSent, sent_none}

@@ -1,10 +1,11 @@
 -- The changes of acts are of different rows, and of no counter that a step stores; then those of a step of them are of
 -- different rows.
-use Rattle.std.proofs.Common.{zero, suc, ◌≡◌, ◌≢◌, ◌⊎◌, ℕ, Bool, true, false, cond, eqb, nat_eq, List, [], ◌∷◌, ◌++◌, inl, inr, refl, sym, ap, subst, ◌∙◌}
+use Rattle.std.proofs.Common.{zero, suc, ◌≡◌, ◌≢◌, ℕ, Bool, true, false, cond, eqb, nat_eq, List, [], ◌∷◌, ◌++◌, inl, inr, refl, sym, ap, subst, ◌∙◌}
 use Rattle.std.specs.Prelude.{⊤, IsTrue, Contains, not, ◌&&◌}
 use Rattle.std.proofs.lemmas.Bool.{eq-eqb, and_parts}
-use Rattle.std.proofs.lemmas.List.Elements.{Contains-append_cases, Contains-append_right}
+use Rattle.std.proofs.lemmas.List.Elements.{Contains-append_cases}
 use Rattle.tables.proofs.Elements.{in_none, in_front, in_single}
+pub use Rattle.tables.proofs.Elements.{in_later, of_cons}
 use Rattle.ocpi_types.specs.declared.rows.Change.{Change}
 use Rattle.ocpi_types.specs.declared.rows.Change.TheVariants.{Put}
 use Rattle.ocpi_types.specs.declared.rows.Row.TheVariants as row
@@ -37,13 +38,6 @@ AreUncounted cs = (c : Change) → Contains cs c → (counter : Counter) → IsO
 pub record AreOrderly (acts : List Act) : Type 0 where
   pub apart : AreApart (all_changes acts)
   pub uncounted : AreUncounted (all_changes acts)
-
--- a change is the first of a list, or one of the others
-pub of_cons : {X : Type 0} (x : X) (xs : List X) (y : X) → Contains (x ∷ xs) y → (x ≡ y) ⊎ Contains xs y
-of_cons x xs y h = elim (Contains-append_cases (x ∷ []) xs y h) [ inl i ↦ inl (in_single x y i) | inr i ↦ inr i ]
-
-pub in_later : {X : Type 0} (x : X) (xs : List X) (y : X) → Contains xs y → Contains (x ∷ xs) y
-in_later x xs y h = Contains-append_right (x ∷ []) xs y h
 
 -- what passes for each of a list
 module _ (P : Change → Type 0) where

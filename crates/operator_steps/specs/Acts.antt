@@ -2,13 +2,13 @@
 use Rattle.std.specs.Prelude.{ℕ, ◌+◌, ◌*◌, min, List, [], ◌∷◌, ◌++◌, Option, Some, None}
 use Rattle.ocpi_text.specs.Text.{key}
 use Rattle.ocpi_text.specs.Moment.{last_moment}
+use Rattle.ocpi_types.specs.Commands.{reference_of, url_of}
 use Rattle.ocpi_types.specs.declared.replies.CommandResult.{CommandResult}
 use Rattle.ocpi_types.specs.declared.replies.CommandResponse.TheVariants as response
 use Rattle.ocpi_types.specs.declared.rows.Change.TheVariants.{Put, Drop}
 use Rattle.ocpi_types.specs.declared.rows.Row.TheVariants as row
 use Rattle.ocpi_types.specs.declared.rows.RowKey.TheVariants as keys
 use Rattle.ocpi_types.specs.declared.commands.Command.{Command}
-use Rattle.ocpi_types.specs.declared.commands.Command.TheVariants as command
 use Rattle.ocpi_types.specs.declared.stored.OpenCommand.{OpenCommand}
 use Rattle.ocpi_types.specs.declared.stored.Push.TheVariants as push
 use Rattle.ocpi_types.specs.declared.stored.Reply.{Reply}
@@ -38,22 +38,6 @@ refusal at status = reply.CommandResponse (response.Refused at status)
 -- a response of status 1000
 abbrev pub responded : ℕ → CommandResponseType → Reply
 responded at w = reply.CommandResponse (response.Done at (record { result = w; timeout = timeout }))
-
--- to where the result of a command is posted
-abbrev pub url_of : Command → List ℕ
-url_of (command.StartSession c) = c.response_url
-url_of (command.StopSession c) = c.response_url
-url_of (command.ReserveNow c) = c.response_url
-url_of (command.CancelReservation c) = c.response_url
-url_of (command.UnlockConnector c) = c.response_url
-
--- the authorization reference of a start, if it has one
-abbrev pub reference_of : Command → Option (List ℕ)
-reference_of (command.StartSession c) = c.authorization_reference
-reference_of (command.StopSession c) = None
-reference_of (command.ReserveNow c) = None
-reference_of (command.CancelReservation c) = None
-reference_of (command.UnlockConnector c) = None
 
 -- the reply that a decision gives
 abbrev pub reply_of : ℕ → Decision → Reply

@@ -3,6 +3,7 @@ use Rattle.std.specs.Prelude.{◌≡◌, ℕ, map, List, [], ◌∷◌, Option, 
 use Rattle.std.specs.List.{flat_map}
 use Rattle.std.specs.FinMap.{get}
 use Rattle.ocpi_text.specs.Text.{key}
+use Rattle.ocpi_types.specs.Commands.{url_of}
 use Rattle.ocpi_types.specs.declared.stored.OpenCommand.{OpenCommand}
 use Rattle.command_book.specs.Stored as book
 use Rattle.outbox.specs.Pushes.{Pushes}
@@ -11,7 +12,7 @@ use Rattle.reservation_book.specs.declared.standing.Standing.{Standing}
 use Rattle.node_steps.specs.Acts.{Act, in_turn, resent}
 use Rattle.operator_rows.specs.State.{Rows}
 use Rattle.operator_steps.specs.declared.ending.Ending.{Ending}
-use Rattle.operator_steps.specs.Acts.{closed, freed, settled, url_of}
+use Rattle.operator_steps.specs.Acts.{closed, freed, settled}
 
 -- to where the result of an open command is posted
 abbrev pub url_in : Option OpenCommand → List ℕ

@@ -21,6 +21,7 @@ use Rattle.site_book.specs.Sites.{OutOfService, works}
 use Rattle.outbox.specs.declared.push_book.Outgoing.{Outgoing}
 use Rattle.token_desk.specs.Tokens.{token_key}
 use Rattle.std.proofs.lemmas.Bool.Decides.{nat_tests}
+use Rattle.tables.proofs.Options.{some_same}
 use Rattle.operator_rows.specs.Rows.{HasCount, HasRow}
 use Rattle.operator_rows.specs.Sound.{IsSound}
 use Rattle.operator_rows.specs.State.{State, Rows}
@@ -85,9 +86,6 @@ stands_under s (row.Cdr x) sound h =
       ap (λ k. keys.Cdr k (key h.0.id)) h.2 ∙ ap (λ k. keys.Cdr (key x.party) k) (sym same),
     )
 stands_under s (row.Command n x) sound h = absurd h
-
-some_same : {X : Type 0} (x y : X) → Some x ≡ Some y → x ≡ y
-some_same x y h = cc
 
 -- the answer to whether it does
 pub told_under : (b : Bool) (s : State) (r : Row) → IsSound s → (b ≡ true → Under s.rows (key_of r)) → (b ≡ false → Under s.rows (key_of r) → ⊥) →

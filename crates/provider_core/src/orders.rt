@@ -27,9 +27,9 @@ use ocpi_types::{
 use provider_steps::facts;
 use std::alloc::{AllocError, Global};
 
-/// The rows that an order changes beside the counters of packets and requests: the counter of references, and the
+/// The most rows that an order changes, beside the counters of packets and requests: the counter of references, and the
 /// command.
-const MOST_CHANGES: usize = 2;
+const CHANGES_OF_AN_ORDER: usize = 2;
 
 /// The start, whose result is posted to a url. An error is want of memory.
 fn start_session(
@@ -154,7 +154,7 @@ impl Provider {
         let mut draft = self.draft(Needs {
             packets: 1,
             requests: 1,
-            changes: MOST_CHANGES,
+            changes: CHANGES_OF_AN_ORDER,
         })?;
         self.add_order(&mut draft, at, to, prepared)?;
         Ok(draft.into_plan())

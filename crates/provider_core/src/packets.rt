@@ -37,7 +37,7 @@ use provider_steps::facts;
 use std::alloc::AllocError;
 
 /// The most rows that an answer changes, beside the counters of packets and requests: the reply, and what is taken.
-const MOST_CHANGES: usize = 2;
+const CHANGES_OF_AN_ANSWER: usize = 2;
 
 impl Provider {
     /// The operator that sent a packet to this provider, as it spells it.
@@ -157,7 +157,7 @@ impl Provider {
         let mut draft = self.draft(Needs {
             packets: 1,
             requests: 0,
-            changes: MOST_CHANGES,
+            changes: CHANGES_OF_AN_ANSWER,
         })?;
         self.add_answer(&mut draft, at, packet, to, answer)?;
         Ok(draft.into_plan())

@@ -2,6 +2,7 @@
 use Rattle.std.specs.Prelude.{◌≡◌, ◌⊎◌, ℕ, List, Some, Contains}
 use Rattle.std.specs.FinMap.{get}
 use Rattle.ocpi_text.specs.Text.{key}
+use Rattle.ocpi_types.specs.Commands.{url_of}
 use Rattle.ocpi_types.specs.declared.packet.Packet.{Packet}
 use Rattle.ocpi_types.specs.declared.packet.Body.TheVariants as body
 use Rattle.ocpi_types.specs.declared.replies.CommandResponse.{CommandResponse}
@@ -9,7 +10,7 @@ use Rattle.ocpi_types.specs.declared.replies.CommandResult.{CommandResult}
 use Rattle.ocpi_types.specs.declared.commands.Command.{Command}
 use Rattle.ocpi_types.specs.declared.stored.SentCommand.{SentCommand}
 use Rattle.ocpi_types.specs.declared.words.CommandResultType.{CommandResultType}
-use Rattle.provider_rows.specs.State.{Peering, State, opening, url_of}
+use Rattle.provider_rows.specs.State.{Peering, State, opening}
 use Rattle.provider_rows.specs.Sound.{IsConsistent}
 use Rattle.provider_steps.specs.Acts.{own_url}
 use Rattle.provider_steps.specs.Events.{Event}

@@ -6,11 +6,12 @@ use Rattle.ocpi_text.specs.OwnIds.{own_id_text}
 use Rattle.ocpi_text.specs.Text.{key}
 use Rattle.ocpi_text.specs.Whole.{max_whole}
 use Rattle.ocpi_text.specs.declared.own_ids.OwnIdKind.TheVariants.{AuthorizationReference}
+use Rattle.ocpi_types.specs.Commands.{reference_of}
 use Rattle.ocpi_types.specs.declared.authorizations.Authorization.TheVariants as authorization
 use Rattle.ocpi_types.specs.declared.stored.Reply.{Reply}
 use Rattle.ocpi_types.specs.declared.stored.Reply.TheVariants as reply
 use Rattle.ocpi_types.specs.declared.stored.SentCommand.{SentCommand}
-use Rattle.provider_rows.specs.State.{ArePeers, Peering, Rows, State, opening, reference_of}
+use Rattle.provider_rows.specs.State.{ArePeers, Peering, Rows, State, opening}
 use Rattle.provider_steps.specs.Events.{Event}
 use Rattle.provider_laws.specs.Laws.{Run}
 

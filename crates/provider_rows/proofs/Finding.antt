@@ -19,10 +19,10 @@ use Rattle.tables.proofs.Entries.{keys_in_order, listed}
 use Rattle.tables.proofs.Maps.{equal_of_is_eq}
 use Rattle.tables.proofs.Ordered.{le_of_not_gt, not_gt_of_le}
 use Rattle.tables.proofs.Parts.{first_part_le}
+use Rattle.ocpi_types.specs.Commands.{url_of}
 use Rattle.outbox.specs.Commands.{Commands}
 use Rattle.outbox.specs.Resend.{Moments, moment_number_cmp}
 use Rattle.outbox.proofs.Timing.{queue_total, queue_exact, not_above}
-use Rattle.provider_rows.specs.State.{url_of}
 use Rattle.provider_rows.specs.Urls.{AreFound, Fits, url_place}
 use Rattle.provider_rows.proofs.RowChanges.{of_cons, in_later}
 

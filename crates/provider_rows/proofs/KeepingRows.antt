@@ -6,6 +6,7 @@ use Rattle.std.specs.FinMap.{nat_cmp-IsAntisymmetric, get, insert, remove, empty
 use Rattle.tables.proofs.Indexing.{listed, relisted, nothing_listed}
 use Rattle.tables.proofs.Maps.{insert_removed}
 use Rattle.tables.proofs.Options.{known}
+use Rattle.ocpi_types.specs.Commands.{url_of}
 use Rattle.ocpi_types.specs.declared.rows.Row.{Row}
 use Rattle.ocpi_types.specs.declared.rows.Row.TheVariants as row
 use Rattle.ocpi_types.specs.declared.rows.RowKey.TheVariants as keys
@@ -21,7 +22,7 @@ use Rattle.outbox.specs.Outbox.{OutboxRows, HeldOutbox}
 use Rattle.outbox.specs.Resend.{Moments, queue_number}
 use Rattle.outbox.proofs.Timing.{queue_total, queue_exact}
 use Rattle.handover.specs.Inbox.{InboxRows}
-use Rattle.provider_rows.specs.State.{Peering, Rows, State, opening, url_of}
+use Rattle.provider_rows.specs.State.{Peering, Rows, State, opening}
 use Rattle.provider_rows.specs.Stored.{put_row, drop_row}
 use Rattle.provider_rows.specs.Sound.{IsSound, MayPut, MayPutCommand, MayPutPush, MayPutRequest, with_rows}
 use Rattle.provider_rows.specs.Kept.{AreKept, state_of}

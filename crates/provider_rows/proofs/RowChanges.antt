@@ -5,7 +5,6 @@ use Rattle.std.specs.declared.cmp.Ordering.{Ordering}
 use Rattle.std.specs.Cmp.{IsTotalOrder, nat_cmp_total}
 use Rattle.std.specs.FinMap.{FinMap, IsAntisymmetric, nat_cmp-IsAntisymmetric, get, insert, remove}
 use Rattle.ocpi_text.specs.Text.{key}
-use Rattle.std.proofs.lemmas.List.Elements.{Contains-append_cases, Contains-append_right}
 use Rattle.tables.specs.Keys.{text_number_total, text_number_exact, text_pair_total, text_pair_exact}
 use Rattle.tables.proofs.Maps.{get-insert_same, get-insert_other, of_remove, get-remove_other, told}
 use Rattle.ocpi_types.specs.Rows.{key_of}
@@ -20,7 +19,8 @@ use Rattle.token_desk.specs.Tokens.{token_key}
 use Rattle.token_desk.specs.TypeOrder.{tokens_total, tokens_exact}
 use Rattle.handover.specs.Inbox.{session_key}
 use Rattle.handover.specs.Cdrs.{cdr_key}
-use Rattle.tables.proofs.Elements.{in_none, in_single, in_front, of_map}
+use Rattle.tables.proofs.Elements.{in_none, in_front, of_map}
+pub use Rattle.tables.proofs.Elements.{in_later, of_cons}
 use Rattle.provider_rows.specs.State.{Rows, State}
 use Rattle.provider_rows.specs.Stored.{put_row, drop_row, changed, changed_all, change_key, Each, AreApart}
 use Rattle.provider_rows.specs.Rows.{HasRow, AreChanges}
@@ -258,13 +258,6 @@ one_put x s stored r = of_put (puts x s stored r) (λ e. ap Put (sym e)) (λ e. 
 
 pub one_drop : (k : RowKey) (s : Rows) → One (Drop k) s
 one_drop k s r = (λ h. inr ((drops k s r).0 h), λ y. elim y [ inl e ↦ absurd (cc) | inr h ↦ (drops k s r).1 h ])
-
-module _ {X : Type 0} where
-  pub of_cons : (x : X) (xs : List X) (y : X) → Contains (x ∷ xs) y → (x ≡ y) ⊎ Contains xs y
-  of_cons x xs y h = elim (Contains-append_cases (x ∷ []) xs y h) [ inl i ↦ inl (in_single x y i) | inr i ↦ inr i ]
-
-  pub in_later : (x : X) (xs : List X) (y : X) → Contains xs y → Contains (x ∷ xs) y
-  in_later x xs y h = Contains-append_right (x ∷ []) xs y h
 
 pub each_of : (P : Change → Type 0) (cs : List Change) → Each P cs → (d : Change) → Contains cs d → P d
 each_of P [] h d i = absurd (in_none d i)

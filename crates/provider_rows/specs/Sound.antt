@@ -6,6 +6,7 @@ use Rattle.ocpi_text.specs.Text.{key}
 use Rattle.ocpi_text.specs.Whole.{max_whole}
 use Rattle.ocpi_text.specs.OwnIds.{own_id_text}
 use Rattle.ocpi_text.specs.declared.own_ids.OwnIdKind.TheVariants.{AuthorizationReference}
+use Rattle.ocpi_types.specs.Commands.{reference_of, url_of}
 use Rattle.ocpi_types.specs.declared.rows.Row.{Row}
 use Rattle.ocpi_types.specs.declared.rows.Row.TheVariants as row
 use Rattle.ocpi_types.specs.declared.rows.RowKey.{RowKey}
@@ -21,7 +22,7 @@ use Rattle.outbox.specs.Outbox as outbox
 use Rattle.outbox.specs.Pushes.{subject}
 use Rattle.outbox.specs.declared.push_book.Outgoing.{Outgoing}
 use Rattle.node_steps.specs.Peers.{HasPeer}
-use Rattle.provider_rows.specs.State.{ArePeers, State, Rows, reference_of, url_of}
+use Rattle.provider_rows.specs.State.{ArePeers, State, Rows}
 use Rattle.provider_rows.specs.Stored.{changed}
 
 -- the reference of a command, where it has one and it is this party's own by a number, has a number that was given

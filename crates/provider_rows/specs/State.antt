@@ -1,11 +1,9 @@
 -- What a provider stores. Keys are in the form by which texts are compared.
-use Rattle.std.specs.Prelude.{◌≡◌, ◌≤◌, ℕ, List, [], ◌∷◌, Option, None, Ok, length, map}
+use Rattle.std.specs.Prelude.{◌≡◌, ◌≤◌, ℕ, List, [], ◌∷◌, Ok, length, map}
 use Rattle.std.specs.FinMap.{empty}
 use Rattle.ocpi_text.specs.Text.{key}
 use Rattle.ocpi_text.specs.Party.{party_at}
 use Rattle.ocpi_types.specs.Apart.{DifferFrom}
-use Rattle.ocpi_types.specs.declared.commands.Command.{Command}
-use Rattle.ocpi_types.specs.declared.commands.Command.TheVariants as command
 use Rattle.command_book.specs.Stored.{Replies}
 use Rattle.token_desk.specs.Stored as desk
 use Rattle.outbox.specs.Outbox as outbox
@@ -50,19 +48,3 @@ no_rows = record { serial = 0; replies = empty; desk = desk.no_rows; outbox = ou
 -- before the first event
 abbrev pub opening : Peering → State
 opening p = record { party = p.provider; operators = p.operators; rows = no_rows; resend = empty }
-
--- to where the result of a command is posted (OCPI 2.2.1, Commands: response_url)
-abbrev pub url_of : Command → List ℕ
-url_of (command.StartSession c) = c.response_url
-url_of (command.StopSession c) = c.response_url
-url_of (command.ReserveNow c) = c.response_url
-url_of (command.CancelReservation c) = c.response_url
-url_of (command.UnlockConnector c) = c.response_url
-
--- the authorization reference of a start, if it has one (OCPI 2.2.1, Commands: StartSession object)
-abbrev pub reference_of : Command → Option (List ℕ)
-reference_of (command.StartSession c) = c.authorization_reference
-reference_of (command.StopSession c) = None
-reference_of (command.ReserveNow c) = None
-reference_of (command.CancelReservation c) = None
-reference_of (command.UnlockConnector c) = None

@@ -2,11 +2,11 @@
 use Rattle.std.specs.Prelude.{◌≡◌, ℕ, ◌+◌, ◌*◌, ◌%◌, List, [], ◌∷◌, Some, IsTrue}
 use Rattle.std.specs.FinMap.{get, contains_key}
 use Rattle.ocpi_text.specs.Text.{key}
+use Rattle.ocpi_types.specs.Commands.{url_of}
 use Rattle.ocpi_types.specs.declared.stored.SentCommand.{SentCommand}
 use Rattle.tables.specs.Indexes.{Indexes}
 use Rattle.outbox.specs.Commands.{Commands}
 use Rattle.outbox.specs.Resend.{Moments, queue_number}
-use Rattle.provider_rows.specs.State.{url_of}
 
 -- the result of the command of that number is posted to that url, by that party
 pub record Fits (m : Commands) (url from : List ℕ) (n : ℕ) : Type 0 where

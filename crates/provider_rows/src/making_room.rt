@@ -10,7 +10,7 @@ ghost use Rattle.provider_rows.specs.Stored.{Each, HasRoom, HasRoomOf, KeepsRoom
 ghost use Rattle.provider_rows.specs.Urls.{KeepsUrlRoom, url_entry};
 
 use crate::books::{Books, UrlTable};
-use crate::urls::{place_of, response_url};
+use crate::urls::place_of;
 use node_steps::{Plan, Volatile};
 use ocpi_text::Whole;
 use ocpi_types::{Change, Row, SentCommand};
@@ -54,7 +54,7 @@ fn reserve_url(urls: &mut UrlTable, number: Whole, command: &SentCommand) -> Res
     ensures room { OnOk result (IsTrue (map.contains_key (rooms_of moment_number_cmp urls.new) (url_entry number command.now))) }
     ensures again { IsTrue (map.contains_key (rooms_of moment_number_cmp urls.old) (url_entry number command.now)) → IsOk result }
 {
-    let place = place_of(response_url(&command.command));
+    let place = place_of(command.command.response_url());
     urls.reserve((place, number))
 }
 

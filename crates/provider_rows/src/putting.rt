@@ -11,7 +11,7 @@ ghost use Rattle.provider_rows.specs.Steps.{after_change};
 ghost use Rattle.provider_rows.specs.Stored.{HasRoomOf, KeepsOtherRoom};
 
 use crate::books::Books;
-use crate::urls::{place_of, response_url};
+use crate::urls::place_of;
 use ocpi_text::{Party, PartyKey, Whole};
 use ocpi_types::{Boxed, Cdr, Counter, Push, Reply, Row, SentCommand, Session, Token};
 
@@ -74,7 +74,7 @@ impl Books {
         ensures keeps { KeepsOtherRoom (keys.Command number) self.old.rooms self.new.rooms }
         ensures sending { self.new.sending ≡ released_of (Some number) self.old.state.resend self.old.sending }
     {
-        let place = place_of(response_url(&command.command));
+        let place = place_of(command.command.response_url());
         self.urls.put((place, number), ());
         self.outbox.put_row(Row::Command { number, command });
     }

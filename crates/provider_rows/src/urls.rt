@@ -1,26 +1,11 @@
 //! How the command is found whose result is posted to a url (OCPI 2.2.1, Commands: response_url).
 
 ghost use Rattle.std.specs.Prelude.{◌≡◌, ◌↔◌, ℕ, IfSome, IfNone, IsTrue};
-ghost use Rattle.provider_rows.specs.State.{url_of};
 ghost use Rattle.provider_rows.specs.Urls.{Fits, url_place};
 
 use crate::books::Books;
 use ocpi_text::{FreeText, Party, Whole};
-use ocpi_types::Command;
 use outbox::Outbox;
-
-/// To where the result of a command is posted.
-pub(crate) fn response_url(command: &Command) -> &FreeText<255>
-    ensures { result.now ≡ url_of command.now }
-{
-    match command {
-        Command::StartSession(command) => &command.response_url,
-        Command::StopSession(command) => &command.response_url,
-        Command::ReserveNow(command) => &command.response_url,
-        Command::CancelReservation(command) => &command.response_url,
-        Command::UnlockConnector(command) => &command.response_url,
-    }
-}
 
 /// The number by which commands are found by their urls.
 pub(crate) fn place_of(url: &FreeText<255>) -> Whole
@@ -43,7 +28,7 @@ fn fits(outbox: &Outbox, number: Whole, url: &FreeText<255>, from: &Party) -> bo
 {
     match outbox.command(number) {
         Some(sent) => {
-            response_url(&sent.command).as_str() == url.as_str() && sent.to.is_same(from)
+            sent.command.response_url().as_str() == url.as_str() && sent.to.is_same(from)
         }
         None => false,
     }

@@ -3,6 +3,7 @@ use Rattle.std.proofs.Common.{◌≡◌, ◌≤◌, ◌+◌, ℕ, List, Option, 
 use Rattle.std.specs.FinMap.{get}
 use Rattle.tables.proofs.Options.{none_of}
 use Rattle.ocpi_text.specs.Text.{key}
+use Rattle.ocpi_types.specs.Commands.{url_of}
 use Rattle.ocpi_types.specs.declared.replies.CommandResponse.{CommandResponse}
 use Rattle.ocpi_types.specs.declared.commands.Command.{Command}
 use Rattle.ocpi_types.specs.declared.stored.SentCommand.{SentCommand}
@@ -10,7 +11,7 @@ use Rattle.ocpi_types.specs.declared.words.CommandResultType.{CommandResultType}
 use Rattle.command_book.specs.Stored.{Replies}
 use Rattle.node_steps.specs.Acts.{unanswered}
 use Rattle.node_steps.specs.Peers.{HasPeer}
-use Rattle.provider_rows.specs.State.{State, url_of}
+use Rattle.provider_rows.specs.State.{State}
 use Rattle.provider_rows.specs.Sound.{IsGiven, IsSound, MayPutCommand, with_rows}
 
 -- no push has the number of a command that stands

@@ -7,6 +7,7 @@ use Rattle.ocpi_text.specs.OwnIds.{own_id_text}
 use Rattle.ocpi_text.specs.declared.own_ids.OwnIdKind.TheVariants.{AuthorizationReference}
 use Rattle.ocpi_text.specs.Text.{key}
 use Rattle.ocpi_text.specs.Whole.{max_whole}
+use Rattle.ocpi_types.specs.Commands.{reference_of}
 use Rattle.ocpi_types.specs.declared.events.Order.{Order}
 use Rattle.ocpi_types.specs.declared.rows.Change.{Change}
 use Rattle.ocpi_types.specs.declared.rows.Change.TheVariants.{Put, Drop}
@@ -17,7 +18,7 @@ use Rattle.ocpi_types.specs.declared.commands.Command.{Command}
 use Rattle.node_steps.specs.declared.plan.Volatile.TheVariants.{Sent}
 use Rattle.node_steps.specs.Acts.{Act, all_changes, all_messages, all_requests, commanded, unanswered}
 use Rattle.node_steps.specs.Peers.{HasPeer}
-use Rattle.provider_rows.specs.State.{State, reference_of}
+use Rattle.provider_rows.specs.State.{State}
 use Rattle.provider_rows.specs.Sound.{IsConsistent, IsGiven}
 use Rattle.provider_rows.specs.Steps.{IsUndropped}
 use Rattle.provider_steps.specs.Acts.{referenced}

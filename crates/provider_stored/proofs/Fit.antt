@@ -8,6 +8,7 @@ use Rattle.ocpi_text.specs.Text.{key}
 use Rattle.tables.specs.Keys.{text_pair_total, text_pair_exact}
 use Rattle.tables.proofs.Maps.{of_insert}
 use Rattle.tables.proofs.Options.{not_both}
+use Rattle.ocpi_types.specs.Commands.{reference_of}
 use Rattle.ocpi_types.specs.declared.cdrs.Cdr.{Cdr}
 use Rattle.ocpi_types.specs.declared.rows.Change.TheVariants.{Put}
 use Rattle.ocpi_types.specs.declared.rows.Counter.{Counter}
@@ -29,7 +30,7 @@ use Rattle.handover.specs.Inbox.{IsInConflict, session_key}
 use Rattle.node_steps.specs.Peers.{HasPeer}
 use Rattle.provider_rows.specs.Rows.{HasCount, HasRow}
 use Rattle.provider_rows.specs.Sound.{IsGiven, MayPutCount}
-use Rattle.provider_rows.specs.State.{Rows, State, reference_of}
+use Rattle.provider_rows.specs.State.{Rows, State}
 use Rattle.provider_rows.specs.Steps.{after_change}
 use Rattle.provider_stored.specs.Fitting.{HasOwnReference, IsFit, IsFree, IsNext, given_last}
 use Rattle.provider_stored.specs.Whole.{IsWhole}

@@ -3,6 +3,7 @@
 use Rattle.std.specs.Prelude.{◌≡◌, ◌≢◌, ◌⊎◌, ℕ, List, Some, Contains, ⊤}
 use Rattle.ocpi_text.specs.Text.{key}
 use Rattle.ocpi_text.specs.declared.own_ids.OwnIdKind.TheVariants.{AuthorizationReference}
+use Rattle.ocpi_types.specs.Commands.{reference_of}
 use Rattle.ocpi_types.specs.Credits.{AreAlike, IsBill, IsCredit}
 use Rattle.ocpi_types.specs.Rows.{key_of}
 use Rattle.ocpi_types.specs.declared.cdrs.Cdr.{Cdr}
@@ -19,7 +20,7 @@ use Rattle.ocpi_types.specs.declared.token.Token.{Token}
 use Rattle.outbox.specs.Pushes.{subject}
 use Rattle.outbox.specs.declared.push_book.Subject.{Subject}
 use Rattle.node_steps.specs.Peers.{HasPeer}
-use Rattle.provider_rows.specs.State.{Peering, reference_of}
+use Rattle.provider_rows.specs.State.{Peering}
 use Rattle.stored_rows.specs.Given.{IsNotGiven, IsOwnId, RepeatsKey}
 use Rattle.stored_rows.specs.declared.fault.BadReason.{BadReason}
 use Rattle.stored_rows.specs.declared.fault.BadReason.TheVariants as reason

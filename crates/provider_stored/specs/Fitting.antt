@@ -3,6 +3,7 @@ use Rattle.std.specs.Prelude.{◌≡◌, ◌≢◌, ◌<◌, ◌≤◌, ℕ, Lis
 use Rattle.std.specs.List.Sorted.{IsNonDecreasingBy}
 use Rattle.std.specs.FinMap.{get}
 use Rattle.ocpi_text.specs.declared.own_ids.OwnIdKind.TheVariants.{AuthorizationReference}
+use Rattle.ocpi_types.specs.Commands.{reference_of}
 use Rattle.ocpi_types.specs.Credits.{IsBill, IsCredit}
 use Rattle.ocpi_types.specs.Rows.{key_of}
 use Rattle.ocpi_types.specs.declared.cdrs.Cdr.{Cdr}
@@ -16,7 +17,7 @@ use Rattle.outbox.specs.Outbox.{OutboxRows}
 use Rattle.outbox.specs.declared.push_book.Outgoing.{Outgoing}
 use Rattle.provider_rows.specs.Rows.{HasRow}
 use Rattle.provider_rows.specs.Sound.{MayPut}
-use Rattle.provider_rows.specs.State.{Peering, Rows, State, reference_of}
+use Rattle.provider_rows.specs.State.{Peering, Rows, State}
 use Rattle.provider_rows.specs.Steps.{after_change}
 use Rattle.provider_stored.specs.Bad.{IsBad}
 use Rattle.provider_stored.specs.Making.{IsMadeOf}

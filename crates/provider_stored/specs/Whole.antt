@@ -4,6 +4,7 @@ use Rattle.std.specs.Prelude.{◌≡◌, ℕ, List, Some}
 use Rattle.std.specs.FinMap.{get}
 use Rattle.ocpi_text.specs.Text.{key}
 use Rattle.ocpi_text.specs.declared.own_ids.OwnIdKind.TheVariants.{AuthorizationReference}
+use Rattle.ocpi_types.specs.Commands.{reference_of}
 use Rattle.ocpi_types.specs.declared.cdrs.Cdr.{Cdr}
 use Rattle.ocpi_types.specs.declared.rows.Row.TheVariants as row
 use Rattle.ocpi_types.specs.declared.sessions.Session.{Session}
@@ -12,7 +13,7 @@ use Rattle.ocpi_types.specs.declared.token.Token.{Token}
 use Rattle.handover.specs.Cdrs.{HasOnePerSession}
 use Rattle.stored_rows.specs.Given.{IsOwnId}
 use Rattle.provider_rows.specs.Rows.{HasRow}
-use Rattle.provider_rows.specs.State.{State, reference_of}
+use Rattle.provider_rows.specs.State.{State}
 
 pub record IsWhole (s : State) : Type 0 where
   -- each authorization reference in a command is of the provider's own

@@ -1,11 +1,10 @@
 //! Which rows may be put beside those that stand, and what is wrong with the others.
 
-ghost use Rattle.std.specs.Prelude.{◌≡◌, ◌↔◌, IfNone, IfSome, IsTrue, option_copied};
+ghost use Rattle.std.specs.Prelude.{◌≡◌, ◌↔◌, IfNone, IfSome, IsTrue};
 ghost use Rattle.ocpi_text.specs.Text.{key};
 ghost use Rattle.ocpi_types.specs.declared.rows.Row.TheVariants as row;
 ghost use Rattle.node_steps.specs.Peers.{HasPeer};
 ghost use Rattle.handover.specs.Inbox.{IsInConflict};
-ghost use Rattle.provider_rows.specs.State.{reference_of};
 ghost use Rattle.provider_stored.specs.Fitting.{
   HasOwnReference,
   HasStrangeReference,
@@ -20,7 +19,7 @@ ghost use Rattle.provider_stored.specs.Fitting.{
 
 use handover::{CdrTaking, Inbox};
 use node_steps::peer_of;
-use ocpi_text::{CiText, OwnIdKind, Party, PartyKey, Whole};
+use ocpi_text::{OwnIdKind, Party, PartyKey, Whole};
 use ocpi_types::{Cdr, Command, Counter, Push, Reply, Row, SentCommand, Session, Token};
 use outbox::Outbox;
 use provider_rows::Books;
@@ -197,25 +196,12 @@ fn push_fault(books: &Books, number: Whole, to: &Party, push: &Push) -> Option<B
     None
 }
 
-/// The authorization reference of a start.
-fn reference_of(command: &Command) -> Option<&CiText<36>>
-    ensures { option_copied result ≡ reference_of command.now }
-{
-    match command {
-        Command::StartSession(start) => start.authorization_reference.as_ref(),
-        Command::StopSession(_)
-        | Command::ReserveNow(_)
-        | Command::CancelReservation(_)
-        | Command::UnlockConnector(_) => None,
-    }
-}
-
 /// What is wrong with the reference of a command: it is not the party's own, or its number was not given.
 fn reference_fault(party: &Party, last: Whole, command: &Command) -> Option<BadReason>
     ensures own { IfNone result (HasOwnReference party.now last command.now) }
     ensures strange { IfSome result (HasStrangeReference party.now last command.now) }
 {
-    let Some(reference) = reference_of(command) else {
+    let Some(reference) = command.authorization_reference() else {
         return None;
     };
     let kind = OwnIdKind::AuthorizationReference;

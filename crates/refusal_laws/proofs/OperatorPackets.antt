@@ -4,6 +4,7 @@ use Rattle.std.specs.Prelude.{◌⊎◌, Option, Some, None}
 use Rattle.std.specs.FinMap.{get}
 use Rattle.tables.proofs.Options.{not_both}
 use Rattle.ocpi_text.specs.Text.{key}
+use Rattle.ocpi_types.specs.Commands.{reference_of}
 use Rattle.ocpi_types.specs.Locations.{AreLocations}
 use Rattle.ocpi_types.specs.declared.authorizations.Authorization.{Authorization}
 use Rattle.ocpi_types.specs.declared.commands.CancelReservation.{CancelReservation}
@@ -39,7 +40,7 @@ use Rattle.operator_tables.specs.Stop as stop
 use Rattle.operator_tables.specs.Unlock as unlock
 use Rattle.operator_tables.specs.declared.decision.Decision.{Decision}
 use Rattle.operator_tables.specs.declared.decision.Decision.TheVariants as decision
-use Rattle.operator_steps.specs.Acts.{deadline, decided_acts, opened, reference_of, reply_of, spent, used}
+use Rattle.operator_steps.specs.Acts.{deadline, decided_acts, opened, reply_of, spent, used}
 use Rattle.operator_steps.specs.Asking.{AnswerActs, IsAwaited}
 use Rattle.operator_steps.specs.Moves.{Work}
 use Rattle.operator_steps.specs.Sessions.{IsBegun, IsVersioned, numbered_sessions, versioned}

@@ -19,7 +19,8 @@ use Rattle.provider_rows.specs.State as provider
 use Rattle.provider_steps.specs.Events as provider_events
 use Rattle.refusal_laws.proofs.Refusing.{refusals_exclude_steps}
 use Rattle.refusal_laws.specs.Refusals.{HasLocations}
-use Rattle.replay_laws.specs.Answers.{Declined, HasOneAnswer, IsSettled, NodesHaveOneAnswer, PassedOver, Stepped}
+use Rattle.node_replay.specs.Answers.{Declined, HasOneAnswer, PassedOver, Stepped}
+use Rattle.replay_laws.specs.Answers.{IsSettled, NodesHaveOneAnswer}
 use Rattle.stored_laws.specs.Nodes.{IsSound}
 use Rattle.world_steps.specs.Network.{Input, OfOperator, OfProvider}
 use Rattle.world_steps.specs.Steps.{AtOperator, AtProvider, NodeEvent, NodeRefuses, NodeStep, changes_of, input_of, packets_of}

@@ -1,33 +1,15 @@
--- What a node may answer to an event, and where that is one thing.
-use Rattle.std.specs.Prelude.{◌≡◌, List, Bool, ⊤}
+-- Where a node has one answer to an event.
+use Rattle.std.specs.Prelude.{⊤}
 use Rattle.ocpi_types.specs.declared.node_events.NodeEventKind.{NodeEventKind}
 use Rattle.ocpi_types.specs.declared.node_events.NodeEventKind.TheVariants as event
-use Rattle.ocpi_types.specs.declared.packet.Packet.{Packet}
 use Rattle.ocpi_types.specs.declared.setup.Node.{Node}
 use Rattle.ocpi_types.specs.declared.setup.Node.TheVariants as node
 use Rattle.answer_laws.specs.Nodes.{IsApart, PlacesDiffer}
 use Rattle.answer_laws.specs.Picks.{HasOnePick}
-use Rattle.node_replay.specs.Replayed.{IsReplay, Leads, Passes, Refuses, Replay}
-use Rattle.node_steps.specs.declared.fault.NodeFault.{NodeFault}
+use Rattle.node_replay.specs.Answers.{HasOneAnswer}
+use Rattle.node_replay.specs.Replayed.{IsReplay, Replay}
 use Rattle.stored_laws.specs.Nodes.{IsSound}
 use Rattle.world_steps.specs.World.{NodeState, Operates}
-
--- an answer of a node to an event: packets, whether rows changed, and the node behind it; that the event is none of its
--- role; or a refusal
-pub data NodeAnswer : Type 0 where
-  Stepped : List Packet → Bool → NodeState → NodeAnswer
-  PassedOver : NodeAnswer
-  Declined : NodeFault → NodeAnswer
-
--- by the rules the node may answer so
-abbrev pub MayAnswer : NodeState → NodeEventKind → NodeAnswer → Type 0
-MayAnswer s k (Stepped packets changed t) = Leads s k packets changed t
-MayAnswer s k PassedOver = Passes s k
-MayAnswer s k (Declined why) = Refuses s k why
-
--- the rules leave the node one answer at most
-abbrev pub HasOneAnswer : NodeState → NodeEventKind → Type 0
-HasOneAnswer s k = (a b : NodeAnswer) → MayAnswer s k a → MayAnswer s k b → a ≡ b
 
 -- the rules leave the node one EVSE at most to take by the event; a provider takes none
 abbrev pub IsSettled : NodeState → NodeEventKind → Type 0

@@ -5,6 +5,7 @@ use Rattle.std.proofs.lemmas.List.Elements.{Contains-append_right, Contains-appe
 use Rattle.tables.proofs.Elements.{in_front}
 use Rattle.ocpi_text.specs.Text.{key}
 use Rattle.ocpi_text.specs.Whole.{max_whole}
+use Rattle.ocpi_types.specs.Commands.{reference_of}
 use Rattle.ocpi_types.specs.declared.authorizations.Authorization.{Authorization}
 use Rattle.ocpi_types.specs.declared.cdrs.Cdr.{Cdr}
 use Rattle.ocpi_types.specs.declared.events.ChargerEvent.{ChargerEvent}
@@ -32,7 +33,7 @@ use Rattle.operator_rows.specs.State.{State}
 use Rattle.operator_rows.specs.Sound.{IsConsistent}
 use Rattle.operator_tables.specs.declared.decision.Decision.{Decision}
 use Rattle.operator_tables.specs.declared.decision.Decision.TheVariants as decision
-use Rattle.operator_steps.specs.Acts.{deadline, decided_acts, opened, reference_of, reply_of, spent, used}
+use Rattle.operator_steps.specs.Acts.{deadline, decided_acts, opened, reply_of, spent, used}
 use Rattle.node_steps.specs.Acts.{answered}
 use Rattle.operator_steps.specs.declared.ending.Ending.{Ending}
 use Rattle.operator_steps.specs.Asking.{AnswerActs, IsAnswered}

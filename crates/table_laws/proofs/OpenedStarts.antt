@@ -6,6 +6,7 @@ use Rattle.std.proofs.lemmas.List.Elements.{Contains-append_right}
 use Rattle.tables.proofs.Elements.{in_front}
 use Rattle.tables.proofs.Options.{not_both}
 use Rattle.ocpi_text.specs.Text.{key}
+use Rattle.ocpi_types.specs.Commands.{reference_of}
 use Rattle.ocpi_types.specs.Locations.{AreLocations}
 use Rattle.ocpi_types.specs.declared.commands.Command.{Command}
 use Rattle.ocpi_types.specs.declared.commands.Command.TheVariants as command
@@ -32,7 +33,7 @@ use Rattle.operator_tables.specs.Places.{HasService, IsHeldFor, place_of}
 use Rattle.operator_tables.specs.Start as start
 use Rattle.operator_tables.specs.declared.decision.Decision.{Decision}
 use Rattle.operator_tables.specs.declared.decision.Decision.TheVariants as decision
-use Rattle.operator_steps.specs.Acts.{deadline, decided_acts, reference_of, reply_of, spent}
+use Rattle.operator_steps.specs.Acts.{deadline, decided_acts, reply_of, spent}
 use Rattle.operator_steps.specs.Events.{Asks, Event, Input}
 use Rattle.operator_steps.specs.Moves.{Work, quiet}
 use Rattle.operator_steps.specs.Steps as packets

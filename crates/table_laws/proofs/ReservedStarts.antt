@@ -5,6 +5,7 @@ use Rattle.std.specs.FinMap.{get}
 use Rattle.std.proofs.lemmas.List.Elements.{Contains-append_right}
 use Rattle.tables.proofs.Elements.{in_front, in_none, in_single}
 use Rattle.ocpi_text.specs.Text.{key}
+use Rattle.ocpi_types.specs.Commands.{reference_of, url_of}
 use Rattle.ocpi_types.specs.Locations.{AreLocations}
 use Rattle.ocpi_types.specs.declared.commands.Command.{Command}
 use Rattle.ocpi_types.specs.declared.commands.Command.TheVariants as command
@@ -33,7 +34,7 @@ use Rattle.operator_tables.specs.Places.{IsHeldFor, Works, place_of}
 use Rattle.operator_tables.specs.Start as start
 use Rattle.operator_tables.specs.declared.decision.Decision.{Decision}
 use Rattle.operator_tables.specs.declared.decision.Decision.TheVariants as decision
-use Rattle.operator_steps.specs.Acts.{deadline, decided_acts, opened, reference_of, reply_of, spent, told, url_of, used}
+use Rattle.operator_steps.specs.Acts.{deadline, decided_acts, opened, reply_of, spent, told, used}
 use Rattle.operator_steps.specs.Events.{Arrives}
 use Rattle.operator_steps.proofs.Orderly.{of_cons}
 use Rattle.operator_laws.proofs.events.Caused.{in_parts}

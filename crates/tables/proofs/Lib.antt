@@ -11,3 +11,4 @@ pub mod Ties
 pub mod DueFront
 pub mod Nothing
 pub mod Rooms
+pub mod Places

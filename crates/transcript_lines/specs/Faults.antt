@@ -1,45 +1,16 @@
 -- Refusals by the name, the member and the number that a line tells of them.
-use Rattle.std.specs.Prelude.{ℕ, List, codes, ◌==◌, Option, None, Some, option_and_then, if◌then◌else◌}
+use Rattle.std.specs.Prelude.{ℕ, List, ◌==◌, Option, None, Some, option_and_then, if◌then◌else◌}
 use Rattle.std.specs.Str.{bytes_eq}
+use Rattle.json_text.specs.Fault.{fault_name as line_fault_name}
 use Rattle.json_text.specs.declared.fault.JsonFault.{JsonFault}
 use Rattle.json_text.specs.declared.fault.JsonFault.TheVariants as line
+use Rattle.node_steps.specs.FaultText.{fault_name as event_fault_name}
 use Rattle.node_steps.specs.declared.fault.NodeFault.{NodeFault}
 use Rattle.node_steps.specs.declared.fault.NodeFault.TheVariants as event
 use Rattle.ocpi_types.specs.declared.field.Field.{Field}
 use Rattle.transcript_lines.specs.Members.{field_named}
 
 -- ---- of a line
-
-abbrev pub line_fault_name : JsonFault → List ℕ
-line_fault_name line.Syntax = codes "Syntax"
-line_fault_name line.BadNumberToken = codes "BadNumberToken"
-line_fault_name line.TaggedText = codes "TaggedText"
-line_fault_name (line.Missing field) = codes "Missing"
-line_fault_name (line.WrongForm field) = codes "WrongForm"
-line_fault_name (line.UnknownWord field) = codes "UnknownWord"
-line_fault_name line.UnknownKind = codes "UnknownKind"
-line_fault_name line.Memory = codes "Memory"
-
-abbrev pub line_fault_number : JsonFault → ℕ
-line_fault_number line.Syntax = 1
-line_fault_number line.BadNumberToken = 2
-line_fault_number line.TaggedText = 3
-line_fault_number (line.Missing field) = 4
-line_fault_number (line.WrongForm field) = 5
-line_fault_number (line.UnknownWord field) = 6
-line_fault_number line.UnknownKind = 7
-line_fault_number line.Memory = 8
-
--- the member at fault, where there is one
-abbrev pub line_fault_field : JsonFault → Option Field
-line_fault_field line.Syntax = None
-line_fault_field line.BadNumberToken = None
-line_fault_field line.TaggedText = None
-line_fault_field (line.Missing field) = Some field
-line_fault_field (line.WrongForm field) = Some field
-line_fault_field (line.UnknownWord field) = Some field
-line_fault_field line.UnknownKind = None
-line_fault_field line.Memory = None
 
 -- because of no member
 abbrev pub line_fault_numbered : ℕ → Option JsonFault
@@ -66,22 +37,6 @@ line_fault name None n = option_and_then (named_line_fault name) (line_fault_num
 line_fault name (Some member) n = option_and_then (named_line_fault name) (option_and_then (member_fault_numbered n) (field_named member))
 
 -- ---- of an event
-
-abbrev pub event_fault_name : NodeFault → List ℕ
-event_fault_name event.NotForMe = codes "NotForMe"
-event_fault_name event.NumbersUsedUp = codes "NumbersUsedUp"
-event_fault_name event.StampEnd = codes "StampEnd"
-event_fault_name event.Memory = codes "Memory"
-event_fault_name event.UnknownOperator = codes "UnknownOperator"
-event_fault_name event.UnknownToken = codes "UnknownToken"
-
-abbrev pub event_fault_number : NodeFault → ℕ
-event_fault_number event.NotForMe = 1
-event_fault_number event.NumbersUsedUp = 2
-event_fault_number event.StampEnd = 3
-event_fault_number event.Memory = 4
-event_fault_number event.UnknownOperator = 5
-event_fault_number event.UnknownToken = 6
 
 abbrev pub event_fault_numbered : ℕ → Option NodeFault
 event_fault_numbered n =

@@ -3,10 +3,8 @@
 ghost use Rattle.std.specs.Prelude.{◌≡◌, option_map};
 ghost use Rattle.transcript_lines.specs.Faults.{
   event_fault,
-  event_fault_name,
   event_fault_numbered,
   line_fault,
-  line_fault_name,
   line_fault_numbered,
   member_fault_numbered,
 };
@@ -15,36 +13,6 @@ use crate::fields::field_named;
 use json_text::JsonFault;
 use node_steps::NodeFault;
 use ocpi_types::Field;
-
-/// The name of why a line was refused.
-fn line_fault_name(fault: JsonFault) -> &'static str
-    ensures { result.now ≡ line_fault_name fault }
-{
-    match fault {
-        JsonFault::Syntax => "Syntax",
-        JsonFault::BadNumberToken => "BadNumberToken",
-        JsonFault::TaggedText => "TaggedText",
-        JsonFault::Missing(_) => "Missing",
-        JsonFault::WrongForm(_) => "WrongForm",
-        JsonFault::UnknownWord(_) => "UnknownWord",
-        JsonFault::UnknownKind => "UnknownKind",
-        JsonFault::Memory => "Memory",
-    }
-}
-
-/// The name of why a node refused an event.
-fn event_fault_name(fault: NodeFault) -> &'static str
-    ensures { result.now ≡ event_fault_name fault }
-{
-    match fault {
-        NodeFault::NotForMe => "NotForMe",
-        NodeFault::NumbersUsedUp => "NumbersUsedUp",
-        NodeFault::StampEnd => "StampEnd",
-        NodeFault::Memory => "Memory",
-        NodeFault::UnknownOperator => "UnknownOperator",
-        NodeFault::UnknownToken => "UnknownToken",
-    }
-}
 
 /// Why a line was refused because of no member, by its number.
 fn line_fault_numbered(number: u64) -> Option<JsonFault>
@@ -92,12 +60,12 @@ fn event_fault_numbered(number: u64) -> Option<NodeFault>
 pub fn line_fault(name: &str, field: Option<&str>, number: u64) -> Option<JsonFault>
     ensures { result ≡ line_fault name.now (option_map (λ s. s.now) field.entry) number }
 {
-    let fault = match field {
+    let found = match field {
         Some(field) => member_fault_numbered(number, field_named(field)?)?,
         None => line_fault_numbered(number)?,
     };
-    if line_fault_name(fault) == name {
-        Some(fault)
+    if found.name() == name {
+        Some(found)
     } else {
         None
     }
@@ -108,7 +76,7 @@ pub fn event_fault(name: &str, number: u64) -> Option<NodeFault>
     ensures { result ≡ event_fault name.now number }
 {
     let fault = event_fault_numbered(number)?;
-    if event_fault_name(fault) == name {
+    if fault.name() == name {
         Some(fault)
     } else {
         None

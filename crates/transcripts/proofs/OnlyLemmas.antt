@@ -7,6 +7,7 @@ use Rattle.std.specs.Prelude.{IfNone, IfSome}
 use Rattle.histories.specs.declared.entry.Entry.{Entry}
 use Rattle.json_text.specs.Fault.{Read}
 use Rattle.json_text.specs.declared.fault.JsonFault.{JsonFault}
+use Rattle.node_replay.specs.Answers.{Declined, HasOneAnswer, Stepped}
 use Rattle.node_replay.specs.Replayed.{Enters, Foretells, Passes, Refuses, Replay}
 use Rattle.node_replay.specs.Replayed as replayed
 use Rattle.node_steps.specs.declared.fault.NodeFault.{NodeFault}
@@ -19,7 +20,7 @@ use Rattle.ocpi_types.specs.declared.setup.Node.{Node}
 use Rattle.transcript_parts.specs.LineReads.{LineRead}
 use Rattle.transcript_parts.specs.declared.line_read.Ending.{Ending}
 use Rattle.transcripts.specs.Exact.{ComeAs, ComesAs, IsFound, OnlyCome, OnlyGives, WouldChange}
-use Rattle.transcripts.specs.Following.{ComeInTurn, ComeWithoutChoice, Declined, FitsEntry, FitsNothing, Gives, Happens, HasOneAnswer, IsOwn, Malformed, NoneYet, OneMore, Refused, Skipped, Stays, Stepped, TellsMalformed, TellsRefused, TellsSkipped}
+use Rattle.transcripts.specs.Following.{ComeInTurn, ComeWithoutChoice, FitsEntry, FitsNothing, Gives, Happens, IsOwn, Malformed, NoneYet, OneMore, Refused, Skipped, Stays, TellsMalformed, TellsRefused, TellsSkipped}
 use Rattle.transcripts.specs.LineEvents.{LineEvent, ending_at, event_at, packets_at}
 use Rattle.transcripts.specs.Told.{Told}
 use Rattle.world_steps.specs.World.{NodeState}

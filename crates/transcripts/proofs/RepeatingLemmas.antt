@@ -4,13 +4,13 @@ use Rattle.std.proofs.lemmas.Option.{same_Some}
 use Rattle.std.specs.Prelude.{slice_get}
 use Rattle.histories.specs.declared.entry.Entry.{Entry}
 use Rattle.history_laws.specs.Replays.{Brings, Did, Does, EntryStep, Idle, Replays}
+use Rattle.node_replay.specs.Answers.{HasOneAnswer, Stepped}
 use Rattle.node_replay.specs.Replayed.{Enters, Leads, Replay, restart_entry, started_again}
 use Rattle.ocpi_types.specs.Setups.{party_of}
 use Rattle.ocpi_types.specs.declared.node_events.NodeEventKind.{NodeEventKind}
 use Rattle.ocpi_types.specs.declared.node_events.NodeEventKind.TheVariants as event
 use Rattle.ocpi_types.specs.declared.packet.Packet.{Packet}
 use Rattle.ocpi_types.specs.declared.setup.Node.{Node}
-use Rattle.transcripts.specs.Following.{HasOneAnswer, Stepped}
 use Rattle.transcripts.specs.Told.{AreSources, HasSources, IsSource, IsTold, Told}
 use Rattle.transcripts.specs.Ways.{AreRepeats, HadNoChoice, IsRepeat, IsRepeated, LeaveNoChoice, Repeats}
 use Rattle.transcripts.specs.declared.source.Source.{Source}

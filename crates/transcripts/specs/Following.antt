@@ -6,14 +6,14 @@ use Rattle.json_text.specs.declared.fault.JsonFault.TheVariants as json_fault
 use Rattle.ocpi_text.specs.Text.{key}
 use Rattle.ocpi_types.specs.Setups.{party_of}
 use Rattle.ocpi_types.specs.declared.node_events.NodeEvent.{NodeEvent}
-use Rattle.ocpi_types.specs.declared.node_events.NodeEventKind.{NodeEventKind}
 use Rattle.ocpi_types.specs.declared.packet.Packet.{Packet}
 use Rattle.ocpi_types.specs.declared.rows.Row.{Row}
 use Rattle.ocpi_types.specs.declared.setup.Node.{Node}
 use Rattle.node_lines.specs.ListLines.{IsListLine}
 use Rattle.node_lines.specs.NodeLines.{node_line_in}
 use Rattle.ocpi_json.specs.SetupForms.{setup_in}
-use Rattle.node_replay.specs.Replayed.{Enters, Leads, Passes, Refuses, started_again}
+use Rattle.node_replay.specs.Answers.{HasOneAnswer}
+use Rattle.node_replay.specs.Replayed.{Enters, Passes, Refuses, started_again}
 use Rattle.node_steps.specs.declared.fault.NodeFault.{NodeFault}
 use Rattle.node_steps.specs.declared.fault.NodeFault.TheVariants as node_fault
 use Rattle.stored_laws.specs.Nodes.{AreNodeRows, last_serial}
@@ -32,7 +32,7 @@ use Rattle.transcript_parts.specs.declared.line_read.Ending.{Ending}
 use Rattle.transcript_parts.specs.declared.line_read.Ending.TheVariants.{Answered, FileEnd, NextRun}
 use Rattle.transcript_parts.specs.declared.echoed.EchoedLine.{EchoedLine}
 use Rattle.transcripts.specs.declared.source.Source.TheVariants.{Echoed, Restarted}
-use Rattle.world_steps.specs.World.{NodeState, opening_of}
+use Rattle.world_steps.specs.World.{opening_of}
 
 -- ---- one event
 
@@ -52,24 +52,7 @@ FitsEntry FileEnd packets changed sent = (rest : List Packet) × (sent ≡ packe
 abbrev pub IsOwn : Told → NodeEvent → Type 0
 IsOwn t x = key x.node ≡ key (party_of t.replay.member)
 
--- an answer of a node to an event: packets, whether rows changed, and the node behind it; that the event is none of its
--- role; or a refusal
-pub data NodeAnswer : Type 0 where
-  Stepped : List Packet → Bool → NodeState → NodeAnswer
-  PassedOver : NodeAnswer
-  Declined : NodeFault → NodeAnswer
-
--- by the rules the node may answer so
-abbrev pub MayAnswer : NodeState → NodeEventKind → NodeAnswer → Type 0
-MayAnswer s k (Stepped packets changed t) = Leads s k packets changed t
-MayAnswer s k PassedOver = Passes s k
-MayAnswer s k (Declined why) = Refuses s k why
-
--- the rules leave the node one answer at most (of several equal EVSEs they leave open which one is taken)
-abbrev pub HasOneAnswer : NodeState → NodeEventKind → Type 0
-HasOneAnswer s k = (a b : NodeAnswer) → MayAnswer s k a → MayAnswer s k b → a ≡ b
-
--- and so it is of an event of a line, where that is the node's
+-- the rules leave the node one answer at most to an event of a line, where that is the node's
 abbrev pub LeavesNoChoice : Told → LineEvent → Type 0
 LeavesNoChoice t e = (x : NodeEvent) → e.event ≡ Ok x → IsOwn t x → HasOneAnswer t.replay.state x.kind
 

@@ -3,6 +3,7 @@
 use Rattle.std.specs.Prelude.{◌≡◌, ◌<◌, ◌++◌, ◌∷◌, ℕ, true, List, [], Some, Contains, length}
 use Rattle.histories.specs.declared.entry.Entry.{Entry}
 use Rattle.history_laws.specs.Replays.{EntryStep}
+use Rattle.node_replay.specs.Answers.{HasOneAnswer}
 use Rattle.node_replay.specs.Replayed.{Replay, restart_entry}
 use Rattle.ocpi_types.specs.declared.setup.Node.{Node}
 use Rattle.transcript_parts.specs.LineReads.{GaveNothing, LineRead}
@@ -10,7 +11,7 @@ use Rattle.transcript_parts.specs.Lines.{Line, lines_in}
 use Rattle.transcript_parts.specs.declared.fault.TranscriptFault.{TranscriptFault}
 use Rattle.transcript_parts.specs.declared.fault.TranscriptFault.TheVariants as transcript_fault
 use Rattle.transcripts.specs.Diverging.{AllDiverge}
-use Rattle.transcripts.specs.Following.{CarriedOut, GoesOn, HasOneAnswer, LeavesOpen, ReadTo, Reading, Standing}
+use Rattle.transcripts.specs.Following.{CarriedOut, GoesOn, LeavesOpen, ReadTo, Reading, Standing}
 use Rattle.transcripts.specs.LineEvents.{LineEvents}
 use Rattle.transcripts.specs.Told.{Told}
 use Rattle.world_steps.specs.World.{NodeState, opening_of}

@@ -26,7 +26,7 @@ use Rattle.world.specs.Works.{AsksFor, Brings, IsIdle, IsPlanned, place_after}
 use Rattle.world.specs.declared.place.Place as declared
 use Rattle.world.specs.declared.planned.Outcome as outcomes
 use Rattle.world.specs.declared.planned.Outcome.TheVariants as outcome
-use Rattle.world.specs.declared.planned.Planned.TheVariants.{Acts, Idle}
+use Rattle.world.specs.declared.planned.EventPlan.TheVariants.{Acts, Idle}
 use Rattle.world.specs.declared.planned.Sending.{Sending}
 use Rattle.world.specs.declared.planned.Told.{Told}
 use Rattle.world_laws.specs.Later.{IsLater}

@@ -10,8 +10,8 @@ use Rattle.ocpi_types.specs.declared.events.EventKind.{EventKind}
 use Rattle.ocpi_types.specs.declared.events.EventKind.TheVariants as kind
 use Rattle.world.specs.declared.planned.Outcome.{Outcome}
 use Rattle.world.specs.declared.planned.Outcome.TheVariants as outcome
-use Rattle.world.specs.declared.planned.Planned.{Planned}
-use Rattle.world.specs.declared.planned.Planned.TheVariants.{Acts, Idle}
+use Rattle.world.specs.declared.planned.EventPlan.{EventPlan}
+use Rattle.world.specs.declared.planned.EventPlan.TheVariants.{Acts, Idle}
 use Rattle.world_steps.specs.Network.{Input, Reaches}
 use Rattle.world_steps.specs.Steps.{NodeRefuses}
 use Rattle.world_steps.specs.World.{NodeState, Place, World}
@@ -54,6 +54,6 @@ IsIdle w party n k outcome.Stepped = k ≡ kind.Refused
 IsIdle w party n k outcome.Skipped = Passes w party n k
 IsIdle w party n k (outcome.Refused fault) = Refuses w party n k fault
 
-abbrev pub IsPlanned : World → List ℕ → NodeState → EventKind → Planned → Type 0
+abbrev pub IsPlanned : World → List ℕ → NodeState → EventKind → EventPlan → Type 0
 IsPlanned w party n k (Idle o) = IsIdle w party n k o
 IsPlanned w party n k (Acts x) = AsksFor w party n k x

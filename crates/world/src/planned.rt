@@ -20,7 +20,7 @@ pub enum Outcome {
 
 /// What an event comes to at a node: nothing, of which this is told, or work.
 #[derive(Drop)]
-pub(crate) enum Planned {
+pub(crate) enum EventPlan {
     Idle(Outcome),
     Acts(NodeWork),
 }

@@ -8,8 +8,8 @@ ghost use Rattle.world.specs.Works.{Brings, BringsNothing, IsPlanned};
 
 use crate::finding::delivered;
 use crate::place::Place;
-use crate::planned::{Outcome, Planned};
-use node_core::{NodeInput, Planned as NodePlanned};
+use crate::planned::{EventPlan, Outcome};
+use node_core::{NodeInput, NodePlan};
 use ocpi_text::Party;
 use ocpi_types::EventKind;
 use std::alloc::AllocError;
@@ -55,27 +55,31 @@ fn input_of<'w>(places: &'w [Place], party: &Party, kind: &'w EventKind) -> Opti
 }
 
 /// What an event comes to at a place, whose storing was not refused. An error is want of memory.
-fn plan_taken(places: &[Place], place: &Place, kind: &EventKind) -> Result<Planned, AllocError>
+fn plan_taken(places: &[Place], place: &Place, kind: &EventKind) -> Result<EventPlan, AllocError>
     requires { kind.now ≢ kinds.Refused }
     ensures { IfOk result (λ x. IsPlanned (places_seen places.now) place.now.party (state_of place.now.node) kind.now x) }
 {
     let Some(input) = input_of(places, &place.party, kind) else {
-        return Ok(Planned::Idle(Outcome::Skipped));
+        return Ok(EventPlan::Idle(Outcome::Skipped));
     };
     let planned = place.node.plan(&input)?;
     match planned {
-        NodePlanned::Skipped => Ok(Planned::Idle(Outcome::Skipped)),
-        NodePlanned::Refused(fault) => Ok(Planned::Idle(Outcome::Refused(fault))),
-        NodePlanned::Acts(work) => Ok(Planned::Acts(work)),
+        NodePlan::Skipped => Ok(EventPlan::Idle(Outcome::Skipped)),
+        NodePlan::Refused(fault) => Ok(EventPlan::Idle(Outcome::Refused(fault))),
+        NodePlan::Acts(work) => Ok(EventPlan::Acts(work)),
     }
 }
 
 /// What an event comes to at a place. An error is want of memory.
-pub(crate) fn plan(places: &[Place], place: &Place, kind: &EventKind) -> Result<Planned, AllocError>
+pub(crate) fn plan(
+    places: &[Place],
+    place: &Place,
+    kind: &EventKind,
+) -> Result<EventPlan, AllocError>
     ensures { IfOk result (λ x. IsPlanned (places_seen places.now) place.now.party (state_of place.now.node) kind.now x) }
 {
     match kind {
-        EventKind::Refused => Ok(Planned::Idle(Outcome::Stepped)),
+        EventKind::Refused => Ok(EventPlan::Idle(Outcome::Stepped)),
         _ => plan_taken(places, place, kind),
     }
 }

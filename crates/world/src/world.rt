@@ -14,7 +14,7 @@ use crate::finding::{find, of_party};
 use crate::opening::open_all;
 use crate::past::Past;
 use crate::place::Place;
-use crate::planned::{Outcome, Planned, Sending, Told};
+use crate::planned::{EventPlan, Outcome, Sending, Told};
 use crate::planning::plan;
 use node_core::nodes_of;
 use ocpi_text::{CiKey, Party, ShortText};
@@ -74,8 +74,8 @@ fn step_places(alloc: Global, places: &mut Vec<Place>, event: &Event) -> Result<
         return Ok(Told::idle(alloc, Outcome::Skipped));
     };
     match plan(places.as_slice(), &places[i], &event.kind)? {
-        Planned::Idle(outcome) => Ok(Told::idle(alloc, outcome)),
-        Planned::Acts(work) => {
+        EventPlan::Idle(outcome) => Ok(Told::idle(alloc, outcome)),
+        EventPlan::Acts(work) => {
             let place = &mut places[i];
             let from = place.sent.as_slice().len();
             let changes = place.carry_out(alloc, work)?;

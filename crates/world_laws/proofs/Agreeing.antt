@@ -6,6 +6,7 @@ use Rattle.std.specs.Ordering.{nat_cmp}
 use Rattle.tables.proofs.Options.{known, none_contained, not_both}
 use Rattle.node_laws.specs.Nodes as nodes
 use Rattle.ocpi_text.specs.Text.{key}
+use Rattle.ocpi_types.specs.Commands.{url_of}
 use Rattle.ocpi_types.specs.declared.commands.StartSession.{StartSession}
 use Rattle.ocpi_types.specs.declared.packet.Body.{Body}
 use Rattle.ocpi_types.specs.declared.packet.Body.TheVariants as body
@@ -33,7 +34,6 @@ use Rattle.operator_laws.proofs.results.Posting.{results_are_posted}
 use Rattle.operator_laws.proofs.sessions.Accepted.{accepted_starts_have_sessions}
 use Rattle.operator_laws.proofs.standing.AtAllTimes.{always_consistent}
 use Rattle.operator_rows.specs.State as operator
-use Rattle.operator_steps.specs.Acts as operator_acts
 use Rattle.operator_steps.specs.Events as operator_events
 use Rattle.provider_laws.specs.Laws as provider_laws
 use Rattle.provider_laws.proofs.commands.Sent.{sent_commands_stand}
@@ -53,14 +53,6 @@ use Rattle.world_laws.proofs.Senders.{came_and_was_answered, command_is_no_reply
 use Rattle.world_steps.specs.Traces.{Histories, Traces}
 use Rattle.world_steps.specs.World.{Place, World}
 
--- both roles read the same place out of a command
-same_url : (c : Command) → operator_acts.url_of c ≡ provider.url_of c
-same_url (command.StartSession c) = refl
-same_url (command.StopSession c) = refl
-same_url (command.ReserveNow c) = refl
-same_url (command.CancelReservation c) = refl
-same_url (command.UnlockConnector c) = refl
-
 -- what an operator answers is no reply
 answered_is_no_reply : (r : Reply) (b : Body) → operator_laws.IsReplyTo r b → ¬ nodes.IsReply b
 answered_is_no_reply (reply.CommandResponse r) b (c, is) = command_is_no_reply b c is
@@ -75,7 +67,7 @@ with_last v y (inr earlier) = (earlier.same.cdr_token, earlier.same.authorizatio
 -- the result that an operator sent is that of a command which came from the party, and is posted where that command
 -- says
 abbrev IsPosted : List operator_events.Event → operator.State → List ℕ → CommandResult → Type 0
-IsPosted es s to r = (m : ℕ) × (c : Command) × Asked (operator_laws.Came es) to m c × (r.response_url ≡ operator_acts.url_of c) × (get s.rows.commands.results (to, m) ≡ Some r.result)
+IsPosted es s to r = (m : ℕ) × (c : Command) × Asked (operator_laws.Came es) to m c × (r.response_url ≡ url_of c) × (get s.rows.commands.results (to, m) ≡ Some r.result)
 
 one_value : {X : Type 0} (o : Option X) (x y : X) → o ≡ Some x → o ≡ Some y → x ≡ y
 one_value o x y f g = let both : Some x ≡ Some y = sym f ∙ g in cc
@@ -130,13 +122,13 @@ module _ (setup : List Node) (is_setup : IsSetup setup) (w : World) (hs : Histor
         its_run = run_of_operator setup is_setup w hs traces (key y.from) f.place f.state f.at
 
         -- the operator sent the result of a command that it had from this provider, under the number that its url has
-        posted_by : (x : CommandResultType) (r : CommandResult) → key y.to ≡ p → key y.from ≡ key d.to → r.result ≡ x → r.response_url ≡ provider.url_of d.command →
+        posted_by : (x : CommandResultType) (r : CommandResult) → key y.to ≡ p → key y.from ≡ key d.to → r.result ≡ x → r.response_url ≡ url_of d.command →
             IsPosted f.at.trace.events f.state (key y.to) r → Posted x
         posted_by x r to_us from word url (m, c, (z, z_came, z_from, z_number, z_carries), posted_to, kept) =
             let (to_it, g) = came_to_operator setup is_setup w hs traces (key y.from) f.place f.state f.at z z_came in
             let within = sent_by_provider setup is_setup w hs traces p q t of at z g (z_from ∙ to_us) in
             let (stood, stands, to, same) = sent_commands_stand (provider.opening peering) t at.trace.events (opening_consistent peering at.trace.are_peers) run z c within z_carries in
-            let one = urls_have_one_number peering at.trace.events t run z.request n stood d stands has (ap provider.url_of same ∙ sym (same_url c) ∙ sym posted_to ∙ url) in
+            let one = urls_have_one_number peering at.trace.events t run z.request n stood d stands has (ap url_of same ∙ sym posted_to ∙ url) in
             let equal : stood ≡ d = one_value (get t.rows.outbox.commands n) stood d (ap (get t.rows.outbox.commands) (sym one) ∙ stands) has in
             record {
               party = key y.from;

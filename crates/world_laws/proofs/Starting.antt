@@ -4,6 +4,7 @@ use Rattle.std.proofs.Common.{◌≡◌, ℕ, List, inl, inr, sym, ap, subst, �
 use Rattle.std.specs.Prelude.{Some, Contains}
 use Rattle.std.specs.FinMap.{get}
 use Rattle.ocpi_text.specs.Text.{key}
+use Rattle.ocpi_types.specs.Commands.{reference_of}
 use Rattle.ocpi_types.specs.declared.authorizations.Authorization.TheVariants as authorization
 use Rattle.ocpi_types.specs.declared.packet.Packet.{Packet}
 use Rattle.ocpi_types.specs.declared.setup.Node.{Node}
@@ -15,7 +16,6 @@ use Rattle.operator_laws.specs.Sessions as sessions
 use Rattle.operator_laws.specs.Sessions.{AreSpentOnce, GivesReference, InSession}
 use Rattle.operator_laws.proofs.sessions.Once.{references_are_spent_once}
 use Rattle.provider_rows.specs.State as provider
-use Rattle.provider_rows.specs.State.{reference_of}
 use Rattle.provider_rows.proofs.KeepingTimes.{opening_consistent}
 use Rattle.provider_laws.specs.Laws as provider_laws
 use Rattle.provider_laws.specs.References.{Carrier, Carries, InCommand, InReply}

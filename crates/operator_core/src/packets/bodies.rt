@@ -1,10 +1,10 @@
 //! What a packet and a command carry, as far as an operator asks.
 
 ghost use Rattle.std.specs.Prelude.{◌≡◌, ◌↔◌, IfOk, IsTrue};
-ghost use Rattle.operator_steps.specs.Acts.{reference_of, told, url_of};
+ghost use Rattle.ocpi_types.specs.Commands.{url_of};
+ghost use Rattle.operator_steps.specs.Acts.{told};
 ghost use Rattle.operator_steps.specs.Steps.{IsTaken};
 
-use ocpi_text::{CiText, FreeText};
 use ocpi_types::{Body, Command, CommandResult, CommandResultType};
 use std::alloc::AllocError;
 
@@ -18,37 +18,11 @@ pub fn is_taken(body: &Body) -> bool
     )
 }
 
-/// To where the result of a command is posted.
-fn url_of(command: &Command) -> &FreeText<255>
-    ensures { result.now ≡ url_of command.now }
-{
-    match command {
-        Command::StartSession(command) => &command.response_url,
-        Command::StopSession(command) => &command.response_url,
-        Command::ReserveNow(command) => &command.response_url,
-        Command::CancelReservation(command) => &command.response_url,
-        Command::UnlockConnector(command) => &command.response_url,
-    }
-}
-
-/// The authorization reference of a start. None, where it has none, or the command is another.
-pub fn reference_of(command: &Command) -> Option<CiText<36>>
-    ensures { result ≡ reference_of command.now }
-{
-    match command {
-        Command::StartSession(command) => command.authorization_reference,
-        Command::StopSession(_)
-        | Command::ReserveNow(_)
-        | Command::CancelReservation(_)
-        | Command::UnlockConnector(_) => None,
-    }
-}
-
 /// How a command ended, as its provider is told. An error is want of memory.
 pub fn told(command: &Command, outcome: CommandResultType) -> Result<CommandResult, AllocError>
     ensures { IfOk result (λ r. r ≡ told (url_of command.now) outcome) }
 {
-    let response_url = url_of(command).copy()?;
+    let response_url = command.response_url().copy()?;
     Ok(CommandResult {
         response_url,
         result: outcome,

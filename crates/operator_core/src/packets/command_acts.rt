@@ -6,7 +6,7 @@ ghost use Rattle.node_steps.specs.Drafts.{HasNumbersOf, with_acts};
 ghost use Rattle.operator_steps.specs.Acts.{freed, marked, reserved, spent, used};
 ghost use Rattle.operator_core.specs.Requests.{decided_by, opened_by, own_by, settled_by};
 
-use crate::packets::bodies::{reference_of, told};
+use crate::packets::bodies::told;
 use crate::packets::command_responses::respond;
 use node_steps::Draft;
 use ocpi_text::{CiKey, CiText, Moment, PartyKey};
@@ -139,7 +139,7 @@ fn add_started(
 {
     add_used(draft, request.provider, reservation_id)?;
     add_opened(alloc, draft, request, command, Some(place))?;
-    add_spent(draft, request.provider, reference_of(command))
+    add_spent(draft, request.provider, command.authorization_reference())
 }
 
 /// Adds what a decision on a command does, beside its reply and its result.

@@ -7,6 +7,7 @@ ghost use Rattle.operator_steps.specs.Steps.{TokenLine, acknowledgement};
 ghost use Rattle.operator_core.specs.Planned.{PlansActs, StopsLine};
 ghost use Rattle.operator_core.specs.Requests.{put_acts, status_of};
 
+use crate::changes::CHANGES_OF_A_TOKEN;
 use crate::operator::Operator;
 use node_steps::{Draft, Needs, NodeFault, Plan};
 use ocpi_text::Moment;
@@ -14,9 +15,6 @@ use ocpi_types::{Ack, Boxed, Change, Reply, Row, StatusCode, Token};
 use operator_tables::Request;
 use std::alloc::{AllocError, Global};
 use token_desk::{TokenFault, TokenPut};
-
-/// The most rows that a token changes, beside the counters: its reply, and the token.
-const MOST_CHANGES: usize = 2;
 
 /// A token is taken.
 fn taken(at: Moment) -> Reply
@@ -81,7 +79,7 @@ impl Operator {
         let mut draft = self.draft(Needs {
             packets: 1,
             requests: 0,
-            changes: MOST_CHANGES,
+            changes: CHANGES_OF_A_TOKEN,
         })?;
         add_put(self.alloc, &mut draft, request, token, &put)?;
         Ok(draft.into_plan())

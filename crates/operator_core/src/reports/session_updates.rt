@@ -11,6 +11,7 @@ ghost use Rattle.operator_steps.specs.Moves.{AreInRange, step_of_acts};
 ghost use Rattle.operator_core.specs.Bills.{IsRecorded, StopsEarly, completed_acts};
 ghost use Rattle.operator_core.specs.Planned.{PlansActs, StopsActs, version_acts};
 
+use crate::changes::{CHANGES_OF_A_BILL, CHANGES_OF_A_VERSION};
 use crate::operator::Operator;
 use crate::reports::bills::{Bill, add_bill};
 use crate::sessions::{Versioned, add_version};
@@ -18,13 +19,6 @@ use node_steps::{Needs, NodeFault, Plan};
 use ocpi_text::Moment;
 use ocpi_types::Session;
 use session_state::CdrDraft;
-
-/// The most rows that a version of a session changes, beside the counters: the push of an older version, its own push,
-/// and itself.
-const CHANGES_OF_A_VERSION: usize = 3;
-
-/// The rows that a charge detail record changes: its counter, its push, and itself.
-const CHANGES_OF_A_BILL: usize = 3;
 
 impl Operator {
     /// The step of a version that is not completed.

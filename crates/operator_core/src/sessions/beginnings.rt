@@ -8,6 +8,7 @@ ghost use Rattle.operator_steps.specs.declared.ending.Ending.{Ending as EndingOf
 ghost use Rattle.operator_steps.specs.Ends.{IsOpen};
 ghost use Rattle.operator_core.specs.Planned.{BeginsWith, PlansActs, StopsLine, begins_acts};
 
+use crate::changes::{CHANGES_BEFORE_A_BEGINNING, CHANGES_OF_A_BEGINNING};
 use crate::operator::Operator;
 use crate::packets::command_acts::add_spent;
 use crate::sessions::{Begun, add_begun, add_number};
@@ -17,11 +18,6 @@ use ocpi_types::Counter;
 use operator_steps::Ending;
 use session_tables::Beginning;
 use std::alloc::AllocError;
-
-/// The most rows that the beginning of a session changes, beside the counters of packets and requests: an open
-/// command, its push and its result, a reference; the counter of sessions, a reservation, the push of an older
-/// version, the push of the first one, and this version.
-const MOST_CHANGES: usize = 9;
 
 impl Operator {
     /// Adds that the session of a number begins, after these commands end and a reference of its provider is spent.
@@ -62,7 +58,7 @@ impl Operator {
         let mut draft = self.draft(Needs {
             packets: ends.len() + 1,
             requests: ends.len() + 1,
-            changes: MOST_CHANGES,
+            changes: CHANGES_BEFORE_A_BEGINNING + CHANGES_OF_A_BEGINNING,
         })?;
         let begun = self.begun(at, number, beginning)?;
         // The proof wants the types of the members named.

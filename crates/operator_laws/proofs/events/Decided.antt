@@ -5,6 +5,7 @@ use Rattle.std.specs.FinMap.{get}
 use Rattle.tables.proofs.Elements.{in_front, in_none}
 use Rattle.tables.proofs.Options.{none_some}
 use Rattle.ocpi_text.specs.Text.{key}
+use Rattle.ocpi_types.specs.Commands.{reference_of, url_of}
 use Rattle.ocpi_types.specs.declared.packet.Body.{Body}
 use Rattle.ocpi_types.specs.declared.packet.Body.TheVariants as body
 use Rattle.ocpi_types.specs.declared.rows.Place.{Place}
@@ -26,7 +27,7 @@ use Rattle.operator_tables.specs.declared.decision.Decision.{Decision}
 use Rattle.operator_tables.specs.declared.decision.Decision.TheVariants as decision
 use Rattle.operator_tables.specs.Outcomes.{Opens, Starts, Tells}
 use Rattle.operator_tables.proofs.Lines.{all_tell}
-use Rattle.operator_steps.specs.Acts.{deadline, decided_acts, opened, reference_of, reply_of, settled, spent, url_of, used}
+use Rattle.operator_steps.specs.Acts.{deadline, decided_acts, opened, reply_of, settled, spent, used}
 use Rattle.operator_steps.specs.Events.{Input}
 use Rattle.operator_steps.proofs.DecidedSteps.{decided_orderly, unended}
 use Rattle.operator_steps.proofs.Orderly.{AreOrderly}

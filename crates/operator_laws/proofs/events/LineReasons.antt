@@ -6,6 +6,7 @@ use Rattle.std.proofs.lemmas.Bool.{eqb-true}
 use Rattle.tables.proofs.Elements.{in_single}
 use Rattle.tables.proofs.Options.{none_some}
 use Rattle.ocpi_text.specs.Text.{key}
+use Rattle.ocpi_types.specs.Commands.{reference_of, url_of}
 use Rattle.ocpi_types.specs.declared.authorizations.Authorization.{Authorization}
 use Rattle.ocpi_types.specs.declared.cdrs.Cdr.{Cdr}
 use Rattle.ocpi_types.specs.declared.commands.StartSession.{StartSession}
@@ -51,7 +52,7 @@ use Rattle.session_tables.specs.Moves.{Makes}
 use Rattle.session_tables.specs.Swipes as swipes
 use Rattle.session_tables.specs.Swipes.{SwipeLine, told_by}
 use Rattle.operator_steps.specs.declared.ending.Ending.{Ending}
-use Rattle.operator_steps.specs.Acts.{decided_acts, reference_of, reply_of, settled, spent, url_of, used, opened}
+use Rattle.operator_steps.specs.Acts.{decided_acts, reply_of, settled, spent, used, opened}
 use Rattle.operator_steps.specs.Asking.{AnswerActs}
 use Rattle.operator_steps.specs.Charger as charger
 use Rattle.operator_steps.specs.Charger.{ChargerLine, IsStarted, Shows, outcome}

@@ -5,6 +5,7 @@ use Rattle.std.specs.FinMap.{get}
 use Rattle.std.proofs.lemmas.List.Elements.{Contains-append_left, Contains-append_right}
 use Rattle.tables.proofs.Elements.{in_front}
 use Rattle.ocpi_text.specs.Text.{key}
+use Rattle.ocpi_types.specs.Commands.{url_of}
 use Rattle.ocpi_types.specs.declared.cdrs.Cdr.{Cdr}
 use Rattle.ocpi_types.specs.declared.commands.StartSession.{StartSession}
 use Rattle.ocpi_types.specs.declared.rows.Row.TheVariants as row
@@ -27,7 +28,7 @@ use Rattle.operator_rows.specs.State.{State}
 use Rattle.operator_rows.proofs.RowChanges.{in_later}
 use Rattle.session_tables.specs.declared.beginning.Beginning.{Beginning}
 use Rattle.operator_steps.specs.declared.ending.Ending.{Ending}
-use Rattle.operator_steps.specs.Acts.{settled, told, url_of, used}
+use Rattle.operator_steps.specs.Acts.{settled, told, used}
 use Rattle.operator_steps.specs.Ends.{end_acts, ends_acts, url_in}
 use Rattle.operator_steps.specs.Events.{Input}
 use Rattle.operator_steps.specs.Sessions as sessions

@@ -6,6 +6,7 @@ use Rattle.std.specs.FinMap.{get}
 use Rattle.ocpi_text.specs.OwnIds.{own_id_text}
 use Rattle.ocpi_text.specs.Text.{key}
 use Rattle.ocpi_text.specs.declared.own_ids.OwnIdKind.TheVariants as own
+use Rattle.ocpi_types.specs.Commands.{reference_of, url_of}
 use Rattle.ocpi_types.specs.Stored.{body_of_push, body_of_reply}
 use Rattle.ocpi_types.specs.declared.authorizations.Authorization.TheVariants.{Done}
 use Rattle.ocpi_types.specs.declared.authorizations.AuthorizationInfo.{AuthorizationInfo}
@@ -40,7 +41,7 @@ use Rattle.outbox.specs.declared.push_book.Outgoing.{Outgoing}
 use Rattle.node_steps.specs.Acts.{Act, all_changes, all_messages, asked, push_message}
 use Rattle.node_steps.specs.Messages.{Message}
 use Rattle.operator_rows.specs.State.{State, IsSpent}
-use Rattle.operator_steps.specs.Acts.{reference_of, told, url_of}
+use Rattle.operator_steps.specs.Acts.{told}
 use Rattle.operator_steps.specs.Events.{Input, Arrives}
 use Rattle.operator_laws.proofs.events.Causes.{Crediting, DecidesIt}
 

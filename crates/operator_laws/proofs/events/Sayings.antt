@@ -5,6 +5,7 @@ use Rattle.std.specs.FinMap.{get}
 use Rattle.std.proofs.lemmas.List.Elements.{Contains-append_cases, Contains-append_left, Contains-append_right}
 use Rattle.tables.proofs.Elements.{in_none, in_single}
 use Rattle.ocpi_text.specs.Text.{key}
+use Rattle.ocpi_types.specs.Commands.{reference_of, url_of}
 use Rattle.ocpi_types.specs.Stored.{body_of_push, body_of_reply}
 use Rattle.ocpi_types.specs.declared.authorizations.Authorize.{Authorize}
 use Rattle.ocpi_types.specs.declared.events.ChargerEvent.{ChargerEvent}
@@ -35,7 +36,7 @@ use Rattle.session_tables.specs.declared.beginning.Beginning.{Beginning}
 use Rattle.operator_tables.specs.declared.decision.Decision.{Decision}
 use Rattle.operator_tables.specs.declared.decision.Decision.TheVariants as decision
 use Rattle.operator_steps.specs.declared.ending.Ending.{Ending}
-use Rattle.operator_steps.specs.Acts.{own_acts, reference_of, reply_of, settled, settled_if, spent, told, url_of, used}
+use Rattle.operator_steps.specs.Acts.{own_acts, reply_of, settled, settled_if, spent, told, used}
 use Rattle.operator_steps.specs.Asking.{AnswerActs, IsAsked}
 use Rattle.operator_steps.specs.Asking as asking
 use Rattle.operator_steps.specs.Charger as charger

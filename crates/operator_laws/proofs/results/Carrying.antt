@@ -5,6 +5,7 @@ use Rattle.std.specs.FinMap.{get, get-empty}
 use Rattle.tables.specs.Keys.{text_number_cmp}
 use Rattle.tables.proofs.Options.{not_both}
 use Rattle.ocpi_text.specs.Text.{key}
+use Rattle.ocpi_types.specs.Commands.{reference_of}
 use Rattle.ocpi_types.specs.declared.packet.Packet.{Packet}
 use Rattle.ocpi_types.specs.declared.rows.Row.TheVariants as row
 use Rattle.ocpi_types.specs.declared.rows.Change.{Change}
@@ -20,7 +21,7 @@ use Rattle.operator_rows.specs.Sound.{IsConsistent}
 use Rattle.operator_tables.specs.declared.decision.Decision.{Decision}
 use Rattle.operator_tables.specs.declared.decision.Decision.TheVariants as decision
 use Rattle.operator_tables.specs.Outcomes.{Tells}
-use Rattle.operator_steps.specs.Acts.{deadline, decided_acts, opened, reference_of, reply_of, responded, spent, used}
+use Rattle.operator_steps.specs.Acts.{deadline, decided_acts, opened, reply_of, responded, spent, used}
 use Rattle.operator_steps.specs.Events.{Event}
 use Rattle.operator_laws.specs.Laws.{IsReplyTo}
 use Rattle.operator_laws.specs.Replied.{AcceptedIsOpenOrSettled, IsOpenNow, IsSettled}

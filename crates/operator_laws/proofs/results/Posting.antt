@@ -8,6 +8,7 @@ use Rattle.tables.specs.Keys.{text_number_cmp}
 use Rattle.tables.proofs.Elements.{in_none, in_front}
 use Rattle.tables.proofs.Options.{not_both}
 use Rattle.ocpi_text.specs.Text.{key}
+use Rattle.ocpi_types.specs.Commands.{url_of}
 use Rattle.ocpi_types.specs.Stored.{body_of_push}
 use Rattle.ocpi_types.specs.declared.packet.Body.TheVariants as body
 use Rattle.ocpi_types.specs.declared.packet.Packet.{Packet}
@@ -24,7 +25,7 @@ use Rattle.operator_rows.specs.State.{State, opening}
 use Rattle.operator_rows.specs.Sound.{IsConsistent}
 use Rattle.operator_rows.proofs.KeepingTimes.{opening_consistent}
 use Rattle.operator_rows.proofs.RowChanges.{in_later}
-use Rattle.operator_steps.specs.Acts.{told, url_of}
+use Rattle.operator_steps.specs.Acts.{told}
 use Rattle.operator_steps.specs.Events.{Arrives, Event, Happens}
 use Rattle.operator_laws.specs.Laws.{Came, Run, SentResultsAreKept, sent}
 use Rattle.operator_laws.specs.Replied.{Asked, ResultsArePosted}

@@ -9,6 +9,7 @@ use Rattle.tables.proofs.Options.{none_some, not_both}
 use Rattle.ocpi_text.specs.OwnIds.{own_id_text}
 use Rattle.ocpi_text.specs.Text.{key}
 use Rattle.ocpi_text.specs.declared.own_ids.OwnIdKind.TheVariants as own
+use Rattle.ocpi_types.specs.Commands.{reference_of}
 use Rattle.ocpi_types.specs.declared.authorizations.Authorization.TheVariants.{Done}
 use Rattle.ocpi_types.specs.declared.authorizations.AuthorizationInfo.{AuthorizationInfo}
 use Rattle.ocpi_types.specs.declared.commands.StartSession.{StartSession}
@@ -28,7 +29,6 @@ use Rattle.operator_rows.specs.Stored.{change_key}
 use Rattle.operator_rows.specs.Sound.{IsConsistent}
 use Rattle.operator_rows.proofs.KeepingTimes.{opening_consistent}
 use Rattle.operator_rows.proofs.RowChanges.{in_later}
-use Rattle.operator_steps.specs.Acts.{reference_of}
 use Rattle.operator_steps.specs.Events.{Arrives, Event, Happens}
 use Rattle.operator_laws.specs.Laws.{Came, Run}
 use Rattle.operator_laws.specs.References.{Uses}

@@ -6,6 +6,7 @@ use Rattle.std.specs.FinMap.{get, insert, nat_cmp-IsAntisymmetric}
 use Rattle.tables.proofs.Maps.{get-insert_same, get-insert_other, of_insert, told}
 use Rattle.tables.proofs.Options.{none_some, not_both}
 use Rattle.ocpi_text.specs.Text.{key}
+use Rattle.ocpi_types.specs.Commands.{url_of}
 use Rattle.ocpi_types.specs.declared.packet.Packet.{Packet}
 use Rattle.ocpi_types.specs.declared.packet.Body.TheVariants as body
 use Rattle.ocpi_types.specs.declared.replies.CommandResponse.{CommandResponse}
@@ -14,7 +15,7 @@ use Rattle.ocpi_types.specs.declared.stored.SentCommand.{SentCommand}
 use Rattle.ocpi_types.specs.declared.words.CommandResultType.{CommandResultType}
 use Rattle.node_laws.proofs.Runs.{kept_runs, made_runs}
 use Rattle.node_steps.specs.Acts.{unanswered}
-use Rattle.provider_rows.specs.State.{State, url_of}
+use Rattle.provider_rows.specs.State.{State}
 use Rattle.provider_rows.specs.Sound.{IsConsistent}
 use Rattle.provider_steps.specs.Acts.{with_answer, with_result}
 use Rattle.provider_steps.specs.Events.{Event, Happens}

@@ -9,12 +9,13 @@ use Rattle.std.proofs.lemmas.List.{drop_at}
 use Rattle.tables.proofs.Maps.{of_insert}
 use Rattle.tables.proofs.Options.{not_both}
 use Rattle.ocpi_text.specs.Whole.{max_whole}
+use Rattle.ocpi_types.specs.Commands.{url_of}
 use Rattle.ocpi_types.specs.declared.events.Order.{Order}
 use Rattle.ocpi_types.specs.declared.commands.Command.{Command}
 use Rattle.ocpi_types.specs.declared.stored.SentCommand.{SentCommand}
 use Rattle.node_laws.proofs.Runs.{kept_runs}
 use Rattle.node_steps.specs.Acts.{Act, unanswered}
-use Rattle.provider_rows.specs.State.{Peering, State, opening, url_of}
+use Rattle.provider_rows.specs.State.{Peering, State, opening}
 use Rattle.provider_steps.specs.Acts.{own_url, with_answer, with_result}
 use Rattle.provider_steps.specs.Events.{Event, Happens}
 use Rattle.provider_steps.specs.Orders as orders

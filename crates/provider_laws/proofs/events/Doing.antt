@@ -4,11 +4,12 @@ use Rattle.std.specs.Prelude.{Option, Some, None, Contains}
 use Rattle.std.specs.Cmp.{nat_cmp_total}
 use Rattle.std.specs.FinMap.{get, insert, remove, nat_cmp-IsAntisymmetric}
 use Rattle.tables.specs.Keys.{text_number_total, text_number_exact}
-use Rattle.std.proofs.lemmas.List.Elements.{Contains-append_right}
 use Rattle.tables.proofs.Maps.{of_insert, of_remove}
 use Rattle.tables.proofs.Options.{not_both}
+use Rattle.tables.proofs.Elements.{in_later}
 use Rattle.ocpi_text.specs.Text.{key}
 use Rattle.ocpi_text.specs.Whole.{max_whole}
+use Rattle.ocpi_types.specs.Commands.{reference_of as reference_in}
 use Rattle.ocpi_types.specs.declared.events.Order.{Order}
 use Rattle.ocpi_types.specs.declared.packet.Packet.{Packet}
 use Rattle.ocpi_types.specs.declared.rows.Change.{Change}
@@ -31,12 +32,11 @@ use Rattle.node_steps.specs.Acts.{Act, all_changes, all_requests, answered, comm
 use Rattle.node_steps.specs.Drafts.{Counters, count_change, count_changes, counted}
 use Rattle.node_steps.proofs.Gathering.{changes_append}
 use Rattle.provider_rows.specs.State.{Rows, State}
-use Rattle.provider_rows.specs.State as state
 use Rattle.provider_steps.specs.declared.pushing.Pushing.{Pushing}
 use Rattle.provider_steps.specs.Acts.{billed, held, kept, referenced, replaced, stored, token_acts, with_answer, with_result}
 use Rattle.provider_steps.specs.Events.{Arrives, Asks, Done, Event, Gives, Happens, Input, Refused, Restarted, Restarts, Submits, Ticks}
 use Rattle.provider_steps.specs.Moves.{Out, counters_of, step_of_acts}
-use Rattle.provider_steps.specs.Orders.{Makes, OrderLine, next_reference, next_request}
+use Rattle.provider_steps.specs.Orders.{Makes, next_reference, next_request}
 use Rattle.provider_steps.specs.Orders as orders
 use Rattle.provider_steps.specs.Packets.{Answers, PacketLine}
 use Rattle.provider_steps.specs.Packets as lines
@@ -45,9 +45,6 @@ use Rattle.provider_laws.specs.Held.{cdr_put, cdrs_put}
 use Rattle.provider_laws.specs.References.{Carrier, InCommand, InReply, Carries, given_in}
 use Rattle.provider_laws.proofs.events.Parts.{Does, Kept, SameReplies, SameCommands, Made, Responded, Resulted, SameSessions, SessionTaken, SameCdrs, CdrTaken, SameReferences, Given, CdrsMove}
 use Rattle.provider_laws.proofs.events.Through.{ArePlain, acted_through, one_act, plain_append, through, through_append}
-
-in_later : {X : Type 0} (x : X) (xs : List X) (y : X) → Contains xs y → Contains (x ∷ xs) y
-in_later x xs y h = Contains-append_right (x ∷ []) xs y h
 
 -- rows of which all parts but tokens, pushes and counters are those of others
 pub record Untouched (r t : Rows) : Type 0 where
@@ -131,7 +128,7 @@ module _ (s : State) (at : ℕ) (q : Packet) (to : List ℕ) (new : get s.rows.r
       r.outbox.commands ≡ insert s.rows.outbox.commands m d → Carries r (InCommand n) x → Carries s.rows (InCommand n) x
   same_carried m c d stands same n x r is (e, has, named) =
       elim (of_insert nat_cmp_total nat_cmp-IsAntisymmetric s.rows.outbox.commands m d n e (sym (ap (λ z. get z n) is) ∙ has)) [
-        | inl (at_m, equal) ↦ (c, ap (get s.rows.outbox.commands) at_m ∙ stands, ap state.reference_of (sym same) ∙ ap (λ (z : SentCommand). state.reference_of z.command) equal ∙ named)
+        | inl (at_m, equal) ↦ (c, ap (get s.rows.outbox.commands) at_m ∙ stands, ap reference_in (sym same) ∙ ap (λ (z : SentCommand). reference_in z.command) equal ∙ named)
         | inr old ↦ (e, old, named)
       ]
 
@@ -326,7 +323,7 @@ module _ (s : State) (at : ℕ) (operator to : List ℕ) where
   DoesOrder o acts = Does s (Submits at operator o) (all_changes acts) (through acts s.rows)
 
   -- the command that is made carries no reference
-  old_carried : {o : Order} {c : Command} {b : List Act} → Makes s o c b → next_request s ≤ max_whole → state.reference_of c ≡ None → DoesOrder o (sends_it c ∷ [])
+  old_carried : {o : Order} {c : Command} {b : List Act} → Makes s o c b → next_request s ≤ max_whole → reference_in c ≡ None → DoesOrder o (sends_it c ∷ [])
   old_carried {o = o} {c = c} {b = b} makes most none = record {
     replies = SameReplies refl;
     commands = Made at operator o refl to c b makes refl (omega arith) most;
@@ -340,12 +337,12 @@ module _ (s : State) (at : ℕ) (operator to : List ℕ) where
       by : (a : Carrier) (x : List ℕ) → Carries (through (sends_it c ∷ []) s.rows) a x → Carries s.rows a x
       by (InReply p n) x h = h
       by (InCommand n) x (d, has, named) = elim (of_insert nat_cmp_total nat_cmp-IsAntisymmetric s.rows.outbox.commands (next_request s) (unanswered to c) n d has) [
-        | inl (same, equal) ↦ not_both x (state.reference_of c) none (ap (λ (z : SentCommand). state.reference_of z.command) equal ∙ named)
+        | inl (same, equal) ↦ not_both x (reference_in c) none (ap (λ (z : SentCommand). reference_in z.command) equal ∙ named)
         | inr old ↦ (d, old, named)
       ]
 
   -- it carries the next
-  new_carried : {o : Order} {c : Command} {b : List Act} → Makes s o c b → next_request s ≤ max_whole → state.reference_of c ≡ Some (reference_of s.party (next_reference s)).text → next_reference s ≤ max_whole →
+  new_carried : {o : Order} {c : Command} {b : List Act} → Makes s o c b → next_request s ≤ max_whole → reference_in c ≡ Some (reference_of s.party (next_reference s)).text → next_reference s ≤ max_whole →
       DoesOrder o (referenced (next_reference s) ∷ sends_it c ∷ [])
   new_carried {o = o} {c = c} {b = b} makes most is small = record {
     replies = SameReplies refl;
@@ -361,7 +358,7 @@ module _ (s : State) (at : ℕ) (operator to : List ℕ) where
           Carries s.rows a x ⊎ ((a ≡ InCommand (next_request s)) × (x ≡ (reference_of s.party (next_reference s)).text))
       by (InReply p n) x h = inl h
       by (InCommand n) x (d, has, named) = elim (of_insert nat_cmp_total nat_cmp-IsAntisymmetric s.rows.outbox.commands (next_request s) (unanswered to c) n d has) [
-        | inl (same, equal) ↦ inr (ap InCommand same, (let both : Some x ≡ Some (reference_of s.party (next_reference s)).text = sym named ∙ sym (ap (λ (z : SentCommand). state.reference_of z.command) equal) ∙ is in cc))
+        | inl (same, equal) ↦ inr (ap InCommand same, (let both : Some x ≡ Some (reference_of s.party (next_reference s)).text = sym named ∙ sym (ap (λ (z : SentCommand). reference_in z.command) equal) ∙ is in cc))
         | inr old ↦ inl (d, old, named)
       ]
 
@@ -432,7 +429,7 @@ line_does s at q to acts (lines.Responded r carries c awaited is) range =
     by : (a : Carrier) (x : List ℕ) → Carries (through (kept q.request (with_answer r c) ∷ []) s.rows) a x → Carries s.rows a x
     by (InReply p n) x h = h
     by (InCommand n) x (d, has, named) = elim (of_insert nat_cmp_total nat_cmp-IsAntisymmetric s.rows.outbox.commands q.request (with_answer r c) n d has) [
-      | inl (same, equal) ↦ (c, ap (get s.rows.outbox.commands) same ∙ awaited.stands, ap (λ (z : SentCommand). state.reference_of z.command) equal ∙ named)
+      | inl (same, equal) ↦ (c, ap (get s.rows.outbox.commands) same ∙ awaited.stands, ap (λ (z : SentCommand). reference_in z.command) equal ∙ named)
       | inr old ↦ (d, old, named)
     ]
 line_does s at q to acts (lines.LateResponse r carries none is) range = subst (DoesAll s (Arrives at q)) (sym is) (untouched_does s (Arrives at q) [] s.rows refl (same_rows s.rows))

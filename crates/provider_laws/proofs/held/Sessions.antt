@@ -1,11 +1,11 @@
 -- Sessions that are held: each came from its operator, and only a later version replaces one that is not final.
 use Rattle.std.proofs.Common.{◌≡◌, ◌⊎◌, ◌≤◌, ◌<◌, ℕ, List, [], ◌∷◌, inl, inr, refl, sym, ap, subst, ◌∙◌, arith}
-use Rattle.std.specs.Prelude.{Option, Some, None, Contains}
+use Rattle.std.specs.Prelude.{Option, Some, None}
 use Rattle.std.specs.FinMap.{get, insert}
-use Rattle.std.proofs.lemmas.List.Elements.{Contains-append_right}
 use Rattle.tables.specs.Keys.{text_pair_total, text_pair_exact}
 use Rattle.tables.proofs.Elements.{in_front}
 use Rattle.tables.proofs.Maps.{get-insert_same, get-insert_other, of_insert, told}
+pub use Rattle.tables.proofs.Elements.{in_later}
 use Rattle.ocpi_types.specs.declared.packet.Packet.{Packet}
 use Rattle.ocpi_types.specs.declared.packet.Body.{Body}
 use Rattle.ocpi_types.specs.declared.packet.Body.TheVariants as body
@@ -21,7 +21,7 @@ use Rattle.node_steps.specs.Acts.{Act, answered}
 use Rattle.provider_rows.specs.State.{Rows, State}
 use Rattle.provider_steps.specs.Acts.{acknowledgement, held}
 use Rattle.provider_steps.specs.Events.{Event, Happens}
-use Rattle.provider_steps.specs.Packets.{Answers, IsRight}
+use Rattle.provider_steps.specs.Packets.{Answers}
 use Rattle.provider_steps.specs.Packets as lines
 use Rattle.provider_laws.specs.Laws.{AnswersIt, Brings}
 use Rattle.provider_laws.specs.Held.{AcknowledgedSessionsAreHeld, HeldSessionsCame, HeldSessionsRise, HoldsAtLeast, IsAfter, IsTaken}
@@ -63,9 +63,6 @@ module _ (s t : State) (e : Event) (happens : Happens s e t) where
         )
         | inr apart ↦ (x, ap (λ m. get m k) is ∙ get-insert_other text_pair_total text_pair_exact s.rows.inbox.sessions (session_key y) y k apart ∙ has, inl refl)
       ]
-
-pub in_later : {X : Type 0} (x : X) (xs : List X) (y : X) → Contains xs y → Contains (x ∷ xs) y
-in_later x xs y h = Contains-append_right (x ∷ []) xs y h
 
 pub held_sessions_came : HeldSessionsCame
 held_sessions_came s t [] run k x has = inl (subst (λ (z : State). get z.rows.inbox.sessions k ≡ Some x) run has)

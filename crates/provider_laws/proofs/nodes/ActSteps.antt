@@ -8,6 +8,7 @@ use Rattle.tables.proofs.Elements.{in_front}
 use Rattle.tables.proofs.Maps.{get-insert_same, get-insert_other, get-remove_same, get-remove_other, told}
 use Rattle.tables.proofs.Options.{none_some}
 use Rattle.ocpi_text.specs.Text.{key}
+use Rattle.ocpi_types.specs.Commands.{url_of}
 use Rattle.ocpi_types.specs.Stored.{body_of_reply, body_of_push}
 use Rattle.ocpi_types.specs.declared.packet.Packet.{Packet}
 use Rattle.ocpi_types.specs.declared.packet.Body.TheVariants as body
@@ -27,7 +28,7 @@ use Rattle.node_steps.specs.Acts.{Act, acknowledged, all_messages, answered, com
 use Rattle.node_steps.specs.Acts as act
 use Rattle.node_steps.specs.Messages.{Message, numbered}
 use Rattle.node_steps.proofs.Gathering.{messages_append, numbered_append}
-use Rattle.node_laws.specs.Nodes.{Node, Exchange, Request, Answers, Acknowledged, AreAboutSame, IsSettled, NodeStep, IsReply, Replaced, Responded, Resulted, both, posted_to, request_of}
+use Rattle.node_laws.specs.Nodes.{Node, Exchange, Request, Answers, Acknowledged, AreAboutSame, IsSettled, NodeStep, IsReply, Replaced, Responded, Resulted, both, request_of}
 use Rattle.node_laws.proofs.Acts.{StaysAmong, again_step, answer_step, quiet_step, request_new_step, resend_step, settle_step, wider_step}
 use Rattle.node_laws.proofs.BodyKinds.{no_command, no_push}
 use Rattle.node_laws.proofs.Joining.{idle_step, join}
@@ -243,6 +244,6 @@ module _ (s : State) (came : List Packet) where
         settled_command q.request c (with_answer w c) none stands refl (Responded c.command refl q arrived w is (sym by) refl)
 
     pub resulted_step : (q : Packet) (w : CommandResult) (n : ℕ) (c : SentCommand) → Contains came q → q.body ≡ body.CommandResult w → get r.outbox.pushes n ≡ None →
-        get r.outbox.commands n ≡ Some c → key c.to ≡ key q.from → w.response_url ≡ posted_to c.command → AreStep r (kept n (with_result w.result c) ∷ [])
+        get r.outbox.commands n ≡ Some c → key c.to ≡ key q.from → w.response_url ≡ url_of c.command → AreStep r (kept n (with_result w.result c) ∷ [])
     resulted_step q w n c arrived is none stands by posted =
         settled_command n c (with_result w.result c) none stands (closed_by_result c.answer w.result (command_request c)) (Resulted c.command refl q arrived w is (sym by) posted)

@@ -6,6 +6,7 @@ use Rattle.std.proofs.lemmas.List.Elements.{Contains-append_right}
 use Rattle.tables.proofs.Elements.{in_front, in_map}
 use Rattle.tables.proofs.Options.{none_contained, none_else, none_some, not_both}
 use Rattle.ocpi_text.specs.Text.{key}
+use Rattle.ocpi_types.specs.Commands.{url_of}
 use Rattle.ocpi_types.specs.Stored.{body_of_push}
 use Rattle.ocpi_types.specs.declared.events.Order.{Order}
 use Rattle.ocpi_types.specs.declared.packet.Packet.{Packet}
@@ -27,8 +28,8 @@ use Rattle.outbox.specs.declared.push_book.Outgoing.{Outgoing}
 use Rattle.outbox.specs.declared.push_book.Subject.{Subject}
 use Rattle.node_steps.specs.Acts.{Act, all_requests, answered, commanded, in_turn, pushed}
 use Rattle.node_steps.specs.Peers.{IsPeer}
-use Rattle.node_laws.specs.Nodes.{AreAboutSame, Tokens, posted_to}
-use Rattle.provider_rows.specs.State.{Rows, State, url_of}
+use Rattle.node_laws.specs.Nodes.{AreAboutSame, Tokens}
+use Rattle.provider_rows.specs.State.{Rows, State}
 use Rattle.provider_rows.specs.Sound.{IsConsistent}
 use Rattle.provider_steps.specs.declared.pushing.Pushing.{Pushing}
 use Rattle.provider_steps.specs.Acts.{referenced, replaced, stored, token_acts}
@@ -64,13 +65,6 @@ unpushed r well n c stands = none_else (get r.pushes n) (λ o has. not_both c (g
 
 next_free : (r : OutboxRows) → AreWell r → get r.pushes (r.last + 1) ≡ None
 next_free r well = none_else (get r.pushes (r.last + 1)) (λ o has. let below = well.pushes (r.last + 1) o has in omega (arith, below))
-
-posted_is : (c : Command) → url_of c ≡ posted_to c
-posted_is (command.StartSession c) = refl
-posted_is (command.StopSession c) = refl
-posted_is (command.ReserveNow c) = refl
-posted_is (command.CancelReservation c) = refl
-posted_is (command.UnlockConnector c) = refl
 
 one_command : (c d : SentCommand) → Some c ≡ Some d → c ≡ d
 one_command c d e = cc
@@ -122,7 +116,7 @@ module _ (s : State) (came : List Packet) (well : AreWell s.rows.outbox) where
     own_steps w own (lines.ResultTaken r carries n c fits none w_is own_is) =
         let it : fits.fits.command ≡ c = one_command fits.fits.command c (sym fits.fits.stands ∙ fits.command) in
         subst (AreStep s came (replied w)) (sym own_is) (resulted_step s came (replied w) q r n c arrived carries (unpushed s.rows.outbox well n c fits.command) fits.command
-        (sym (ap (λ (z : SentCommand). key z.to) it) ∙ fits.fits.sender) (sym fits.fits.posted ∙ ap (λ (z : SentCommand). url_of z.command) it ∙ posted_is c.command))
+        (sym (ap (λ (z : SentCommand). key z.to) it) ∙ fits.fits.sender) (sym fits.fits.posted ∙ ap (λ (z : SentCommand). url_of z.command) it))
     own_steps w own (lines.ResultKnown r carries n c fits x had w_is own_is) = subst (AreStep s came (replied w)) (sym own_is) (no_step s came (replied w))
     own_steps w own (lines.ResultOfNone r carries none w_is own_is) = subst (AreStep s came (replied w)) (sym own_is) (no_step s came (replied w))
     own_steps w own (lines.SessionRefused x carries wrong w_is own_is) = subst (AreStep s came (replied w)) (sym own_is) (no_step s came (replied w))

@@ -1,12 +1,12 @@
 use Rattle.std.proofs.Common.{◌≡◌, ◌++◌, ℕ, List, subst, string_bytes}
 use Rattle.std.specs.Prelude.{OnOk}
 use Rattle.node_runs.specs.DoneLines.{line_of_member_fault}
-use Rattle.node_runs.specs.Names.{line_fault_name, line_fault_number}
+use Rattle.json_text.specs.Fault.{fault_name, fault_number}
 use Rattle.node_runs.proofs.done_lines.write_malformed_member.Goals as goal
 
 pub returns : goal.returns
 returns c =
     let wrote = λ (out : List ℕ). OnOk c.writeln.result (string_bytes c.writeln.new.self ≡ string_bytes c.args.output.now ++ out) in
-    subst (λ (field : List ℕ). wrote (line_of_member_fault field c.args.line c.args.place (line_fault_name c.args.fault) (line_fault_number c.args.fault))) c.name.ensures
-    (subst (λ (name : List ℕ). wrote (line_of_member_fault c.name.result.now c.args.line c.args.place name (line_fault_number c.args.fault))) c.line_fault_name.ensures
-    (subst (λ (n : ℕ). wrote (line_of_member_fault c.name.result.now c.args.line c.args.place c.line_fault_name.result.now n)) c.line_fault_number.ensures c.writeln.ensures.bytes))
+    subst (λ (field : List ℕ). wrote (line_of_member_fault field c.args.line c.args.place (fault_name c.args.fault) (fault_number c.args.fault))) c.name-member.ensures
+    (subst (λ (name : List ℕ). wrote (line_of_member_fault c.name-member.result.now c.args.line c.args.place name (fault_number c.args.fault))) c.name-name.ensures
+    (subst (λ (n : ℕ). wrote (line_of_member_fault c.name-member.result.now c.args.line c.args.place c.name-name.result.now n)) c.number-number.ensures c.writeln.ensures.bytes))

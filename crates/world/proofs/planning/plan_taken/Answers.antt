@@ -1,7 +1,7 @@
 use Rattle.std.proofs.Common.{subst}
 use Rattle.node_core.specs.States.{state_of}
 use Rattle.node_core.specs.Works as nodes
-use Rattle.node_core.specs.declared.work.Planned.{Planned}
+use Rattle.node_core.specs.declared.work.NodePlan.{NodePlan}
 use Rattle.world.proofs.Steps.{asks_for, passes, refuses}
 use Rattle.world.proofs.planning.plan_taken.Goals as goal
 use Rattle.world.specs.Seen.{places_seen}
@@ -14,18 +14,18 @@ returns-in-Skipped c =
     let n = state_of c.args.place.now.node in
     let i = c.in-Some.input in
     passes (places_seen c.args.places.now) c.args.place.now.party n c.args.kind.now i c.requires c.in-Some.ensures.some
-    (subst (λ (x : Planned). nodes.IsPlanned n i x) c.in-Skipped.is c.in_ok-planned.ensures)
+    (subst (λ (x : NodePlan). nodes.IsPlanned n i x) c.in-Skipped.is c.in_ok-planned.ensures)
 
 pub returns-in-Refused : goal.returns-in-Refused
 returns-in-Refused c =
     let n = state_of c.args.place.now.node in
     let i = c.in-Some.input in
     refuses (places_seen c.args.places.now) c.args.place.now.party n c.args.kind.now i c.in-Refused.fault c.in-Some.ensures.some
-    (subst (λ (x : Planned). nodes.IsPlanned n i x) c.in-Refused.is c.in_ok-planned.ensures)
+    (subst (λ (x : NodePlan). nodes.IsPlanned n i x) c.in-Refused.is c.in_ok-planned.ensures)
 
 pub returns-in-Acts : goal.returns-in-Acts
 returns-in-Acts c =
     let n = state_of c.args.place.now.node in
     let i = c.in-Some.input in
     asks_for (places_seen c.args.places.now) c.args.place.now.party n c.args.kind.now i c.in-Acts.work c.in-Some.ensures.some
-    (subst (λ (x : Planned). nodes.IsPlanned n i x) c.in-Acts.is c.in_ok-planned.ensures)
+    (subst (λ (x : NodePlan). nodes.IsPlanned n i x) c.in-Acts.is c.in_ok-planned.ensures)

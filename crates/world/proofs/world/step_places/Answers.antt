@@ -13,7 +13,7 @@ use Rattle.world.specs.Seen.{places_seen}
 use Rattle.world.specs.Works.{AsksFor, IsPlanned}
 use Rattle.world.specs.declared.place.Place.{Place}
 use Rattle.world.specs.declared.planned.Outcome.TheVariants as outcome
-use Rattle.world.specs.declared.planned.Planned.{Planned}
+use Rattle.world.specs.declared.planned.EventPlan.{EventPlan}
 use Rattle.world_steps.specs.Steps as steps
 use Rattle.world_steps.specs.Steps.{Gives}
 
@@ -50,7 +50,7 @@ returns-in-Idle-clause-ok c =
     let found = subst (λ (l : List Place). (p : Place) × IsPlaceOf l e.node i p) c.as_slice.ensures.value c.in-Some.ensures.found in
     let at = place_here ps e.node i found.0 x found.1 c.index.ensures in
     let planned = subst (λ (l : List Place). IsPlanned (places_seen l) x.party (state_of x.node) e.kind c.in_ok-outcome.field-0) c.as_slice-2.ensures.value c.in_ok-outcome.ensures in
-    let idle = subst (λ (z : Planned). IsPlanned w x.party (state_of x.node) e.kind z) c.in-Idle.is planned in
+    let idle = subst (λ (z : EventPlan). IsPlanned w x.party (state_of x.node) e.kind z) c.in-Idle.is planned in
     let t = c.idle-in-Idle in
     subst (λ (z : steps.Outcome). Gives w e z w) (sym (told_idle w t.result o t.ensures.outcome t.ensures.sending t.ensures.changes)) (idle_gives ps e i x o at idle)
 
@@ -67,7 +67,7 @@ carry_out-requires-clause-may c =
     let at = place_here ps e.node i found.0 x found.1 c.index.ensures in
     let there = place_here ps e.node i found.0 y found.1 c.index_mut-place.ensures.value in
     let planned = subst (λ (l : List Place). IsPlanned (places_seen l) x.party (state_of x.node) e.kind c.in_ok-outcome.field-0) c.as_slice-2.ensures.value c.in_ok-outcome.ensures in
-    let asks = subst (λ (z : Planned). IsPlanned w x.party (state_of x.node) e.kind z) c.in-Acts.is planned in
+    let asks = subst (λ (z : EventPlan). IsPlanned w x.party (state_of x.node) e.kind z) c.in-Acts.is planned in
     subst (λ (z : Place). MayDo (state_of z.node) c.in-Acts.work) (same_Some x y (sym at.here ∙ there.here)) (may_do w x.party (state_of x.node) e.kind c.in-Acts.work asks)
 
 pub carry_out-requires-clause-whole : goal.carry_out-requires-clause-whole
@@ -99,7 +99,7 @@ returns-in_ok-changes-in-Acts-clause-ok c =
     let at = place_here ps e.node i found.0 x found.1 c.index.ensures in
     let there = place_here ps e.node i found.0 y found.1 c.index_mut-place.ensures.value in
     let planned = subst (λ (l : List Place). IsPlanned (places_seen l) x.party (state_of x.node) e.kind c.in_ok-outcome.field-0) c.as_slice-2.ensures.value c.in_ok-outcome.ensures in
-    let at_x = subst (λ (q : Planned). IsPlanned w x.party (state_of x.node) e.kind q) c.in-Acts.is planned in
+    let at_x = subst (λ (q : EventPlan). IsPlanned w x.party (state_of x.node) e.kind q) c.in-Acts.is planned in
     let work = subst (λ (q : Place). AsksFor w q.party (state_of q.node) e.kind d) (same_Some x y (sym at.here ∙ there.here)) at_x in
     let from = length c.as_slice-from.result.now in
     let len = ap length c.as_slice-from.ensures.value in
