@@ -13,8 +13,8 @@ use Rattle.histories.specs.Weaving.{AreApart, AreNumbered, CanInterleave, IsInte
 use Rattle.histories.proofs.Lists.{is_in, place_in, some_same, stands, take_one}
 use Rattle.history_laws.specs.Laws.{AreReplayed, InterleavingsAreRuns, IsReplayed, ReplaysAreNumbered}
 use Rattle.history_laws.specs.Replays.{Replays}
-use Rattle.node_cell.specs.Keepers.{Keeper}
-use Rattle.node_history.specs.Cells.{Cell, IsCell}
+use Rattle.stored_nodes.specs.Keepers.{Keeper}
+use Rattle.node_cells.specs.Cells.{Cell, IsCell}
 use Rattle.weave.specs.Faults.{Explains}
 use Rattle.weave.specs.declared.fault.WeaveFault.{WeaveFault}
 use Rattle.weave.specs.declared.fault.WeaveFault.TheVariants as fault

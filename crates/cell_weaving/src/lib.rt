@@ -15,14 +15,14 @@
 
 ghost use Rattle.std.specs.Prelude.{◌≡◌, List, All, IfErr, IfOk, OnOk};
 ghost use Rattle.cell_weaving.specs.Cells.{AreCellsOf, AreTold, IsNotWoven, IsRunOfCells, told_of, told_of_cell};
-ghost use Rattle.node_cell.specs.Keepers.{keeper_of};
-ghost use Rattle.node_history.specs.Cells.{IsCell};
+ghost use Rattle.stored_nodes.specs.Keepers.{keeper_of};
+ghost use Rattle.node_cells.specs.Cells.{IsCell};
 ghost use Rattle.ocpi_types.specs.declared.setup.Node.{Node as NodeOf};
 ghost use Rattle.weave.specs.declared.fault.WeaveFault.TheVariants.{Memory as OfMemory};
 
 use histories::NodeHistory;
 use history_laws::laws::{interleavings_are_runs, replays_are_numbered};
-use node_history::NodeCell;
+use node_cells::NodeCell;
 use node_store::Keep;
 use ocpi_types::Event;
 use std::alloc::Global;

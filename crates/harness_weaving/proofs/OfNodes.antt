@@ -16,7 +16,7 @@ use Rattle.node_harness.specs.Settled.{AreSettled}
 use Rattle.node_harness.specs.declared.fault.RunFault.{RunFault}
 use Rattle.node_harness.specs.declared.fault.RunFault.TheVariants as run
 use Rattle.node_harness.specs.declared.settling.NodeRan.{NodeRan}
-use Rattle.node_history.specs.Cells.{Cell}
+use Rattle.node_cells.specs.Cells.{Cell}
 use Rattle.node_store.specs.Contents.{Content}
 use Rattle.ocpi_text.specs.Text.{key}
 use Rattle.ocpi_types.specs.Setups.{party_of}

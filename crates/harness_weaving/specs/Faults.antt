@@ -5,7 +5,7 @@ use Rattle.harness_weaving.specs.declared.fault.NoRun.{NoRun}
 use Rattle.harness_weaving.specs.declared.fault.NoRun.TheVariants.{Memory, NotWoven, Stopped}
 use Rattle.node_harness.specs.declared.fault.RunFault.{RunFault}
 use Rattle.node_harness.specs.declared.fault.RunFault.TheVariants as run
-use Rattle.node_history.specs.Cells.{Cell}
+use Rattle.node_cells.specs.Cells.{Cell}
 use Rattle.node_store.specs.Contents.{Content}
 use Rattle.ocpi_types.specs.declared.setup.Node.{Node}
 use Rattle.weave.specs.declared.fault.WeaveFault.{WeaveFault}

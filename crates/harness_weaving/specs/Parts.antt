@@ -4,7 +4,7 @@ use Rattle.std.specs.declared.alloc.Global.{Global}
 use Rattle.node_harness.specs.Opened.{AreOpened}
 use Rattle.node_harness.specs.Settled.{AreSettled}
 use Rattle.node_harness.specs.declared.settling.NodeRan.{NodeRan}
-use Rattle.node_history.specs.Cells.{Cell}
+use Rattle.node_cells.specs.Cells.{Cell}
 use Rattle.node_store.specs.Contents.{Content}
 use Rattle.ocpi_types.specs.declared.node_events.NodeEventKind.{NodeEventKind}
 use Rattle.ocpi_types.specs.declared.setup.Node.{Node}

@@ -13,7 +13,7 @@ use cell_weaving::weave_cells;
 use node_core::nodes_of;
 use node_desk::Gate;
 use node_harness::{Loss, NodeRan, Script, run_nodes};
-use node_history::NodeCell;
+use node_cells::NodeCell;
 use node_store::ListKeep;
 use ocpi_types::{Event, Setup};
 use receipts::Receipt;

@@ -1,13 +1,13 @@
 -- What a caller is told of a call, of what was done inside.
 use Rattle.std.proofs.Common.{◌≡◌, ℕ, ◌+◌, length, refl, subst, sym}
-use Rattle.node_cell.specs.Keepers.{Keeper}
+use Rattle.stored_nodes.specs.Keepers.{Keeper}
 use Rattle.node_desk.specs.Calls.{WasEntered, WasRefused}
 use Rattle.node_desk.specs.Faults.{IsNotCalled}
 use Rattle.node_desk.specs.Logs.{GoesOn, Log, log_of}
 use Rattle.node_desk.specs.declared.fault.Refusal.{Refusal}
 use Rattle.node_desk.specs.declared.fault.DeskFault.{DeskFault}
 use Rattle.node_desk.proofs.Going.{goes_on, still}
-use Rattle.node_history.specs.Cells.{Cell, Enters, IsCell}
+use Rattle.node_cells.specs.Cells.{Cell, Enters, IsCell}
 use Rattle.ocpi_types.specs.declared.node_events.NodeEventKind.{NodeEventKind}
 use Rattle.receipts.specs.Audits.{entry_of}
 use Rattle.receipts.specs.declared.receipt.Receipt.{Receipt}

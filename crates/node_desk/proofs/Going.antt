@@ -1,19 +1,19 @@
 -- What a call makes of a log: it goes on by an entry, or stays as it was.
 use Rattle.std.proofs.Common.{Result, Ok, Err, IfErr, arith, ◌≡◌, ◌∙◌, ℕ, ◌+◌, ◌<◌, ◌≤◌, ◌++◌, ◌∷◌, [], List, inl, refl, sym, ap, subst, append_assoc, append-nil, length, length-append}
-use Rattle.node_cell.specs.Keepers.{Keeper}
+use Rattle.stored_nodes.specs.Keepers.{Keeper}
 use Rattle.node_desk.specs.Faults.{Behind, Full, IsNotCalled, NotEntered, of_cell}
 use Rattle.node_desk.specs.Logs.{GoesOn, Log, log_of}
 use Rattle.node_desk.specs.declared.fault.Refusal.{Refusal}
 use Rattle.receipts.specs.declared.receipt.Receipt.{Receipt}
 use Rattle.node_desk.specs.declared.fault.DeskFault.{DeskFault}
 use Rattle.node_desk.specs.declared.fault.DeskFault.TheVariants.{Memory, Rewound, TraceFull}
-use Rattle.node_history.specs.Cells as cells
-use Rattle.node_history.specs.Cells.{Cell, Enters, IsNotEntered, StoredStep, most_entries, stored_of}
+use Rattle.node_cells.specs.Cells as cells
+use Rattle.node_cells.specs.Cells.{Cell, Enters, IsNotEntered, StoredStep, most_entries, stored_of}
 use Rattle.history_laws.specs.Replays as entries
 use Rattle.history_laws.specs.Replays.{EntryStep, Replays}
 use Rattle.histories.specs.declared.entry.Entry.{Entry}
-use Rattle.node_history.specs.declared.fault.CellFault.{CellFault}
-use Rattle.node_history.specs.declared.fault.CellFault.TheVariants as cell
+use Rattle.node_cells.specs.declared.fault.CellFault.{CellFault}
+use Rattle.node_cells.specs.declared.fault.CellFault.TheVariants as cell
 use Rattle.node_laws.proofs.Runs.{run_join}
 use Rattle.ocpi_types.specs.declared.node_events.NodeEventKind.{NodeEventKind}
 use Rattle.ocpi_types.specs.declared.packet.Packet.{Packet}

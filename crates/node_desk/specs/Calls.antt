@@ -1,11 +1,11 @@
 -- What a call was inside, while it had the lock. The cell that it found is one of the desk: it goes on from what had
 -- happened when the desk was made, by the entries that calls made since. Which cell it was, no caller knows.
 use Rattle.std.specs.Prelude.{◌≡◌, ◌+◌, ℕ, length}
-use Rattle.node_cell.specs.Keepers.{Keeper}
+use Rattle.stored_nodes.specs.Keepers.{Keeper}
 use Rattle.node_desk.specs.Faults.{IsNotCalled}
 use Rattle.node_desk.specs.Logs.{GoesOn, Log, log_of}
 use Rattle.node_desk.specs.declared.fault.DeskFault.{DeskFault}
-use Rattle.node_history.specs.Cells.{Cell, Enters, IsCell}
+use Rattle.node_cells.specs.Cells.{Cell, Enters, IsCell}
 use Rattle.ocpi_types.specs.declared.node_events.NodeEventKind.{NodeEventKind}
 use Rattle.receipts.specs.Audits.{entry_of}
 use Rattle.receipts.specs.declared.receipt.Receipt.{Receipt}

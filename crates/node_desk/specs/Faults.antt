@@ -1,11 +1,11 @@
 -- Why a desk did not enter an event, and what that leaves.
 use Rattle.std.specs.Prelude.{◌≡◌, ℕ, ◌<◌, ◌≤◌, length}
-use Rattle.node_cell.specs.Keepers.{Keeper}
+use Rattle.stored_nodes.specs.Keepers.{Keeper}
 use Rattle.node_desk.specs.declared.fault.DeskFault.{DeskFault}
 use Rattle.node_desk.specs.declared.fault.DeskFault.TheVariants.{Core, Memory, Rewound, Store, TraceFull}
-use Rattle.node_history.specs.Cells.{Cell, IsNotEntered, most_entries}
-use Rattle.node_history.specs.declared.fault.CellFault.{CellFault}
-use Rattle.node_history.specs.declared.fault.CellFault.TheVariants as cell
+use Rattle.node_cells.specs.Cells.{Cell, IsNotEntered, most_entries}
+use Rattle.node_cells.specs.declared.fault.CellFault.{CellFault}
+use Rattle.node_cells.specs.declared.fault.CellFault.TheVariants as cell
 use Rattle.ocpi_types.specs.declared.node_events.NodeEventKind.{NodeEventKind}
 
 -- what a fault of the cell is to the caller of its desk

@@ -1,6 +1,6 @@
 -- What happened at a cell, and how that goes on.
 use Rattle.std.specs.Prelude.{◌≡◌, ◌++◌, ℕ, List, [], Bool, true, length}
-use Rattle.node_history.specs.Cells.{Cell}
+use Rattle.node_cells.specs.Cells.{Cell}
 use Rattle.history_laws.specs.Replays.{Replays}
 use Rattle.histories.specs.declared.entry.Entry.{Entry}
 use Rattle.provider_rows.specs.State as provider

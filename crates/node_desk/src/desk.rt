@@ -1,8 +1,8 @@
 //! A desk.
 
 ghost use Rattle.std.specs.Prelude.{◌≡◌, ◌+◌, ◌<◌, ◌≤◌, ◌↔◌, ℕ, All, IfErr, IfOk, IsOk, OnErr, OnOk, length, sum_by, vec_len};
-ghost use Rattle.node_cell.specs.Keepers.{keeper_of};
-ghost use Rattle.node_history.specs.Cells.{IsCell};
+ghost use Rattle.stored_nodes.specs.Keepers.{keeper_of};
+ghost use Rattle.node_cells.specs.Cells.{IsCell};
 ghost use Rattle.history_laws.specs.Replays.{Replays};
 ghost use Rattle.node_rows.specs.Holds.{HoldsRows};
 ghost use Rattle.node_desk.specs.Calls.{WasEntered, WasRefused};
@@ -15,7 +15,7 @@ use crate::gate::Gate;
 use crate::locked::Locked;
 use crate::naming::Naming;
 use crate::pass::{Pass, join_all};
-use node_history::NodeCell;
+use node_cells::NodeCell;
 use node_store::Keep;
 use ocpi_types::NodeEventKind;
 use receipts::Receipt;

@@ -3,7 +3,7 @@
 ghost use Rattle.std.specs.Prelude.{◌≡◌};
 ghost use Rattle.node_desk.specs.Faults.{of_cell};
 
-use node_history::CellFault;
+use node_cells::CellFault;
 use node_steps::NodeFault;
 use node_store::StoreFault;
 use ocpi_types::NodeEventKind;

@@ -1,11 +1,11 @@
 //! What stands behind a desk's lock.
 
 ghost use Rattle.std.specs.Prelude.{◌≡◌, ◌+◌, ◌<◌, ◌≤◌, ℕ, IfErr, IfOk, OnErr, OnOk, length};
-ghost use Rattle.node_history.specs.Cells.{Enters, IsNotEntered, most_entries};
-ghost use Rattle.node_cell.specs.Keepers.{keeper_of};
+ghost use Rattle.node_cells.specs.Cells.{Enters, IsNotEntered, most_entries};
+ghost use Rattle.stored_nodes.specs.Keepers.{keeper_of};
 ghost use Rattle.node_desk.specs.Faults.{IsNotCalled, of_cell};
 ghost use Rattle.node_desk.specs.declared.fault.DeskFault.TheVariants.{Rewound};
-ghost use Rattle.node_history.specs.declared.fault.CellFault.{CellFault as CellFaultOf};
+ghost use Rattle.node_cells.specs.declared.fault.CellFault.{CellFault as CellFaultOf};
 ghost use Rattle.node_desk.specs.Calls.{WasEntered, WasRefused};
 ghost use Rattle.node_desk.specs.Logs.{GoesOn, log_of};
 ghost use Rattle.receipts.specs.Audits.{entry_of};
@@ -14,7 +14,7 @@ use crate::fault::{DeskFault, Refusal, of_cell};
 use crate::gate::Gate;
 use crate::naming::Naming;
 use crate::pass::Pass;
-use node_history::{MOST_ENTRIES, NodeCell};
+use node_cells::{MOST_ENTRIES, NodeCell};
 use node_store::Keep;
 use ocpi_types::NodeEventKind;
 use receipts::Receipt;

@@ -7,7 +7,7 @@ use Rattle.node_desk.specs.Logs.{GoesOn, Log, log_of}
 use Rattle.node_harness.specs.Opened.{AreOpened, IsOfSetup, IsOpenedAs, RanOf}
 use Rattle.node_harness.specs.Settled.{AreSettled}
 use Rattle.node_harness.specs.declared.settling.NodeRan.{NodeRan}
-use Rattle.node_history.specs.Cells.{Cell}
+use Rattle.node_cells.specs.Cells.{Cell}
 use Rattle.ocpi_text.specs.Text.{key}
 use Rattle.ocpi_types.specs.Setups.{party_of}
 use Rattle.ocpi_types.specs.declared.node_events.NodeEventKind.{NodeEventKind}

@@ -1,7 +1,7 @@
 -- Which node of a setup a cell is of, and how it began.
 use Rattle.std.specs.Prelude.{◌≡◌, ℕ, List, Some, Contains, slice_get}
 use Rattle.node_harness.specs.declared.settling.NodeRan.{NodeRan}
-use Rattle.node_history.specs.Cells.{Cell}
+use Rattle.node_cells.specs.Cells.{Cell}
 use Rattle.ocpi_types.specs.Setups.{party_of}
 use Rattle.ocpi_types.specs.declared.setup.Node.{Node}
 use Rattle.world_steps.specs.World.{opening_of}

@@ -8,7 +8,7 @@ use crate::fault::RunFault;
 use crate::link::Link;
 use crate::settling::NodeRan;
 use node_desk::{Desk, Gate, Naming, Pass};
-use node_history::NodeCell;
+use node_cells::NodeCell;
 use node_store::ListKeep;
 use ocpi_text::Moment;
 use ocpi_types::{NodeEventKind, Packet};

@@ -6,7 +6,7 @@ ghost use Rattle.ocpi_text.specs.Text.{key};
 
 use crate::fault::RunFault;
 use histories::Entry;
-use node_history::NodeCell;
+use node_cells::NodeCell;
 use node_store::ListKeep;
 use ocpi_text::Party;
 use ocpi_types::NodeEventKind;

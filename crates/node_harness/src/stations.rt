@@ -12,7 +12,7 @@ use crate::of_setup::OfSetup;
 use crate::script::Loss;
 use crate::settling::NodeRan;
 use crossbeam_channel::unbounded;
-use node_history::NodeCell;
+use node_cells::NodeCell;
 use node_store::ListKeep;
 use ocpi_text::Party;
 use ocpi_types::{Node, Packet};

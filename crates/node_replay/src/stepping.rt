@@ -9,7 +9,7 @@ ghost use Rattle.stored_laws.specs.Nodes.{restarted};
 
 use crate::outcome::{ReplayFault, Replayed};
 use histories::{Entry, Packets};
-use node_cell::input_of;
+use stored_nodes::input_of;
 use node_core::{Node, NodePlan, NodeWork};
 use ocpi_types::NodeEventKind;
 use std::alloc::{AllocError, Global};

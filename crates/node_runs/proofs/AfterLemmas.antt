@@ -11,13 +11,13 @@ use Rattle.node_lines.specs.NodeLines.{node_line_in}
 use Rattle.node_lines.specs.declared.node_line.NodeLine.TheVariants.{Several}
 use Rattle.line_runs.specs.declared.run.Turn.{Turn}
 use Rattle.node_keepers.specs.Opening.{Source}
-use Rattle.node_cell.specs.Keepers.{Commits, Declines, Keeper}
-use Rattle.node_cell.specs.Stored.{IsStored}
-use Rattle.node_cell.specs.Transactions.{AppliesInMemory, FailsInMemory, Pending, changes_of_each}
-use Rattle.node_cell.specs.declared.fault.StepFault.{StepFault}
-use Rattle.node_cell.specs.declared.fault.StepFault.TheVariants as step
-use Rattle.node_cell.specs.declared.stored_node.Applied.{Applied}
-use Rattle.node_cell.specs.declared.stored_node.Applied.TheVariants.{Skipped, Stepped}
+use Rattle.stored_nodes.specs.Keepers.{Commits, Declines, Keeper}
+use Rattle.stored_nodes.specs.Stored.{IsStored}
+use Rattle.stored_nodes.specs.Transactions.{AppliesInMemory, FailsInMemory, Pending, changes_of_each}
+use Rattle.stored_nodes.specs.declared.fault.StepFault.{StepFault}
+use Rattle.stored_nodes.specs.declared.fault.StepFault.TheVariants as step
+use Rattle.stored_nodes.specs.declared.stored_node.Applied.{Applied}
+use Rattle.stored_nodes.specs.declared.stored_node.Applied.TheVariants.{Skipped, Stepped}
 use Rattle.node_store.specs.Faults.{IsCommitFault, counted_fault}
 use Rattle.node_store.specs.declared.fault.StoreFault.{StoreFault}
 use Rattle.node_store.specs.declared.fault.StoreFault.TheVariants.{Memory}

@@ -10,7 +10,7 @@ use Rattle.line_runs.specs.declared.outcome.RunFault.TheVariants.{WriteFailed}
 use Rattle.line_runs.specs.declared.run.Turn.{Turn}
 use Rattle.line_runs.specs.declared.run.Turn.TheVariants.{Taken, Refused, Ended}
 use Rattle.node_keepers.specs.Opening.{Source}
-use Rattle.node_cell.specs.Keepers.{Keeper}
+use Rattle.stored_nodes.specs.Keepers.{Keeper}
 use Rattle.node_runs.specs.NodeOutputs.{IsKept, NodeBegins, NodeOutputs, NodeStops, asked_for}
 use Rattle.node_runs.specs.NodeAnswers.{Ends, GoesOn, LineTurn, NodeEndGives, NodeLineGives, NodeTurn}
 use Rattle.node_runs.specs.NodeAnswers as answers

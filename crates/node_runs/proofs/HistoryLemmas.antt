@@ -17,8 +17,8 @@ use Rattle.line_runs.specs.declared.outcome.Ran.{Ran}
 use Rattle.line_runs.specs.declared.run.Turn.{Turn}
 use Rattle.line_runs.specs.declared.run.Turn.TheVariants.{Refused, Taken}
 use Rattle.node_keepers.specs.Opening.{Source}
-use Rattle.node_cell.specs.Keepers.{Keeper}
-use Rattle.node_cell.specs.Stored.{HoldsOneMore, IsStored, Stored}
+use Rattle.stored_nodes.specs.Keepers.{Keeper}
+use Rattle.stored_nodes.specs.Stored.{HoldsOneMore, IsStored, Stored}
 use Rattle.node_core.specs.Members.{IsMadeOfRows}
 use Rattle.node_rows.specs.Holds.{HoldsRows}
 use Rattle.node_rows.specs.Laws.{NodesKeepOpenings}
@@ -30,8 +30,8 @@ use Rattle.node_runs.specs.NodeAnswers.{Ends, GoesOn, LineTurn, NodeLineGives, N
 use Rattle.node_runs.specs.NodeAnswers as answers
 use Rattle.node_runs.specs.NodeTurns.{EventTurn, IsMember, Running, Stage, Starts, opening}
 use Rattle.node_runs.specs.NodeTurns as turns
-use Rattle.node_cell.specs.Transactions.{LeavesAllOrNothing}
-use Rattle.node_cell.specs.Transactions as transactions
+use Rattle.stored_nodes.specs.Transactions.{LeavesAllOrNothing}
+use Rattle.stored_nodes.specs.Transactions as transactions
 use Rattle.node_runs.specs.NodeHistories.{As_left, Before_line, Behind_line, GoesOnAtLine, GoesOnFrom, HasHistory, LostLinesGoOn, LostLinesKeepRows, One_more, RunsAreHistories, StopsGoOn, TwoRunsAreOne, WasRun, restart_of}
 use Rattle.node_runs.specs.declared.fault.NodeStop.{NodeStop}
 

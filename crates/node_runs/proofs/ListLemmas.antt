@@ -14,11 +14,11 @@ use Rattle.line_runs.specs.declared.run.Turn.{Turn}
 use Rattle.line_runs.specs.declared.run.Turn.TheVariants.{Taken, Refused}
 use Rattle.node_steps.specs.declared.fault.NodeFault.{NodeFault}
 use Rattle.world_steps.specs.Steps.{NodeEvent as Deed, changes_of}
-use Rattle.node_cell.specs.Transactions.{AppliesInMemory, FailsInMemory, Pending, RefusesInMemory, changes_of_each}
-use Rattle.node_cell.specs.declared.fault.StepFault.{StepFault}
-use Rattle.node_cell.specs.declared.fault.StepFault.TheVariants as step
-use Rattle.node_cell.specs.declared.stored_node.Applied.{Applied}
-use Rattle.node_cell.specs.declared.stored_node.Applied.TheVariants.{Skipped, Stepped}
+use Rattle.stored_nodes.specs.Transactions.{AppliesInMemory, FailsInMemory, Pending, RefusesInMemory, changes_of_each}
+use Rattle.stored_nodes.specs.declared.fault.StepFault.{StepFault}
+use Rattle.stored_nodes.specs.declared.fault.StepFault.TheVariants as step
+use Rattle.stored_nodes.specs.declared.stored_node.Applied.{Applied}
+use Rattle.stored_nodes.specs.declared.stored_node.Applied.TheVariants.{Skipped, Stepped}
 use Rattle.program_lines.specs.Writing.{packet_lines}
 use Rattle.node_runs.specs.Afters.{DoesAll, DoesPlaced, TellsRefusal, turn_behind, turn_of}
 use Rattle.node_runs.specs.DoneLines.{all_line, idle_line, malformed_line, refused_line, skipped_line}

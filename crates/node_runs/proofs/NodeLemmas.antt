@@ -4,12 +4,12 @@ use Rattle.ocpi_types.specs.declared.node_events.NodeEvent.{NodeEvent}
 use Rattle.ocpi_types.specs.declared.packet.Packet.{Packet}
 use Rattle.line_runs.specs.declared.run.Turn.TheVariants.{Taken}
 use Rattle.node_keepers.specs.Opening.{Source}
-use Rattle.node_cell.specs.Keepers.{Keeper}
-use Rattle.node_cell.specs.Stored.{Applies, Does, Fails, Stored}
-use Rattle.node_cell.specs.declared.fault.ApplyFault.{ApplyFault}
-use Rattle.node_cell.specs.declared.fault.ApplyFault.TheVariants as apply
-use Rattle.node_cell.specs.declared.stored_node.Applied.{Applied}
-use Rattle.node_cell.specs.declared.stored_node.Applied.TheVariants.{Skipped, Stepped}
+use Rattle.stored_nodes.specs.Keepers.{Keeper}
+use Rattle.stored_nodes.specs.Stored.{Applies, Does, Fails, Stored}
+use Rattle.stored_nodes.specs.declared.fault.ApplyFault.{ApplyFault}
+use Rattle.stored_nodes.specs.declared.fault.ApplyFault.TheVariants as apply
+use Rattle.stored_nodes.specs.declared.stored_node.Applied.{Applied}
+use Rattle.stored_nodes.specs.declared.stored_node.Applied.TheVariants.{Skipped, Stepped}
 use Rattle.stored_laws.specs.Nodes.{last_serial}
 use Rattle.program_lines.specs.Writing.{packet_lines}
 use Rattle.ocpi_json.specs.SetupForms.{setup_in}

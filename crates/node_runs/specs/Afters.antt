@@ -6,11 +6,11 @@ use Rattle.line_runs.specs.declared.run.Turn.TheVariants.{Ended, Refused, Taken}
 use Rattle.json_text.specs.Fault.{Read}
 use Rattle.ocpi_types.specs.declared.node_events.NodeEvent.{NodeEvent}
 use Rattle.world_steps.specs.Steps.{NodeEvent as Deed}
-use Rattle.node_cell.specs.Keepers.{Commits, Declines, Keeper}
-use Rattle.node_cell.specs.Stored.{IsStored}
-use Rattle.node_cell.specs.Transactions.{Pending, changes_of_each}
-use Rattle.node_cell.specs.declared.fault.StepFault.{StepFault}
-use Rattle.node_cell.specs.declared.fault.StepFault.TheVariants as step
+use Rattle.stored_nodes.specs.Keepers.{Commits, Declines, Keeper}
+use Rattle.stored_nodes.specs.Stored.{IsStored}
+use Rattle.stored_nodes.specs.Transactions.{Pending, changes_of_each}
+use Rattle.stored_nodes.specs.declared.fault.StepFault.{StepFault}
+use Rattle.stored_nodes.specs.declared.fault.StepFault.TheVariants as step
 use Rattle.node_store.specs.Faults.{IsCommitFault, counted_fault}
 use Rattle.node_store.specs.declared.fault.StoreFault.{StoreFault}
 use Rattle.node_store.specs.declared.fault.StoreFault.TheVariants.{Memory}

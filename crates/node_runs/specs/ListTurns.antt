@@ -21,8 +21,8 @@ use Rattle.line_runs.specs.declared.run.Turn.TheVariants.{Taken, Refused}
 use Rattle.node_store.specs.Faults.{IsCommitFault, counted_fault}
 use Rattle.node_store.specs.declared.fault.StoreFault.{StoreFault}
 use Rattle.node_store.specs.declared.fault.StoreFault.TheVariants.{Memory}
-use Rattle.node_cell.specs.Keepers.{Commits, Declines, Keeper}
-use Rattle.node_cell.specs.Transactions.{changes_of_each}
+use Rattle.stored_nodes.specs.Keepers.{Commits, Declines, Keeper}
+use Rattle.stored_nodes.specs.Transactions.{changes_of_each}
 use Rattle.program_lines.specs.Writing.{packet_lines}
 use Rattle.node_runs.specs.DoneLines.{all_line, idle_line, malformed_line, refused_line, skipped_line}
 use Rattle.node_runs.specs.NodeTurns.{Running, step_line}

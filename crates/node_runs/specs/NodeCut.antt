@@ -9,7 +9,7 @@ use Rattle.ocpi_types.specs.declared.node_events.NodeEvent.{NodeEvent}
 use Rattle.line_runs.specs.declared.run.Turn.{Turn}
 use Rattle.line_runs.specs.declared.lines.TheConstants.{KEPT_BYTES}
 use Rattle.node_keepers.specs.Opening.{Source}
-use Rattle.node_cell.specs.Keepers.{Keeper}
+use Rattle.stored_nodes.specs.Keepers.{Keeper}
 use Rattle.node_store.specs.declared.fault.StoreFault.{StoreFault}
 use Rattle.program_lines.specs.Cut.{tree-cut}
 use Rattle.node_runs.specs.ListTurns.{ListTurn, LosesLine}

@@ -16,8 +16,8 @@ use Rattle.world_steps.specs.World.{NodeState, Operates, Provides}
 use Rattle.line_runs.specs.Numbered.{AreNumbered}
 use Rattle.line_runs.specs.declared.outcome.Ran.{Ran}
 use Rattle.node_keepers.specs.Opening.{Source}
-use Rattle.node_cell.specs.Keepers.{Keeper}
-use Rattle.node_cell.specs.Stored.{IsStored, Stored}
+use Rattle.stored_nodes.specs.Keepers.{Keeper}
+use Rattle.stored_nodes.specs.Stored.{IsStored, Stored}
 use Rattle.node_rows.specs.Holds.{StoresAlike}
 use Rattle.stored_laws.specs.Nodes.{restarted}
 use Rattle.node_runs.specs.ListTurns.{CarriesOut}

@@ -6,8 +6,8 @@ use Rattle.line_runs.specs.Numbered.{NumberedBegins, NumberedOutputs, NumberedSt
 use Rattle.line_runs.specs.declared.outcome.Ran.{Ran}
 use Rattle.line_runs.specs.declared.outcome.RunFault.{RunFault}
 use Rattle.node_keepers.specs.Opening.{Source}
-use Rattle.node_cell.specs.Keepers.{Keeper}
-use Rattle.node_cell.specs.Stored.{IsStored}
+use Rattle.stored_nodes.specs.Keepers.{Keeper}
+use Rattle.stored_nodes.specs.Stored.{IsStored}
 use Rattle.node_runs.specs.NodeAnswers.{NodeEndGives, NodeLineGives}
 use Rattle.node_runs.specs.NodeTurns.{Running, Stage, keep_in, opening}
 use Rattle.node_runs.specs.declared.fault.NodeStop.{NodeStop}

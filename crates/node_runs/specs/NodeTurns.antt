@@ -20,13 +20,13 @@ use Rattle.line_runs.specs.declared.run.Turn.{Turn}
 use Rattle.line_runs.specs.declared.run.Turn.TheVariants.{Taken, Refused, Ended}
 use Rattle.node_store.specs.declared.fault.StoreFault.{StoreFault}
 use Rattle.node_keepers.specs.Opening.{Source}
-use Rattle.node_cell.specs.Keepers.{IsSettled, Keeper, KeepsOn}
-use Rattle.node_cell.specs.Stored.{Does, Fails, IsKeptFor, IsNotBad, IsReopenFault, Passes, Refuses, Reopens, Stored}
-use Rattle.node_cell.specs.declared.fault.ApplyFault.{ApplyFault}
-use Rattle.node_cell.specs.declared.fault.ApplyFault.TheVariants as apply
-use Rattle.node_cell.specs.declared.stored_node.Applied.{Applied}
-use Rattle.node_cell.specs.declared.stored_node.Applied.TheVariants.{Skipped, Stepped}
-use Rattle.node_cell.specs.declared.fault.ReopenFault.{ReopenFault}
+use Rattle.stored_nodes.specs.Keepers.{IsSettled, Keeper, KeepsOn}
+use Rattle.stored_nodes.specs.Stored.{Does, Fails, IsKeptFor, IsNotBad, IsReopenFault, Passes, Refuses, Reopens, Stored}
+use Rattle.stored_nodes.specs.declared.fault.ApplyFault.{ApplyFault}
+use Rattle.stored_nodes.specs.declared.fault.ApplyFault.TheVariants as apply
+use Rattle.stored_nodes.specs.declared.stored_node.Applied.{Applied}
+use Rattle.stored_nodes.specs.declared.stored_node.Applied.TheVariants.{Skipped, Stepped}
+use Rattle.stored_nodes.specs.declared.fault.ReopenFault.{ReopenFault}
 use Rattle.program_lines.specs.Writing.{packet_lines}
 use Rattle.stored_laws.specs.Nodes.{last_serial, restarted}
 use Rattle.world_steps.specs.World.{NodeState}

@@ -3,8 +3,8 @@ use Rattle.std.specs.Prelude.{ℕ, Result, Ok, Err}
 use Rattle.line_runs.specs.Outcome as run
 use Rattle.line_runs.specs.declared.outcome.Ran.{Ran}
 use Rattle.line_runs.specs.declared.outcome.RunFault.{RunFault}
-use Rattle.node_cell.specs.declared.fault.ReopenFault.{ReopenFault}
-use Rattle.node_cell.specs.declared.fault.ReopenFault.TheVariants as reopen
+use Rattle.stored_nodes.specs.declared.fault.ReopenFault.{ReopenFault}
+use Rattle.stored_nodes.specs.declared.fault.ReopenFault.TheVariants as reopen
 use Rattle.node_runs.specs.declared.fault.NodeRunFault.{NodeRunFault}
 use Rattle.node_runs.specs.declared.fault.NodeRunFault.TheVariants.{Run, Stop}
 use Rattle.node_runs.specs.declared.fault.NodeStop.{NodeStop}

@@ -2,9 +2,9 @@
 
 ghost use Rattle.std.specs.Prelude.{◌≡◌, ◌++◌, Contains, List, Some, ℕ};
 ghost use Rattle.std.specs.Prelude.{IfErr, IfNone, IfOk, IfSome, OnOk};
-ghost use Rattle.node_cell.specs.Keepers.{IsSettled, keeper_of};
-ghost use Rattle.node_cell.specs.Stored.{IsStored};
-ghost use Rattle.node_cell.specs.declared.fault.ReopenFault.{ReopenFault as ReopenFaultOf};
+ghost use Rattle.stored_nodes.specs.Keepers.{IsSettled, keeper_of};
+ghost use Rattle.stored_nodes.specs.Stored.{IsStored};
+ghost use Rattle.stored_nodes.specs.declared.fault.ReopenFault.{ReopenFault as ReopenFaultOf};
 ghost use Rattle.ocpi_types.specs.Setups.{party_of};
 ghost use Rattle.ocpi_types.specs.declared.setup.Node.{Node as NodeOf};
 ghost use Rattle.world_laws.specs.Laws.{IsSetup};
@@ -13,7 +13,7 @@ ghost use Rattle.node_runs.specs.NodeTurns.{Begins, IsMember, IsUnbegun, Starts,
 ghost use Rattle.node_runs.specs.Stops.{stop_of};
 
 use crate::fault::{NodeStop, stop_of};
-use node_cell::{Reopened, StoredNode, Unopened};
+use stored_nodes::{Reopened, StoredNode, Unopened};
 use node_core::nodes_of;
 use node_keepers::Keeps;
 use node_store::Keep;

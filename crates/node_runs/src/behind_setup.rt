@@ -4,7 +4,7 @@ ghost use Rattle.std.specs.Prelude.{◌≡◌, ◌↔◌, ◌++◌, List, IfOk, 
 ghost use Rattle.json_text.specs.Fault.{Fails as FailsToRead};
 ghost use Rattle.json_text.specs.declared.fault.JsonFault.TheVariants.{Memory};
 ghost use Rattle.line_runs.specs.declared.run.Turn.TheVariants.{Refused};
-ghost use Rattle.node_cell.specs.Keepers.{keeper_of};
+ghost use Rattle.stored_nodes.specs.Keepers.{keeper_of};
 ghost use Rattle.node_lines.specs.ListLines.{IsListLine};
 ghost use Rattle.node_lines.specs.NodeLines.{node_line_in};
 ghost use Rattle.node_lines.specs.declared.node_line.NodeLine.TheVariants.{One, Several};

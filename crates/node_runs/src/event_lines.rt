@@ -2,7 +2,7 @@
 
 ghost use Rattle.std.specs.Prelude.{◌≡◌, ◌++◌, IfErr, IfOk, List, Ok, OnOk, string_bytes, ℕ};
 ghost use Rattle.line_runs.specs.declared.run.Turn.{Turn as TurnOf};
-ghost use Rattle.node_cell.specs.Keepers.{keeper_of};
+ghost use Rattle.stored_nodes.specs.Keepers.{keeper_of};
 ghost use Rattle.node_lines.specs.NodeLines.{node_line_in};
 ghost use Rattle.node_lines.specs.declared.node_line.NodeLine.TheVariants.{One};
 ghost use Rattle.program_lines.specs.Writing.{packet_lines};
@@ -15,7 +15,7 @@ use crate::beginning::Running;
 use crate::done_lines::{write_idle, write_refused, write_skipped, write_stepped};
 use crate::fault::NodeStop;
 use line_runs::Turn;
-use node_cell::{Applied, ApplyFault};
+use stored_nodes::{Applied, ApplyFault};
 use node_steps::NodeFault;
 use node_store::Keep;
 use ocpi_types::{NodeEvent, Packet};

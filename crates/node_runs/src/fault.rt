@@ -4,7 +4,7 @@ ghost use Rattle.std.specs.Prelude.{◌≡◌};
 ghost use Rattle.node_runs.specs.Stops.{node_status, stop_of};
 
 use line_runs::{Ran, RunFault, status_of};
-use node_cell::ReopenFault;
+use stored_nodes::ReopenFault;
 use node_store::StoreFault;
 use stored_rows::BadRow;
 

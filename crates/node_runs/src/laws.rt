@@ -1,10 +1,10 @@
 //! What a run makes of its node.
 
-ghost use Rattle.node_cell.specs.Keepers.{keeper_of};
+ghost use Rattle.stored_nodes.specs.Keepers.{keeper_of};
 ghost use Rattle.node_keepers.specs.Opening.{source_of};
 ghost use Rattle.node_runs.specs.NodeHistories.{LostLinesGoOn, LostLinesKeepRows, RunsAreHistories, StopsGoOn, TwoRunsAreOne};
 
-use node_cell::laws::refused_commits_leave_all_or_nothing;
+use stored_nodes::laws::refused_commits_leave_all_or_nothing;
 use node_keepers::Keeps;
 use node_rows::laws::nodes_keep_openings;
 use node_store::Keep;

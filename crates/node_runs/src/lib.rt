@@ -28,7 +28,7 @@
 //!
 //! # How it is built
 //!
-//! `run_node` is `run_numbered` over one node and its keeper (`StoredNode` of `node_cell`). A line's answer and its
+//! `run_node` is `run_numbered` over one node and its keeper (`StoredNode` of `stored_nodes`). A line's answer and its
 //! `done` are one constructor of `EventTurn` each, so that what the lines make of the node is a chain of its steps by
 //! a walk over them (`runs_are_histories`). Which keepers were to be opened is a ghost list of `Keeps` (`opened`),
 //! without which a body that opens one twice would be proved. `two_runs_are_one` is `reopen`'s clause `again` at what

@@ -2,7 +2,7 @@
 
 ghost use Rattle.std.specs.Prelude.{◌≡◌, ◌≢◌, ◌<◌, ◌+◌, ◌≤◌, ◌++◌, List, IfOk, Ok, Option, Some, false, length, slice_get, string_bytes, string_capacity, string_len, ℕ};
 ghost use Rattle.json_text.specs.Fault.{Read};
-ghost use Rattle.node_cell.specs.Keepers.{keeper_of};
+ghost use Rattle.stored_nodes.specs.Keepers.{keeper_of};
 ghost use Rattle.node_lines.specs.NodeLines.{node_line_in};
 ghost use Rattle.node_lines.specs.declared.node_line.NodeLine.TheVariants.{Several};
 ghost use Rattle.ocpi_types.specs.declared.node_events.NodeEvent.{NodeEvent as NodeEventOf};
@@ -14,7 +14,7 @@ use crate::beginning::Running;
 use crate::done_lines::{write_all, write_malformed, write_refused, write_skipped};
 use crate::event_lines::write_applied;
 use line_runs::Turn;
-use node_cell::{StepFault, Transaction, Uncommitted};
+use stored_nodes::{StepFault, Transaction, Uncommitted};
 use node_lines::Elements;
 use node_store::{Keep, StoreFault};
 use ocpi_json::JsonFault;

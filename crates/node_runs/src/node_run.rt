@@ -6,7 +6,7 @@ ghost use Rattle.line_runs.specs.Run.{ReadsFewLines};
 ghost use Rattle.line_runs.specs.declared.outcome.Ran.TheVariants.{WithRefusals};
 ghost use Rattle.line_runs.specs.declared.run.Turn.{Turn as TurnOf};
 ghost use Rattle.line_runs.specs.declared.run.Turn.TheVariants.{Taken};
-ghost use Rattle.node_cell.specs.Keepers.{keeper_of};
+ghost use Rattle.stored_nodes.specs.Keepers.{keeper_of};
 ghost use Rattle.node_keepers.specs.Opening.{source_of};
 ghost use Rattle.node_runs.specs.DoneLines.{opened_line};
 ghost use Rattle.node_runs.specs.NodeOutputs.{IsKept, NodeBegins, NodeOutputs, NodeStops, asked_for};

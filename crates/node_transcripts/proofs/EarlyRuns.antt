@@ -13,8 +13,8 @@ use Rattle.line_runs.specs.declared.outcome.Ran.{Ran}
 use Rattle.line_runs.specs.declared.run.Turn.{Turn}
 use Rattle.line_runs.specs.declared.run.Turn.TheVariants.{Ended, Refused, Taken}
 use Rattle.node_keepers.specs.Opening.{Source}
-use Rattle.node_cell.specs.Keepers.{IsSettled, Keeper, KeepsOn}
-use Rattle.node_cell.specs.Stored.{Stored}
+use Rattle.stored_nodes.specs.Keepers.{IsSettled, Keeper, KeepsOn}
+use Rattle.stored_nodes.specs.Stored.{Stored}
 use Rattle.json_text.specs.declared.fault.JsonFault.TheVariants.{Syntax}
 use Rattle.node_runs.specs.DoneLines.{malformed_line}
 use Rattle.node_runs.specs.NodeAnswers.{NodeEnd, NodeLineGives, NodeTurn}

@@ -15,9 +15,9 @@ use Rattle.node_steps.specs.declared.fault.NodeFault.TheVariants as node_fault
 use Rattle.history_laws.specs.Replays.{EntryStep}
 use Rattle.history_laws.specs.Replays as replays
 use Rattle.world_steps.specs.World.{NodeState}
-use Rattle.node_cell.specs.Keepers.{Keeper}
-use Rattle.node_cell.specs.Stored as cell
-use Rattle.node_cell.specs.Stored.{Stored}
+use Rattle.stored_nodes.specs.Keepers.{Keeper}
+use Rattle.stored_nodes.specs.Stored as cell
+use Rattle.stored_nodes.specs.Stored.{Stored}
 use Rattle.node_replay.specs.Replayed.{Enters, Leads}
 use Rattle.transcript_lines.specs.declared.done.Done.{Done}
 use Rattle.transcript_lines.specs.declared.done.Done.TheVariants as done

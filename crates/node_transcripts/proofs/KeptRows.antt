@@ -24,10 +24,10 @@ use Rattle.line_runs.specs.declared.outcome.Ran.{Ran}
 use Rattle.line_runs.specs.declared.run.Turn.{Turn}
 use Rattle.line_runs.specs.declared.run.Turn.TheVariants.{Ended, Refused, Taken}
 use Rattle.node_keepers.specs.Opening.{Source}
-use Rattle.node_cell.specs.Keepers.{Commits, Keeper}
-use Rattle.node_cell.specs.Keepers as keepers
-use Rattle.node_cell.specs.Stored.{Does, IsKeptFor, Stored}
-use Rattle.node_cell.specs.Transactions.{changes_of_each}
+use Rattle.stored_nodes.specs.Keepers.{Commits, Keeper}
+use Rattle.stored_nodes.specs.Keepers as keepers
+use Rattle.stored_nodes.specs.Stored.{Does, IsKeptFor, Stored}
+use Rattle.stored_nodes.specs.Transactions.{changes_of_each}
 use Rattle.node_runs.specs.ListTurns.{AreDone, ListTurn, PlacedTurn}
 use Rattle.node_runs.specs.ListTurns as lists
 use Rattle.node_runs.specs.NodeAnswers.{LineTurn, NodeLineGives, NodeTurn}

@@ -22,10 +22,10 @@ use Rattle.node_lines.specs.declared.node_line.NodeLine.TheVariants.{One, Severa
 use Rattle.node_replay.specs.Replayed.{Leads, Passes, Refuses}
 use Rattle.line_runs.specs.declared.run.Turn.{Turn}
 use Rattle.node_keepers.specs.Opening.{Source}
-use Rattle.node_cell.specs.Keepers.{Commits, Keeper}
-use Rattle.node_cell.specs.Keepers as keepers
-use Rattle.node_cell.specs.Stored.{Does, IsKeptFor, Loses}
-use Rattle.node_cell.specs.Transactions.{changes_of_each}
+use Rattle.stored_nodes.specs.Keepers.{Commits, Keeper}
+use Rattle.stored_nodes.specs.Keepers as keepers
+use Rattle.stored_nodes.specs.Stored.{Does, IsKeptFor, Loses}
+use Rattle.stored_nodes.specs.Transactions.{changes_of_each}
 use Rattle.node_runs.specs.ListTurns.{AreDone, ListTurn, LosesLine, PlacedTurn}
 use Rattle.node_runs.specs.ListTurns as lists
 use Rattle.node_runs.specs.NodeAnswers.{LineTurn, NodeTurn}

@@ -6,8 +6,8 @@ use Rattle.ocpi_text.specs.Text.{key}
 use Rattle.ocpi_types.specs.declared.node_events.NodeEvent.{NodeEvent}
 use Rattle.ocpi_types.specs.declared.packet.Packet.{Packet}
 use Rattle.ocpi_types.specs.declared.setup.Node.{Node}
-use Rattle.node_cell.specs.Keepers.{Keeper}
-use Rattle.node_cell.specs.Stored.{Does}
+use Rattle.stored_nodes.specs.Keepers.{Keeper}
+use Rattle.stored_nodes.specs.Stored.{Does}
 use Rattle.node_rows.specs.Laws.{NodesKeepOpenings}
 use Rattle.world_steps.specs.Steps.{NodeStep}
 use Rattle.world_steps.specs.World.{NodeState, opening_of}

@@ -12,7 +12,7 @@ use Rattle.world_steps.specs.Steps.{NodeEvent as Deed}
 use Rattle.world_steps.specs.World.{NodeState}
 use Rattle.node_rows.specs.Laws.{NodesKeepOpenings}
 use Rattle.line_runs.specs.declared.run.Turn.{Turn}
-use Rattle.node_cell.specs.Keepers.{Keeper}
+use Rattle.stored_nodes.specs.Keepers.{Keeper}
 use Rattle.node_runs.specs.ListTurns.{AreDone, ListTurn}
 use Rattle.node_runs.specs.ListTurns as lists
 use Rattle.node_runs.specs.NodeTurns.{Running}

@@ -26,7 +26,7 @@ use Rattle.node_runs.specs.DoneLines.{all_line, idle_line, malformed_line, refus
 use Rattle.node_runs.specs.ListTurns.{AreDone, CarriesOut, ListTurn, PlacedTurn}
 use Rattle.node_runs.specs.ListTurns as lists
 use Rattle.node_runs.specs.NodeTurns.{Running, step_line}
-use Rattle.node_cell.specs.Keepers.{Keeper}
+use Rattle.stored_nodes.specs.Keepers.{Keeper}
 use Rattle.transcript_lines.specs.declared.done.Done.{Done}
 use Rattle.transcript_lines.specs.declared.done.Done.TheVariants as done
 use Rattle.done_laws.specs.Laws.{DoneLinesAreRead, IsLineNumber, IsRead, IsWhole}

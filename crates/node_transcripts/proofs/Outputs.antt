@@ -6,7 +6,7 @@ use Rattle.line_runs.specs.Numbered.{begun_answer, begun_between, begun_echo, be
 use Rattle.line_runs.specs.declared.outcome.Ran.{Ran}
 use Rattle.line_runs.specs.declared.run.Turn.TheVariants.{Ended}
 use Rattle.node_keepers.specs.Opening.{Source}
-use Rattle.node_cell.specs.Keepers.{Keeper}
+use Rattle.stored_nodes.specs.Keepers.{Keeper}
 use Rattle.node_rows.specs.Laws.{EmptyIsHeld, NodesKeepOpenings}
 use Rattle.stored_laws.specs.Nodes.{OpeningsCanStartAgain}
 use Rattle.node_runs.specs.NodeAnswers.{NodeEnd}

@@ -17,8 +17,8 @@ use Rattle.node_rows.specs.Laws.{NodesKeepOpenings}
 use Rattle.node_lines.specs.NodeLines.{node_line_in}
 use Rattle.line_runs.specs.Numbered.{echo_of}
 use Rattle.node_keepers.specs.Opening.{Source}
-use Rattle.node_cell.specs.Keepers.{Keeper}
-use Rattle.node_cell.specs.Stored.{IsKeptFor}
+use Rattle.stored_nodes.specs.Keepers.{Keeper}
+use Rattle.stored_nodes.specs.Stored.{IsKeptFor}
 use Rattle.node_runs.specs.DoneLines.{malformed_line}
 use Rattle.node_runs.specs.NodeTurns.{Running}
 use Rattle.node_runs.specs.NodeTurns as turns

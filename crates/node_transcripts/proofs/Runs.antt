@@ -9,9 +9,9 @@ use Rattle.line_runs.specs.declared.outcome.Ran.{Ran}
 use Rattle.line_runs.specs.declared.run.Turn.{Turn}
 use Rattle.line_runs.specs.declared.run.Turn.TheVariants.{Ended, Refused, Taken}
 use Rattle.node_keepers.specs.Opening.{Source}
-use Rattle.node_cell.specs.Keepers.{Commits, Keeper}
-use Rattle.node_cell.specs.Keepers as keepers
-use Rattle.node_cell.specs.Stored.{Stored}
+use Rattle.stored_nodes.specs.Keepers.{Commits, Keeper}
+use Rattle.stored_nodes.specs.Keepers as keepers
+use Rattle.stored_nodes.specs.Stored.{Stored}
 use Rattle.node_rows.specs.Laws.{EmptyIsHeld, NodesKeepOpenings}
 use Rattle.stored_laws.specs.Nodes.{OpeningsCanStartAgain, last_serial}
 use Rattle.ocpi_json.specs.SetupForms.{setup_in}

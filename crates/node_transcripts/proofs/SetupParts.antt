@@ -16,8 +16,8 @@ use Rattle.node_core.specs.Members.{IsMadeOfRows}
 use Rattle.node_rows.specs.Holds.{HasRow, HoldsRows}
 use Rattle.node_rows.specs.Laws.{EmptyIsHeld}
 use Rattle.node_keepers.specs.Opening.{Source}
-use Rattle.node_cell.specs.Keepers.{Keeper}
-use Rattle.node_cell.specs.Stored.{Stored}
+use Rattle.stored_nodes.specs.Keepers.{Keeper}
+use Rattle.stored_nodes.specs.Stored.{Stored}
 use Rattle.node_runs.specs.DoneLines.{opened_line}
 use Rattle.node_runs.specs.NodeTurns.{Begins}
 use Rattle.transcript_lines.specs.declared.done.Done.TheVariants as done

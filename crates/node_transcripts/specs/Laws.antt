@@ -8,7 +8,7 @@ use Rattle.line_runs.specs.Numbered.{AreNumbered, echo_of}
 use Rattle.line_runs.specs.declared.outcome.Ran.{Ran}
 use Rattle.line_runs.specs.declared.run.Turn.{Turn}
 use Rattle.node_keepers.specs.Opening.{Source}
-use Rattle.node_cell.specs.Keepers.{Keeper}
+use Rattle.stored_nodes.specs.Keepers.{Keeper}
 use Rattle.done_laws.specs.Laws.{IsWhole}
 use Rattle.node_runs.specs.NodeAnswers.{NodeLineGives}
 use Rattle.node_runs.specs.NodeTurns.{IsMember, Running, Stage, opening}

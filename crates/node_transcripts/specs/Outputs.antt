@@ -5,8 +5,8 @@ use Rattle.line_runs.specs.Numbered.{AreNumbered, IsNumberedBegun, IsNumberedRun
 use Rattle.line_runs.specs.declared.outcome.Ran.{Ran}
 use Rattle.line_runs.specs.declared.run.Turn.TheVariants.{Ended}
 use Rattle.node_keepers.specs.Opening.{Source}
-use Rattle.node_cell.specs.Keepers.{Keeper}
-use Rattle.node_cell.specs.Stored.{Stored}
+use Rattle.stored_nodes.specs.Keepers.{Keeper}
+use Rattle.stored_nodes.specs.Stored.{Stored}
 use Rattle.done_laws.specs.Laws.{IsWhole}
 use Rattle.node_runs.specs.NodeAnswers.{NodeEndGives, NodeLineGives}
 use Rattle.node_runs.specs.NodeTurns.{Running, Stage, opening}

@@ -14,8 +14,8 @@ use Rattle.line_runs.specs.declared.run.Turn.{Turn}
 use Rattle.line_runs.specs.declared.run.Turn.TheVariants.{Refused, Taken}
 use Rattle.std.specs.FinMap.{empty}
 use Rattle.node_keepers.specs.Opening.{Source}
-use Rattle.node_cell.specs.Keepers.{Keeper}
-use Rattle.node_cell.specs.Stored.{Stored}
+use Rattle.stored_nodes.specs.Keepers.{Keeper}
+use Rattle.stored_nodes.specs.Stored.{Stored}
 use Rattle.transcript_lines.specs.Dones.{done_in, run_without_lines}
 use Rattle.done_laws.specs.Laws.{IsWhole}
 use Rattle.transcripts.specs.Following.{MayStarve}

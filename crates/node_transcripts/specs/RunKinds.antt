@@ -6,7 +6,7 @@ use Rattle.line_runs.specs.declared.outcome.Ran.{Ran}
 use Rattle.line_runs.specs.declared.run.Turn.{Turn}
 use Rattle.node_store.specs.Contents.{Content}
 use Rattle.node_keepers.specs.Opening.{Source}
-use Rattle.node_cell.specs.Keepers.{Keeper}
+use Rattle.stored_nodes.specs.Keepers.{Keeper}
 use Rattle.done_laws.specs.Laws.{IsWhole}
 use Rattle.node_runs.specs.NodeAnswers.{NodeEndGives, NodeLineGives, NodeTurn}
 use Rattle.node_runs.specs.NodeTurns.{IsUnbegun, Running, SetupTurn, Stage, keep_in, opening}

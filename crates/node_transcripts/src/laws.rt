@@ -1,6 +1,6 @@
 //! What is read of what `node` writes. Each law is the contract of a function that does nothing of its own.
 
-ghost use Rattle.node_cell.specs.Keepers.{keeper_of};
+ghost use Rattle.stored_nodes.specs.Keepers.{keeper_of};
 ghost use Rattle.node_keepers.specs.Opening.{source_of};
 ghost use Rattle.node_transcripts.specs.LaterRuns.{FirstLinesEndRuns, SeveralRunsAreTranscripts};
 ghost use Rattle.node_transcripts.specs.Laws.{CutRunsAreTranscripts, EchoesAreTranscripts, RunsAreTranscripts};

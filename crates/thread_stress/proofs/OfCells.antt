@@ -7,7 +7,7 @@ use Rattle.cell_weaving.specs.Cells.{AreCellsOf, AreTold, Told, told_of, told_of
 use Rattle.histories.proofs.Lists.{got_within, some_same, stands, take_one}
 use Rattle.histories.specs.Weaving.{AreApart}
 use Rattle.histories.specs.declared.history.NodeHistory.{NodeHistory}
-use Rattle.node_history.specs.Cells.{Cell}
+use Rattle.node_cells.specs.Cells.{Cell}
 use Rattle.node_store.specs.Contents.{Content}
 use Rattle.ocpi_text.specs.Text.{key}
 use Rattle.ocpi_types.specs.declared.setup.Node.{Node}

@@ -3,7 +3,7 @@ use Rattle.std.specs.Prelude.{◌≡◌, ◌≤◌, ℕ, List, length, sum_by}
 use Rattle.cell_weaving.specs.Cells.{AreCellsOf, AreTold, IsRunOfCells}
 use Rattle.harness_weaving.specs.declared.weaving.WovenRun.{WovenRun}
 use Rattle.histories.specs.declared.history.NodeHistory.{NodeHistory}
-use Rattle.node_history.specs.Cells.{Cell}
+use Rattle.node_cells.specs.Cells.{Cell}
 use Rattle.node_store.specs.Contents.{Content}
 use Rattle.ocpi_types.specs.declared.events.Event.{Event}
 use Rattle.ocpi_types.specs.declared.setup.Node.{Node}

@@ -8,7 +8,7 @@ use crate::fault::Failed;
 use crate::playing::is_played;
 use harness_weaving::WovenRun;
 use histories::NodeHistory;
-use node_history::NodeCell;
+use node_cells::NodeCell;
 use node_store::ListKeep;
 use ocpi_types::Setup;
 use std::alloc::{AllocError, Global};

@@ -1,7 +1,7 @@
 use Rattle.std.proofs.Common.{refl}
 use Rattle.std.proofs.lemmas.Option.{slice_get_read}
-use Rattle.node_cell.specs.Keepers.{keeper_of}
-use Rattle.node_history.specs.Cells.{IsCell}
+use Rattle.stored_nodes.specs.Keepers.{keeper_of}
+use Rattle.node_cells.specs.Cells.{IsCell}
 use Rattle.cell_weaving.proofs.Weaving.{all_more, told_more}
 use Rattle.cell_weaving.proofs.histories_of.Goals as goal
 

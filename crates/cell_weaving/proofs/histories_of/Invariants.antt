@@ -1,8 +1,8 @@
 use Rattle.std.proofs.Common.{◌≡◌, map, take}
 use Rattle.std.specs.Prelude.{All}
 use Rattle.cell_weaving.specs.Cells.{told_of, told_of_cell}
-use Rattle.node_cell.specs.Keepers.{keeper_of}
-use Rattle.node_history.specs.Cells.{IsCell}
+use Rattle.stored_nodes.specs.Keepers.{keeper_of}
+use Rattle.node_cells.specs.Cells.{IsCell}
 use Rattle.cell_weaving.proofs.histories_of.Given as goal
 
 abbrev pub invariant-loop-cell : goal.invariant-loop-cell

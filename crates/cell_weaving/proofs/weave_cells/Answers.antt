@@ -1,6 +1,6 @@
 use Rattle.std.proofs.Common.{ap, map, ◌∙◌}
 use Rattle.cell_weaving.specs.Cells.{told_of}
-use Rattle.node_cell.specs.Keepers.{keeper_of}
+use Rattle.stored_nodes.specs.Keepers.{keeper_of}
 use Rattle.cell_weaving.proofs.Weaving as weaving
 use Rattle.cell_weaving.proofs.weave_cells.Goals as goal
 

@@ -2,7 +2,7 @@ use Rattle.std.proofs.Common.{List, IfErr, IfOk, sym, subst}
 use Rattle.cell_weaving.specs.Cells.{AreCellsOf, IsRunOfCells}
 use Rattle.harness_weaving.specs.Faults.{IsToldOf}
 use Rattle.harness_weaving.proofs.OfNodes.{parts_of}
-use Rattle.node_history.specs.Cells.{Cell}
+use Rattle.node_cells.specs.Cells.{Cell}
 use Rattle.node_store.specs.Contents.{Content}
 use Rattle.ocpi_types.specs.declared.setup.Node.{Node}
 use Rattle.harness_weaving.proofs.weaving.weave_nodes.Goals as goal

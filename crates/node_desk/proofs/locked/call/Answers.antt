@@ -1,9 +1,9 @@
 use Rattle.std.proofs.Common.{◌<◌, ◌≤◌, List, length, subst}
 use Rattle.histories.specs.declared.entry.Entry.{Entry}
-use Rattle.node_cell.specs.Keepers.{keeper_of}
+use Rattle.stored_nodes.specs.Keepers.{keeper_of}
 use Rattle.node_desk.proofs.Going.{refused_call}
 use Rattle.node_desk.proofs.locked.call.Goals as goal
-use Rattle.node_history.specs.Cells.{most_entries}
+use Rattle.node_cells.specs.Cells.{most_entries}
 
 pub returns-clause-refused : goal.returns-clause-refused
 returns-clause-refused g c =

@@ -2,7 +2,7 @@ use Rattle.std.proofs.Common.{List, [], refl, sym, subst}
 use Rattle.std.proofs.lemmas.List.{append-nil}
 use Rattle.std.proofs.lemmas.Result.{IfOk-weaker}
 use Rattle.ocpi_types.specs.declared.setup.Node.{Node}
-use Rattle.node_cell.specs.Keepers.{keeper_of}
+use Rattle.stored_nodes.specs.Keepers.{keeper_of}
 use Rattle.node_keepers.specs.Opening.{source_of}
 use Rattle.node_runs.specs.NodeTurns.{Begins, IsMember, NotMade, Unkept, Unknown, Unmade, first_place}
 use Rattle.program_lines.proofs.FaultLemmas.{if_err_then}

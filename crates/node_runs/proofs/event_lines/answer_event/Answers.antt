@@ -1,6 +1,6 @@
 use Rattle.std.proofs.Common.{None, refl, subst}
 use Rattle.line_runs.specs.declared.run.Turn.TheVariants.{Taken}
-use Rattle.node_cell.specs.Keepers.{keeper_of}
+use Rattle.stored_nodes.specs.Keepers.{keeper_of}
 use Rattle.node_runs.specs.DoneLines.{skipped_line}
 use Rattle.node_runs.specs.NodeTurns.{EventTurn, IsElsewhere, Running}
 use Rattle.program_lines.proofs.FaultLemmas.{of_each}

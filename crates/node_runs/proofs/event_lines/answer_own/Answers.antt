@@ -3,7 +3,7 @@ use Rattle.std.proofs.lemmas.Result.{IfOk-weaker}
 use Rattle.ocpi_text.specs.Text.{key}
 use Rattle.line_runs.specs.declared.run.Turn.{Turn}
 use Rattle.line_runs.specs.declared.run.Turn.TheVariants.{Taken}
-use Rattle.node_cell.specs.Keepers.{keeper_of}
+use Rattle.stored_nodes.specs.Keepers.{keeper_of}
 use Rattle.node_runs.specs.NodeTurns.{EventTurn, Running, applied_lines, fault_lines, fault_turn, stop_after}
 use Rattle.program_lines.proofs.FaultLemmas.{of_each}
 use Rattle.node_runs.proofs.NodeLemmas.{applied, failed}

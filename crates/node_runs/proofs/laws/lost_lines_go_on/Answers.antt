@@ -1,4 +1,4 @@
-use Rattle.node_cell.specs.Keepers.{keeper_of}
+use Rattle.stored_nodes.specs.Keepers.{keeper_of}
 use Rattle.node_runs.proofs.HistoryLemmas as histories
 use Rattle.node_runs.proofs.laws.lost_lines_go_on.Goals as goal
 

@@ -1,7 +1,7 @@
 use Rattle.std.proofs.Common.{◌≡◌, ◌∙◌, List, [], ℕ, refl, sym, ap, subst, string_bytes}
-use Rattle.node_cell.specs.Keepers.{keeper_of}
-use Rattle.node_cell.specs.Stored.{Stored}
-use Rattle.node_cell.specs.Transactions.{Pending}
+use Rattle.stored_nodes.specs.Keepers.{keeper_of}
+use Rattle.stored_nodes.specs.Stored.{Stored}
+use Rattle.stored_nodes.specs.Transactions.{Pending}
 use Rattle.node_runs.specs.Afters.{DoesAll}
 use Rattle.node_runs.proofs.AfterLemmas.{committed, starved}
 use Rattle.node_runs.proofs.list_lines.answer_list.Goals as goal

@@ -1,5 +1,5 @@
 use Rattle.std.proofs.Common.{sym}
-use Rattle.node_cell.specs.Keepers.{keeper_of}
+use Rattle.stored_nodes.specs.Keepers.{keeper_of}
 use Rattle.node_keepers.specs.Opening.{source_of}
 use Rattle.node_runs.proofs.EndLemmas.{begun_so, broken_off, read_to, same_fault, stopped_off, went}
 use Rattle.node_runs.proofs.node_run.run_node.Goals as goal

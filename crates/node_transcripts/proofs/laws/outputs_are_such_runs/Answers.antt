@@ -1,4 +1,4 @@
-use Rattle.node_cell.specs.Keepers.{keeper_of}
+use Rattle.stored_nodes.specs.Keepers.{keeper_of}
 use Rattle.node_keepers.specs.Opening.{source_of}
 use Rattle.node_transcripts.proofs.EarlyRuns.{early_runs_are_such, early_whole_runs_are_such}
 use Rattle.node_transcripts.proofs.RunKinds as kinds

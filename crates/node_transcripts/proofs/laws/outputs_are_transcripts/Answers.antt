@@ -1,4 +1,4 @@
-use Rattle.node_cell.specs.Keepers.{keeper_of}
+use Rattle.stored_nodes.specs.Keepers.{keeper_of}
 use Rattle.node_keepers.specs.Opening.{source_of}
 use Rattle.node_transcripts.proofs.Outputs as outputs
 use Rattle.node_transcripts.proofs.Setups.{reads_setups}

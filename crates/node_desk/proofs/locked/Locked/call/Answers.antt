@@ -1,5 +1,5 @@
 use Rattle.std.proofs.Common.{IfErr, IfOk, ap, subst, sym}
-use Rattle.node_cell.specs.Keepers.{keeper_of}
+use Rattle.stored_nodes.specs.Keepers.{keeper_of}
 use Rattle.node_desk.proofs.Calling.{was_entered, was_refused}
 use Rattle.node_desk.proofs.Going.{goes_on, still}
 use Rattle.node_desk.proofs.locked.Locked.call.Goals as goal

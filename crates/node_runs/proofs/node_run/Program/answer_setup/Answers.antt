@@ -2,7 +2,7 @@ use Rattle.std.proofs.Common.{◌≡◌, ◌∙◌, [], None, Some, refl, sym, a
 use Rattle.std.proofs.lemmas.List.{append-nil}
 use Rattle.std.proofs.lemmas.Result.{IfOk-weaker}
 use Rattle.line_runs.specs.declared.run.Turn.TheVariants.{Ended, Taken}
-use Rattle.node_cell.specs.Keepers.{keeper_of}
+use Rattle.stored_nodes.specs.Keepers.{keeper_of}
 use Rattle.node_keepers.specs.Opening.{source_of}
 use Rattle.node_runs.specs.DoneLines.{malformed_line, opened_line}
 use Rattle.node_runs.specs.NodeTurns.{NoSetup, SetupTurn, Stage, Unbegun}

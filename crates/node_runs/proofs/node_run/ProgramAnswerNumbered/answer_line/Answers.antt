@@ -1,6 +1,6 @@
 use Rattle.std.proofs.Common.{◌≡◌, ◌++◌, ◌∙◌, ℕ, List, Option, IfErr, IfOk, Some, sym, ap, subst, string_bytes}
 use Rattle.line_runs.specs.declared.run.Turn.{Turn}
-use Rattle.node_cell.specs.Keepers.{keeper_of}
+use Rattle.stored_nodes.specs.Keepers.{keeper_of}
 use Rattle.node_keepers.specs.Opening.{source_of}
 use Rattle.node_runs.specs.Afters.{GoesOnWith}
 use Rattle.node_runs.specs.NodeAnswers.{NodeLineGives}

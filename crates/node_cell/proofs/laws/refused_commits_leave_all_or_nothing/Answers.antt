@@ -1,6 +1,0 @@
-use Rattle.node_cell.proofs.Together.{all_or_nothing}
-use Rattle.node_cell.proofs.laws.refused_commits_leave_all_or_nothing.Goals as goal
-use Rattle.node_cell.specs.Keepers.{keeper_of}
-
-pub returns : goal.returns
-returns g c = all_or_nothing (keeper_of g.K.Keep.content g.K.Keep.is_honest g.K.Keep.refusals g.K.Keep.may_leave) c.changes_are_held.ensures c.nodes_can_start_again.ensures

@@ -1,4 +1,0 @@
-use Rattle.node_cell.proofs.transaction.Transaction.is_pending.Goals as goal
-
-pub returns : goal.returns
-returns g c = rw (← c.self.view_is) c.self.invariant

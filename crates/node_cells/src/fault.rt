@@ -1,0 +1,45 @@
+//! Why an event was not entered.
+
+ghost use Rattle.std.specs.Prelude.{◌≡◌};
+ghost use Rattle.node_cells.specs.Cells.{cell_fault, keeper_fault};
+
+use stored_nodes::ApplyFault;
+use node_steps::NodeFault;
+use node_store::StoreFault;
+
+/// Why an event was not entered, and changed nothing.
+#[derive(Clone, Copy)]
+pub enum CellFault {
+    /// The history has as many entries as it may have.
+    TraceFull,
+    /// The keeper refused the event's changes.
+    Store(StoreFault),
+    /// The node refuses the event.
+    Core(NodeFault),
+    /// Memory ran out, also for the keeper or in the node.
+    Memory,
+}
+
+/// Why an event is not entered whose changes the keeper did not take.
+fn keeper_fault(fault: StoreFault) -> CellFault
+    ensures { result ≡ keeper_fault fault }
+{
+    match fault {
+        StoreFault::Refused(cause) => CellFault::Store(StoreFault::Refused(cause)),
+        StoreFault::BadRow => CellFault::Store(StoreFault::BadRow),
+        StoreFault::OldLayout => CellFault::Store(StoreFault::OldLayout),
+        StoreFault::Memory => CellFault::Memory,
+    }
+}
+
+/// Why an event that a node did not do is not entered. Want of memory is told alike, whether it was the node's own or
+/// its keeper's.
+pub(crate) fn cell_fault(fault: ApplyFault) -> CellFault
+    ensures { result ≡ cell_fault fault }
+{
+    match fault {
+        ApplyFault::Store(refusal) => keeper_fault(refusal),
+        ApplyFault::Core(refusal) => CellFault::Core(refusal),
+        ApplyFault::Memory => CellFault::Memory,
+    }
+}
