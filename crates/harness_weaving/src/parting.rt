@@ -3,8 +3,8 @@
 ghost use Rattle.std.specs.Prelude.{IfOk};
 ghost use Rattle.harness_weaving.specs.Parts.{ArePartsOf};
 
-use node_harness::NodeRan;
 use node_cells::NodeCell;
+use node_harness::NodeRan;
 use node_store::ListKeep;
 use receipts::Receipt;
 use std::alloc::{AllocError, Global};

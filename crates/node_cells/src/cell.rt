@@ -14,7 +14,6 @@ ghost use Rattle.world_steps.specs.World.{NodeState, opening_of};
 use crate::fault::CellFault;
 use crate::stepping::enter;
 use histories::{Entry, Packets};
-use stored_nodes::{Reopened, StoredNode, Unopened};
 use node_core::Node;
 use node_rows::laws::changes_are_held;
 use node_store::Keep;
@@ -24,6 +23,7 @@ use row_table::Past;
 use std::alloc::Global;
 use std::marker::Model;
 use stored_laws::laws::nodes_can_start_again;
+use stored_nodes::{Reopened, StoredNode, Unopened};
 
 /// A node whose rows are kept, with all that happened at it since it was opened, up to 100,000 events.
 ///

@@ -3,9 +3,9 @@
 ghost use Rattle.std.specs.Prelude.{◌≡◌};
 ghost use Rattle.node_cells.specs.Cells.{cell_fault, keeper_fault};
 
-use stored_nodes::ApplyFault;
 use node_steps::NodeFault;
 use node_store::StoreFault;
+use stored_nodes::ApplyFault;
 
 /// Why an event was not entered, and changed nothing.
 #[derive(Clone, Copy)]

@@ -13,7 +13,6 @@ ghost use Rattle.node_runs.specs.NodeTurns.{Begins, IsMember, IsUnbegun, Starts,
 ghost use Rattle.node_runs.specs.Stops.{stop_of};
 
 use crate::fault::{NodeStop, stop_of};
-use stored_nodes::{Reopened, StoredNode, Unopened};
 use node_core::nodes_of;
 use node_keepers::Keeps;
 use node_store::Keep;
@@ -21,6 +20,7 @@ use ocpi_text::Party;
 use ocpi_types::{Node, Setup};
 use std::alloc::Global;
 use std::marker::Model;
+use stored_nodes::{Reopened, StoredNode, Unopened};
 
 /// A node over its keeper, and its party as the setup spells it.
 pub struct Running<K: Keep> {

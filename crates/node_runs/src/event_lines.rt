@@ -15,12 +15,12 @@ use crate::beginning::Running;
 use crate::done_lines::{write_idle, write_refused, write_skipped, write_stepped};
 use crate::fault::NodeStop;
 use line_runs::Turn;
-use stored_nodes::{Applied, ApplyFault};
 use node_steps::NodeFault;
 use node_store::Keep;
 use ocpi_types::{NodeEvent, Packet};
 use program_lines::write_packets;
 use std::alloc::{AllocError, Global};
+use stored_nodes::{Applied, ApplyFault};
 
 /// Lets an event that was read happen at the node, where it is that node's, which commits its changes first, and then
 /// writes what comes of it. Where they are not committed, for want of memory too, nothing is written, and the run ends.

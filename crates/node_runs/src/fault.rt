@@ -4,8 +4,8 @@ ghost use Rattle.std.specs.Prelude.{◌≡◌};
 ghost use Rattle.node_runs.specs.Stops.{node_status, stop_of};
 
 use line_runs::{Ran, RunFault, status_of};
-use stored_nodes::ReopenFault;
 use node_store::StoreFault;
+use stored_nodes::ReopenFault;
 use stored_rows::BadRow;
 
 /// The exit status where the setup has no node of the party.

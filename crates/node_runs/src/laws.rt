@@ -4,10 +4,10 @@ ghost use Rattle.stored_nodes.specs.Keepers.{keeper_of};
 ghost use Rattle.node_keepers.specs.Opening.{source_of};
 ghost use Rattle.node_runs.specs.NodeHistories.{LostLinesGoOn, LostLinesKeepRows, RunsAreHistories, StopsGoOn, TwoRunsAreOne};
 
-use stored_nodes::laws::refused_commits_leave_all_or_nothing;
 use node_keepers::Keeps;
 use node_rows::laws::nodes_keep_openings;
 use node_store::Keep;
+use stored_nodes::laws::refused_commits_leave_all_or_nothing;
 
 /// A run is a chain of steps of its node from what that was opened with, whatever the lines are. A line of several
 /// events is as many steps as the node did for it, in their order.

@@ -14,13 +14,13 @@ use crate::beginning::Running;
 use crate::done_lines::{write_all, write_malformed, write_refused, write_skipped};
 use crate::event_lines::write_applied;
 use line_runs::Turn;
-use stored_nodes::{StepFault, Transaction, Uncommitted};
 use node_lines::Elements;
 use node_store::{Keep, StoreFault};
 use ocpi_json::JsonFault;
 use ocpi_text::Party;
 use ocpi_types::NodeEvent;
 use std::alloc::{AllocError, Global};
+use stored_nodes::{StepFault, Transaction, Uncommitted};
 
 /// What a line behind the setup left of the node.
 #[derive(Drop)]
