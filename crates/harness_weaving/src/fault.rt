@@ -4,16 +4,20 @@ ghost use Rattle.std.specs.Prelude.{◌≡◌};
 ghost use Rattle.harness_weaving.specs.Faults.{of_run, of_weave};
 
 use node_harness::RunFault;
+use thiserror::Error;
 use weave::WeaveFault;
 
 /// Why there is no run of the nodes.
-#[derive(Drop)]
+#[derive(Debug, Drop, Error)]
 pub enum NoRun {
     /// The nodes stopped.
+    #[error("the run stopped")]
     Stopped,
     /// What happened at the nodes has no order in which each delivery follows the sending of its packet, for this reason.
+    #[error(transparent)]
     NotWoven(WeaveFault),
     /// Memory ran out, also for a thread.
+    #[error("memory ran out")]
     Memory,
 }
 

@@ -6,17 +6,22 @@ ghost use Rattle.node_cells.specs.Cells.{cell_fault, keeper_fault};
 use node_steps::NodeFault;
 use node_store::StoreFault;
 use stored_nodes::ApplyFault;
+use thiserror::Error;
 
 /// Why an event was not entered, and changed nothing.
-#[derive(Clone, Copy)]
+#[derive(Clone, Copy, Debug, Error)]
 pub enum CellFault {
     /// The history has as many entries as it may have.
+    #[error("the history is full")]
     TraceFull,
     /// The keeper refused the event's changes.
+    #[error("store: {0}")]
     Store(StoreFault),
     /// The node refuses the event.
-    Core(NodeFault),
+    #[error(transparent)]
+    Core(#[from] NodeFault),
     /// Memory ran out, also for the keeper or in the node.
+    #[error("memory ran out")]
     Memory,
 }
 

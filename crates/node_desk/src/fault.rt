@@ -7,19 +7,25 @@ use node_cells::CellFault;
 use node_steps::NodeFault;
 use node_store::StoreFault;
 use ocpi_types::NodeEventKind;
+use thiserror::Error;
 
 /// Why a desk did not enter an event.
-#[derive(Clone, Copy)]
+#[derive(Clone, Copy, Debug, Error)]
 pub enum DeskFault {
     /// The history has as many entries as it may have.
+    #[error("the history is full")]
     TraceFull,
     /// There are that many entries, fewer than the pass has seen.
+    #[error("the history has {0} entries, fewer than were seen")]
     Rewound(usize),
     /// The keeper refused the event's changes.
+    #[error("store: {0}")]
     Store(StoreFault),
     /// The node refuses the event.
-    Core(NodeFault),
+    #[error(transparent)]
+    Core(#[from] NodeFault),
     /// Memory ran out, also for the keeper or in the node.
+    #[error("memory ran out")]
     Memory,
 }
 

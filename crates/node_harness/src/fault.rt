@@ -4,14 +4,17 @@ ghost use Rattle.std.specs.Prelude.{◌≡◌};
 
 use node_desk::DeskFault;
 use std::alloc::{AllocError, AllocFailed};
+use thiserror::Error;
 
 /// Why a run ends without an answer.
-#[derive(Clone, Copy, PartialEq, Eq)]
+#[derive(Clone, Copy, Debug, PartialEq, Eq, Error)]
 pub enum RunFault {
     /// A desk refused an event, for another reason than that its node does or that memory ran out; or what came of a node
     /// is not what was asked of it.
+    #[error("the run stopped")]
     Stopped,
     /// Memory ran out, also for a thread.
+    #[error("memory ran out")]
     Memory,
 }
 

@@ -1,6 +1,7 @@
 //! What comes of an event at a node.
 
 use node_steps::NodeFault;
+use thiserror::Error;
 
 /// What became of an event.
 #[derive(Clone, Copy)]
@@ -15,10 +16,12 @@ pub enum Replayed {
 }
 
 /// Why an event is not entered, and changed nothing.
-#[derive(Clone, Copy)]
+#[derive(Clone, Copy, Debug, Error)]
 pub enum ReplayFault {
     /// The node refuses it.
-    Core(NodeFault),
+    #[error(transparent)]
+    Core(#[from] NodeFault),
     /// Memory ran out, also in the node.
+    #[error("memory ran out")]
     Memory,
 }

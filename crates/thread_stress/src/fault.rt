@@ -5,36 +5,29 @@ ghost use Rattle.thread_stress.specs.declared.fault.Failed.TheVariants.{Memory};
 
 use harness_weaving::NoRun;
 use std::alloc::{AllocError, AllocFailed};
+use thiserror::Error;
 
 /// What failed.
-#[derive(Clone, Copy, PartialEq, Eq)]
+#[derive(Clone, Copy, Debug, PartialEq, Eq, Error)]
 pub enum Failed {
     /// The input is no setup with events of nodes.
+    #[error("the input cannot be read")]
     BadInput,
     /// The run stopped: a desk refused, or a node's receipts or events are not those that were asked for.
+    #[error("the run stopped")]
     Stopped,
     /// The nodes have fewer entries than wanted.
+    #[error("too little happened")]
     FewEntries,
     /// What happened at the nodes is not one run.
+    #[error("the histories are not one run")]
     NotWoven,
     /// In a world an event of that run sends something else.
+    #[error("a world plays it otherwise")]
     NotPlayed,
     /// Memory ran out, also for a thread.
+    #[error("memory ran out")]
     Memory,
-}
-
-impl Failed {
-    /// The line that is written.
-    pub fn words(self) -> &'static str {
-        match self {
-            Failed::BadInput => "the input cannot be read",
-            Failed::Stopped => "the run stopped",
-            Failed::FewEntries => "too little happened",
-            Failed::NotWoven => "the histories are not one run",
-            Failed::NotPlayed => "a world plays it otherwise",
-            Failed::Memory => "memory ran out",
-        }
-    }
 }
 
 impl From<AllocError> for Failed {

@@ -49,14 +49,14 @@ struct Shown {
 }
 
 fn main(rt: HostRuntime) -> ExitCode {
-    let words = match show_all(&rt, rt.alloc()) {
+    let printed = match show_all(&rt, rt.alloc()) {
         Ok(shown) => {
             drop(shown);
-            "20000 entries and more are one run, which a world plays alike"
+            println!(rt; "20000 entries and more are one run, which a world plays alike")
         }
-        Err(failed) => failed.words(),
+        Err(failed) => println!(rt; "{failed}"),
     };
-    match println!(rt; "{words}") {
+    match printed {
         Ok(()) => ExitCode::from(0),
         Err(_) => ExitCode::from(1),
     }

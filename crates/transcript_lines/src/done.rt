@@ -24,6 +24,7 @@ use json_text::{JsonFault, Scratch, Tree, line_tree};
 use node_steps::NodeFault;
 use ocpi_text::{Party, Whole};
 use std::alloc::Global;
+use thiserror::Error;
 
 /// What became of an echoed line, or of one of its events.
 #[derive(Clone, Copy)]
@@ -61,11 +62,13 @@ pub struct DoneLine {
 }
 
 /// Why a line that has a member `done` is not taken.
-#[derive(Clone, Copy)]
+#[derive(Clone, Copy, Debug, Error)]
 pub enum DoneFault {
     /// It says nothing that may become of a line.
+    #[error("the member done says nothing that may become of a line")]
     NoDone,
     /// Memory ran out.
+    #[error("memory ran out")]
     Memory,
 }
 

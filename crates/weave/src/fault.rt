@@ -14,18 +14,31 @@ use crate::turn_fault::TurnFault;
 use histories::{Entry, NodeHistory};
 use ocpi_types::Packet;
 use std::alloc::{AllocError, AllocFailed};
+use std::fmt;
+use thiserror::Error;
 
 /// Why there is no order of all entries, or none was found.
-#[derive(Drop)]
+#[derive(Drop, Error)]
 pub enum WeaveFault {
     /// The packet came to a node, and its sender, among these, sent none of that serial.
+    #[error("a packet came that its sender never sent")]
     NeverSent(Packet),
     /// The packet came to a node, and its sender sent another of that serial.
+    #[error("a packet came that its sender sent otherwise")]
     Differs(Packet),
     /// From these places on, one for each history, each next entry delivers a packet that is sent behind them.
+    #[error("the entries have no order")]
     NoOrder(Vec<usize>),
     /// Memory ran out.
+    #[error("memory ran out")]
     Memory,
+}
+
+/// It shows the text: a packet is written by the crate that writes JSON.
+impl fmt::Debug for WeaveFault {
+    fn fmt<W: fmt::Write>(&self, f: &mut fmt::Formatter<W>) -> fmt::Result {
+        fmt::Display::fmt(self, f)
+    }
 }
 
 impl From<AllocError> for WeaveFault {

@@ -5,18 +5,23 @@ ghost use Rattle.weave.specs.declared.turn_fault.TurnFault.TheVariants.{Memory};
 
 use crate::turn::Turn;
 use std::alloc::{AllocError, AllocFailed};
+use thiserror::Error;
 
 /// Why there is no order of all entries, or none was found.
-#[derive(Drop)]
+#[derive(Debug, Drop, Error)]
 pub enum TurnFault {
     /// This entry delivers a packet, and its sender, among these, sent none of that serial.
+    #[error("entry {} of history {} has a packet that was never sent", .0.entry, .0.history)]
     NeverSent(Turn),
     /// The first entry delivers a packet, and by the second its sender sent another of that serial.
+    #[error("entry {} of history {} has a packet that was sent otherwise", .0.entry, .0.history)]
     Differs(Turn, Turn),
     /// To these places, one for each history, each is advanced as far as it can go: each next entry delivers a packet
     /// that is sent behind them.
+    #[error("the entries have no order")]
     NoOrder(Vec<usize>),
     /// Memory ran out.
+    #[error("memory ran out")]
     Memory,
 }
 
