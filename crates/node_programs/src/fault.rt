@@ -38,6 +38,26 @@ impl fmt::Display for PlayFault {
 
 impl std::error::Error for PlayFault {}
 
+impl From<RunFault> for PlayFault {
+    ghost use Rattle.node_programs.specs.declared.fault.PlayFault.TheVariants.{Run};
+
+    ghost from_gives = { λ fault play. play ≡ Run fault };
+
+    fn from(fault: RunFault) -> PlayFault {
+        PlayFault::Run(fault)
+    }
+}
+
+impl From<StoreFault> for PlayFault {
+    ghost use Rattle.node_programs.specs.declared.fault.PlayFault.TheVariants.{Store};
+
+    ghost from_gives = { λ fault play. play ≡ Store fault };
+
+    fn from(fault: StoreFault) -> PlayFault {
+        PlayFault::Store(fault)
+    }
+}
+
 /// The exit status of a run: 3 where a store stopped it, and else as of any run.
 pub fn status_after_play(ran: Result<Ran, PlayFault>) -> u8
     ensures { result ≡ play_status ran }

@@ -1,5 +1,5 @@
 -- What is said of what stopped a run of one node, and the exit status.
-use Rattle.std.specs.Prelude.{ℕ, Result, Ok, Err}
+use Rattle.std.specs.Prelude.{ℕ, List, ◌++◌, Result, Ok, Err, codes}
 use Rattle.line_runs.specs.Outcome as run
 use Rattle.line_runs.specs.declared.outcome.Ran.{Ran}
 use Rattle.line_runs.specs.declared.outcome.RunFault.{RunFault}
@@ -9,7 +9,19 @@ use Rattle.node_runs.specs.declared.fault.NodeRunFault.{NodeRunFault}
 use Rattle.node_runs.specs.declared.fault.NodeRunFault.TheVariants.{Run, Stop}
 use Rattle.node_runs.specs.declared.fault.NodeStop.{NodeStop}
 use Rattle.node_runs.specs.declared.fault.NodeStop.TheVariants.{UnknownParty, Store, BadRows}
+use Rattle.node_store.specs.Faults as store
 use Rattle.node_store.specs.declared.fault.StoreFault.TheVariants.{Memory}
+
+-- what standard error says of what stopped a node
+abbrev pub stop_text : NodeStop → List ℕ
+stop_text UnknownParty = codes "node: no such party in the setup"
+stop_text (Store fault) = codes "store: " ++ store.fault_text fault
+stop_text (BadRows bad) = codes "store: 4 Core(BadRows)"
+
+-- what it says of what stopped its run
+abbrev pub fault_text : NodeRunFault → List ℕ
+fault_text (Run fault) = run.fault_text fault
+fault_text (Stop stop) = stop_text stop
 
 -- 2 where the setup has no such party, 3 where the store or its rows stopped the run; else 0 where no line was refused,
 -- and 1 where one was, or where reading or writing failed

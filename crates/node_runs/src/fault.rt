@@ -5,6 +5,8 @@ ghost use Rattle.node_runs.specs.Stops.{node_status, stop_of};
 
 use line_runs::{Ran, RunFault, status_of};
 use node_store::StoreFault;
+use std::error::Error;
+use std::fmt;
 use stored_nodes::ReopenFault;
 use stored_rows::BadRow;
 
@@ -15,7 +17,7 @@ pub const UNKNOWN_PARTY: u8 = 2;
 const STORE_REFUSED: u8 = 3;
 
 /// Why a node did not begin, or did not go on.
-#[derive(Clone, Copy)]
+#[derive(Clone, Copy, Debug)]
 pub enum NodeStop {
     /// The setup has no node of the party.
     UnknownParty,
@@ -25,13 +27,69 @@ pub enum NodeStop {
     BadRows(BadRow),
 }
 
+impl fmt::Display for NodeStop {
+    ghost use Rattle.std.specs.Prelude.{Some};
+    ghost use Rattle.node_runs.specs.Stops.{stop_text};
+
+    ghost output = { λ s. Some (stop_text s) };
+
+    fn fmt<W: fmt::Write>(&self, f: &mut fmt::Formatter<W>) -> fmt::Result {
+        match self {
+            NodeStop::UnknownParty => f.write_str("node: no such party in the setup"),
+            NodeStop::Store(fault) => {
+                f.write_str("store: ")?;
+                fault.fmt(f)
+            }
+            NodeStop::BadRows(_) => f.write_str("store: 4 Core(BadRows)"),
+        }
+    }
+}
+
+impl Error for NodeStop {}
+
 /// What stopped a run.
-#[derive(Clone, Copy)]
+#[derive(Clone, Copy, Debug)]
 pub enum NodeRunFault {
     /// Reading or writing.
     Run(RunFault),
     /// The node.
     Stop(NodeStop),
+}
+
+impl fmt::Display for NodeRunFault {
+    ghost use Rattle.std.specs.Prelude.{Some};
+    ghost use Rattle.node_runs.specs.Stops.{fault_text};
+
+    ghost output = { λ f. Some (fault_text f) };
+
+    fn fmt<W: fmt::Write>(&self, f: &mut fmt::Formatter<W>) -> fmt::Result {
+        match self {
+            NodeRunFault::Run(fault) => fault.fmt(f),
+            NodeRunFault::Stop(stop) => stop.fmt(f),
+        }
+    }
+}
+
+impl Error for NodeRunFault {}
+
+impl From<RunFault> for NodeRunFault {
+    ghost use Rattle.node_runs.specs.declared.fault.NodeRunFault.TheVariants.{Run};
+
+    ghost from_gives = { λ fault run. run ≡ Run fault };
+
+    fn from(fault: RunFault) -> NodeRunFault {
+        NodeRunFault::Run(fault)
+    }
+}
+
+impl From<NodeStop> for NodeRunFault {
+    ghost use Rattle.node_runs.specs.declared.fault.NodeRunFault.TheVariants.{Stop};
+
+    ghost from_gives = { λ stop run. run ≡ Stop stop };
+
+    fn from(stop: NodeStop) -> NodeRunFault {
+        NodeRunFault::Stop(stop)
+    }
 }
 
 /// Why no node was made of what is kept.

@@ -101,28 +101,27 @@ impl Told {
 pub fn report(rt: &HostRuntime, ran: Result<Ran, PlayFault>, told: &Told) -> u8
     ensures { result ≡ play_status ran }
 {
-    match ran {
-        Err(PlayFault::Store(refusal)) => tell_refusal(rt, refusal, told.place.as_str()),
-        Err(PlayFault::Run(fault)) => {
-            let _ = eprintln!(rt; "{fault}");
-        }
-        Ok(_) => {}
+    if let Err(fault) = ran {
+        tell_fault(rt, fault, told.place.as_str());
     }
     tell_besides(rt, told.besides, told.unclosed.as_str());
     status_after_play(ran)
 }
 
-/// Says what the closing of the store at that place refused, if anything, besides what stopped the run.
-fn tell_besides(rt: &HostRuntime, besides: Option<StoreFault>, place: &str) {
-    if let Some(refusal) = besides {
-        tell_refusal(rt, refusal, place);
+/// Says what stopped a run, of a store also which it was and why: the one at that place, where there is a name for it.
+fn tell_fault(rt: &HostRuntime, fault: PlayFault, place: &str) {
+    let _ = eprintln!(rt; "{fault}");
+    if let PlayFault::Store(refusal) = fault {
+        explain(rt, place, words_for(refusal));
     }
 }
 
-/// Says that a store refused, which it was and why: the one at that place, where there is a name for it.
-fn tell_refusal(rt: &HostRuntime, refusal: StoreFault, place: &str) {
-    let _ = eprintln!(rt; "{}", PlayFault::Store(refusal));
-    explain(rt, place, words_for(refusal));
+/// Says what the closing of the store at that place refused, if anything, besides what stopped the run.
+fn tell_besides(rt: &HostRuntime, besides: Option<StoreFault>, place: &str) {
+    if let Some(refusal) = besides {
+        let _ = eprintln!(rt; "store: {refusal}");
+        explain(rt, place, words_for(refusal));
+    }
 }
 
 /// Says why the store at that place refused, where there is a name for it.
@@ -153,28 +152,24 @@ pub fn report_node(
 fn explain_run(rt: &HostRuntime, ran: &Result<Ran, NodeRunFault>, words: &NodeWords<'_>) {
     match ran {
         Ok(_) => {}
-        Err(NodeRunFault::Run(fault)) => {
-            let _ = eprintln!(rt; "{}", *fault);
+        Err(NodeRunFault::Stop(NodeStop::UnknownParty)) => {
+            let _ = eprintln!(rt; "node: no {} in the setup", words.party);
         }
-        Err(NodeRunFault::Stop(stop)) => explain_stop(rt, stop, words),
+        Err(fault) => {
+            let _ = eprintln!(rt; "{fault}");
+            explain_fault(rt, fault, words.store.unwrap_or(""));
+        }
     }
 }
 
-/// Says why a node did not begin, or did not go on.
-fn explain_stop(rt: &HostRuntime, stop: &NodeStop, words: &NodeWords<'_>) {
-    let place = words.store.unwrap_or("");
-    match stop {
-        NodeStop::UnknownParty => {
-            let _ = eprintln!(rt; "node: no {} in the setup", words.party);
-        }
-        NodeStop::Store(refusal) => {
-            let _ = eprintln!(rt; "{}", PlayFault::Store(*refusal));
+/// Says why the store at that place stopped a run of one node, if it did.
+fn explain_fault(rt: &HostRuntime, fault: &NodeRunFault, place: &str) {
+    match fault {
+        NodeRunFault::Run(_) | NodeRunFault::Stop(NodeStop::UnknownParty) => {}
+        NodeRunFault::Stop(NodeStop::Store(refusal)) => {
             explain(rt, place, words_for_node(*refusal));
         }
-        NodeStop::BadRows(row) => {
-            let _ = eprintln!(rt; "store: 4 Core(BadRows)");
-            explain_row(rt, row, place);
-        }
+        NodeRunFault::Stop(NodeStop::BadRows(row)) => explain_row(rt, row, place),
     }
 }
 
