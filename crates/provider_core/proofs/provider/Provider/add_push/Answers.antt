@@ -13,12 +13,12 @@ returns c =
     let t = c.args.version.now in
     let older = c.replaced-older.result in
     let rows : c.outbox.result.now.rows ≡ s.rows.outbox = rw (← c.self.view_is) c.outbox.ensures.rows in
-    let stands : IsReplaced s.rows.outbox.pushes (subject c.args.to (push.PutToken c.in_ok-new.field-0)) older =
-    subst (λ (m : Pushes). IsReplaced m (subject c.args.to (push.PutToken c.in_ok-new.field-0)) older) (ap (λ (x : OutboxRows). x.pushes) rows) c.replaced-older.ensures in
+    let stands : IsReplaced s.rows.outbox.pushes (subject c.args.to (push.PutToken c.in_ok-copy.field-0)) older =
+    subst (λ (m : Pushes). IsReplaced m (subject c.args.to (push.PutToken c.in_ok-copy.field-0)) older) (ap (λ (x : OutboxRows). x.pushes) rows) c.replaced-older.ensures in
     let replaced : IsReplaced s.rows.outbox.pushes (subject c.args.to (push.PutToken t)) older =
-    subst (λ (x : Token). IsReplaced s.rows.outbox.pushes (subject c.args.to (push.PutToken x)) older) c.in_ok-new.ensures stands in
+    subst (λ (x : Token). IsReplaced s.rows.outbox.pushes (subject c.args.to (push.PutToken x)) older) c.in_ok-copy.ensures stands in
     on_more c.push.result (λ h. record {
       older = older;
       replaced = replaced;
-      all = push_is c.args.at t c.args.to older (push.PutToken c.in_ok-new.field-0) c.args.draft.now c.add_replaced.new.draft c.push.new.self c.in_ok-add_replaced.ensures (ap push.PutToken c.in_ok-new.ensures) h;
+      all = push_is c.args.at t c.args.to older (push.PutToken c.in_ok-copy.field-0) c.args.draft.now c.add_replaced.new.draft c.push.new.self c.in_ok-add_replaced.ensures (ap push.PutToken c.in_ok-copy.ensures) h;
     }) c.push.ensures
