@@ -4,8 +4,8 @@ ghost use Rattle.std.specs.Prelude.{◌≡◌, IfErr, IfOk, IsOk, OnOk, Err, Non
 ghost use Rattle.node_programs.specs.Stops.{play_status};
 ghost use Rattle.node_runs.specs.Stops.{node_status};
 
-use crate::command::NodeWords;
 use crate::refusal::{advice_for, words_for, words_for_node, words_for_reason, words_with_numbers};
+use command_line::NodeWords;
 use line_runs::Ran;
 use node_programs::{PlayFault, status_after_play};
 use node_runs::{NodeRunFault, NodeStop, status_after_node};

@@ -5,8 +5,6 @@
 //! - The program ends with that status. By `report`, `report_node`; `report_weave`: `ran`, `given`, `stopped`.
 //! - Where a store could not be closed and nothing else had stopped the run, that did. Where something had, it is
 //!   handed on to be told besides. By `and_closed`, `and_node_closed`: `refused`; `besides`, `once`, `nothing`.
-//! - The status is 2 where the command line is wrong, whether or not that could be printed. After help or version it is
-//!   0 where it was printed, and else 1. By `status_after`: `wrong`, `printed`, `unprinted`.
 //! - Without `--strict` explanations change no status, and with it none but 0. By `status_with`: `lax`, `other`.
 //!
 //! # How it is built
@@ -18,16 +16,14 @@
 ghost use Rattle.std.specs.Prelude.{◌≡◌, ◌≢◌};
 ghost use Rattle.clap.specs.Values.{kind_of};
 
-mod command;
 mod endings;
-mod help;
 mod refusal;
 mod watching;
 mod weaving;
 
 use clap::Error;
 use clap::error::ErrorKind;
-use command::{NodeWords, PlayWords, WRONG_WORDS, Word, status_after, take_words};
+use command_line::{NodeWords, PlayWords, WRONG_WORDS, Word, status_after, take_words};
 use endings::{Told, and_closed, and_node_closed, let_go, report, report_node};
 use explanations::{Program, Telling, WatchedReader, WatchedWriter};
 use line_runs::{LineReader, Ran, RunFault};
@@ -109,7 +105,7 @@ fn run_answer_word(rt: &HostRuntime, telling: Telling) -> u8 {
     let told = Told::new(rt.alloc());
     let lines = lines_of(rt, Program::Answer, telling, false);
     let ran = answer_buffered(rt, watch_in(&lines, telling));
-    status_with(report(rt, ran, &told), telling, &lines)
+    status_with(report(rt, ran, &told), telling, lines)
 }
 
 /// Runs `play`, says what stopped it, and answers the exit status.
@@ -126,7 +122,7 @@ fn run_play_word(rt: &HostRuntime, words: &PlayWords<'_>) -> u8 {
             play_in_files(rt, &mut writer, watch, folder, &mut told)
         }
     };
-    status_with(report(rt, ran, &told), telling, &lines)
+    status_with(report(rt, ran, &told), telling, lines)
 }
 
 /// Runs `settle`, says what stopped it, and answers the exit status.
@@ -142,13 +138,18 @@ fn run_node_word(rt: &HostRuntime, words: &NodeWords<'_>) -> u8 {
     let mut besides = None;
     let lines = lines_of(rt, Program::Node(words.party), telling, words.echo);
     let ran = run_one_node(rt, words, watch_in(&lines, telling), &mut besides);
-    status_with(report_node(rt, ran, besides, words), telling, &lines)
+    status_with(report_node(rt, ran, besides, words), telling, lines)
 }
 
 /// Answers the standard input to the standard output.
 fn answer_buffered(rt: &HostRuntime, watch: Option<&Lines<'_>>) -> Result<Ran, PlayFault> {
     match BufWriter::with_capacity(rt.alloc(), BUFFER_BYTES, io::writer(rt)) {
-        Ok(writer) => answer_input(rt, &mut WatchedWriter::new(writer, watch), watch),
+        Ok(writer) => {
+            let mut writer = WatchedWriter::new(writer, watch);
+            let ran = answer_input(rt, &mut writer, watch);
+            drop(writer);
+            ran
+        }
         Err(_) => Err(PlayFault::Run(RunFault::WriteFailed)),
     }
 }
@@ -162,7 +163,9 @@ fn play_buffered(
     match BufWriter::with_capacity(rt.alloc(), BUFFER_BYTES, io::writer(rt)) {
         Ok(writer) => {
             let mut writer = WatchedWriter::new(writer, watch);
-            play_in_memory(rt, &mut writer, watch, told)
+            let ran = play_in_memory(rt, &mut writer, watch, told);
+            drop(writer);
+            ran
         }
         Err(_) => Err(PlayFault::Run(RunFault::WriteFailed)),
     }
@@ -171,7 +174,11 @@ fn play_buffered(
 /// Writes what is owed by the rows of a file to the standard output.
 fn settle_buffered(rt: &HostRuntime, file: &str, told: &mut Told) -> Result<Ran, PlayFault> {
     match BufWriter::with_capacity(rt.alloc(), BUFFER_BYTES, io::writer(rt)) {
-        Ok(mut writer) => settle_file(rt, &mut writer, file, told),
+        Ok(mut writer) => {
+            let ran = settle_file(rt, &mut writer, file, told);
+            drop(writer);
+            ran
+        }
         Err(_) => Err(PlayFault::Run(RunFault::WriteFailed)),
     }
 }
@@ -197,7 +204,9 @@ fn answer_input<W: Write>(
         return Err(PlayFault::Run(RunFault::ReadFailed));
     };
     let mut input = LineReader::new(WatchedReader::new(reader, watch));
-    run_answer(rt.alloc(), &mut input, writer).map_err(PlayFault::Run)
+    let ran = run_answer(rt.alloc(), &mut input, writer);
+    drop(input);
+    Ok(ran?)
 }
 
 /// Keepers that say where they are, for what is told of a refusal. Those in memory say no text.
@@ -272,6 +281,7 @@ fn play_input<W: Write, S: Keeps + Located + Drop>(
     let mut kept = Vec::new(rt.alloc());
     let mut keeps = keeps;
     let ran = run_play(rt.alloc(), &mut input, writer, &mut keeps, &mut kept);
+    drop(input);
     let are_open = !kept.is_empty();
     let closed = close_all(&mut keeps, kept);
     if ran.is_ok() {
@@ -355,6 +365,8 @@ fn run_over<S: Keeps + Drop>(
         &mut keeps,
         &mut kept,
     );
+    drop(input);
+    drop(writer);
     let closed = close_one(&mut keeps, kept);
     drop(keeps);
     let (ran, refusal) = and_node_closed(ran, closed);
@@ -405,8 +417,6 @@ fn settle_found<W: Write, C: Drop>(
 
 /// Writes what is owed by rows.
 fn settle_rows<W: Write>(rt: &HostRuntime, writer: &mut W, rows: &[Row]) -> Result<Ran, PlayFault> {
-    match run_settle(rt.alloc(), rows, writer) {
-        Ok(()) => Ok(Ran::Whole),
-        Err(fault) => Err(PlayFault::Run(fault)),
-    }
+    run_settle(rt.alloc(), rows, writer)?;
+    Ok(Ran::Whole)
 }

@@ -28,8 +28,8 @@ pub fn watch_in<'w, 'p>(lines: &'w Lines<'p>, telling: Telling) -> Option<&'w Li
     }
 }
 
-/// The exit status of a run whose lines were watched.
-pub fn status_with(status: u8, telling: Telling, lines: &Lines<'_>) -> u8
+/// The exit status of a run whose lines were watched. What watched them is let go.
+pub fn status_with(status: u8, telling: Telling, lines: Lines<'_>) -> u8
     ensures lax { telling.is_strict ≡ false → result ≡ status }
     ensures other { status ≢ 0 → result ≡ status }
 {
@@ -37,6 +37,7 @@ pub fn status_with(status: u8, telling: Telling, lines: &Lines<'_>) -> u8
         Ok(watch) => watch.has_told(),
         Err(_) => false,
     };
+    drop(lines);
     strict_status(status, telling.is_strict, has_told)
 }
 

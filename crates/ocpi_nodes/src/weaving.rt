@@ -6,24 +6,37 @@ ghost use Rattle.line_runs.specs.declared.outcome.RunFault.{RunFault as RunFault
 ghost use Rattle.weave_runs.specs.declared.fault.GivenFault.{GivenFault as GivenFaultOf};
 
 use crate::BUFFER_BYTES;
-use crate::command::{WRONG_WORDS, WeaveWords};
 use crate::refusal::words_for_unread;
+use command_line::{WRONG_WORDS, WeaveWords};
 use line_runs::{Ran, RunFault, flush, status_of, write_whole};
 use std::fs;
 use std::io::{self, BufWriter, ErrorKind, Write};
+use thiserror::Error;
 use weave_runs::{GivenFault, TranscriptFile, WeaveRunFault, run_weave};
 
 /// The exit status where a file was not read.
 pub const UNREAD: u8 = 3;
 
 /// What stopped a run of `weave`.
-#[derive(Clone, Copy)]
+#[derive(Clone, Copy, Debug, Error)]
 pub enum WeaveStop<'a> {
     /// The file was not read, and nothing is said of any.
+    #[error("{file}: {}", words_for_unread(*.kind))]
     Unread { file: &'a str, kind: ErrorKind },
     /// What a party sent cannot be taken as it came.
-    Given(GivenFault<'a>),
-    Run(RunFault),
+    #[error(transparent)]
+    Given(#[from] GivenFault<'a>),
+    #[error(transparent)]
+    Run(#[from] RunFault),
+}
+
+impl<'a> From<WeaveRunFault<'a>> for WeaveStop<'a> {
+    fn from(fault: WeaveRunFault<'a>) -> WeaveStop<'a> {
+        match fault {
+            WeaveRunFault::Run(fault) => WeaveStop::Run(fault),
+            WeaveRunFault::Given(fault) => WeaveStop::Given(fault),
+        }
+    }
 }
 
 /// Reads each file whole, in their order, and writes the run that is made of them, or why there is none.
@@ -81,26 +94,20 @@ fn weave_to<'a, W: Write>(
     writer: &mut W,
 ) -> Result<Ran, WeaveStop<'a>> {
     let mut words = String::new(rt.alloc());
-    match run_weave(rt.alloc(), files, given, writer, &mut words) {
-        Ok(ran) => {
-            if !words.is_empty() {
-                let _ = eprintln!(rt; "{}", words.as_str());
-            }
-            Ok(ran)
-        }
-        Err(WeaveRunFault::Run(fault)) => Err(WeaveStop::Run(fault)),
-        Err(WeaveRunFault::Given(fault)) => Err(WeaveStop::Given(fault)),
+    let ran = run_weave(rt.alloc(), files, given, writer, &mut words);
+    if ran.is_ok() && !words.is_empty() {
+        let _ = eprintln!(rt; "{}", words.as_str());
     }
+    drop(words);
+    Ok(ran?)
 }
 
 /// Says that memory ran out before anything was made of the files. It takes no memory.
 fn refuse_memory<'a>(rt: &HostRuntime) -> Result<Ran, WeaveStop<'a>> {
     let mut writer = io::writer(rt);
     let written = write_whole(&mut writer, b"refused 4 Memory\n");
-    match written.and_then(|_| flush(&mut writer)) {
-        Ok(()) => Ok(Ran::WithRefusals),
-        Err(fault) => Err(WeaveStop::Run(fault)),
-    }
+    written.and_then(|_| flush(&mut writer))?;
+    Ok(Ran::WithRefusals)
 }
 
 /// Says what stopped a run of `weave`, if anything did, and answers the exit status.
@@ -111,29 +118,21 @@ pub fn report_weave(rt: &HostRuntime, ran: Result<Ran, WeaveStop<'_>>) -> u8
 {
     match ran {
         Ok(ran) => status_of(Ok(ran)),
-        Err(WeaveStop::Run(fault)) => {
-            let _ = eprintln!(rt; "{fault}");
-            status_of(Err(fault))
-        }
-        Err(WeaveStop::Given(fault)) => {
-            tell_given(rt, fault);
-            WRONG_WORDS
-        }
-        Err(WeaveStop::Unread { file, kind }) => {
-            let _ = eprintln!(rt; "{file}: {}", words_for_unread(kind));
-            UNREAD
+        Err(stop) => {
+            let _ = eprintln!(rt; "{stop}");
+            status_of_stop(stop)
         }
     }
 }
 
-/// Says why what a party sent cannot be taken as it came.
-fn tell_given(rt: &HostRuntime, fault: GivenFault<'_>) {
-    match fault {
-        GivenFault::Unknown(word) => {
-            let _ = eprintln!(rt; "weave: no {word} in the setup");
-        }
-        GivenFault::HasFile(word) => {
-            let _ = eprintln!(rt; "weave: {word} has a file");
-        }
+/// The exit status of a run of `weave` that was stopped.
+fn status_of_stop(stop: WeaveStop<'_>) -> u8
+    ensures given { (fault : GivenFaultOf) → stop.entry ≡ WeaveStop.Given fault → result ≡ WRONG_WORDS }
+    ensures stopped { (fault : RunFaultOf) → stop.entry ≡ WeaveStop.Run fault → result ≡ exit_status (Err fault) }
+{
+    match stop {
+        WeaveStop::Run(fault) => status_of(Err(fault)),
+        WeaveStop::Given(_) => WRONG_WORDS,
+        WeaveStop::Unread { .. } => UNREAD,
     }
 }

@@ -2,9 +2,9 @@
 ghost use Rattle.std.specs.Prelude.{◌≡◌, ◌≢◌, ◌⊎◌, true, false};
 ghost use Rattle.clap.specs.Values.{kind_of};
 
-use crate::help;
+use crate::commands::program;
 use clap::error::ErrorKind;
-use clap::{Arg, ArgAction, ArgMatches, Command, Error};
+use clap::{ArgMatches, Error};
 use explanations::Telling;
 use std::alloc::Global;
 
@@ -14,11 +14,15 @@ pub const WRONG_WORDS: u8 = 2;
 /// The programs, with what the command line says for each.
 #[derive(Drop)]
 pub enum Word<'a> {
+    /// `answer`, which is also run where no program is named.
     Answer(Telling),
+    /// `play`.
     Play(PlayWords<'a>),
-    /// Of a store's file.
+    /// `settle`, of a store's file.
     Settle(&'a str),
+    /// `node`.
     Node(NodeWords<'a>),
+    /// `weave`.
     Weave(WeaveWords<'a>),
 }
 
@@ -59,135 +63,12 @@ pub struct WeaveWords<'a> {
 /// settle FILE | weave [--given PARTY].. FILE.. | help [COMMAND]]`, the first three also with `--explain` and
 /// `--strict`, or gives clap's text: the help or the version that was asked for, or what is wrong.
 pub fn take_words<'a>(alloc: Global, words: &'a [String]) -> Result<Word<'a>, Error> {
-    let command = Command::new(alloc, "ocpi_nodes")
-        .version("0.2.0")
-        .about("OCPI 2.2.1 nodes for remote start and reservation")
-        .after_help(help::PROGRAM);
-    let command = with_word(command, answer(alloc))?;
-    let command = with_word(command, play(alloc))?;
-    let command = with_word(command, node(alloc))?;
-    let command = with_word(command, settle(alloc))?;
-    let command = with_word(command, weave(alloc))?;
+    let command = program(alloc)?;
     let matches = command.try_get_matches_from(words)?;
     match matches.subcommand_matches("weave") {
         Some(given) => weave_word(alloc, given),
         None => Ok(word_of(&matches)),
     }
-}
-
-/// The command with one word more. It lets the command go by a call where there is no such word, since a `?` would
-/// have its whole drop proved here.
-fn with_word<'a>(
-    command: Command<'a>,
-    word: Result<Command<'a>, Error>,
-) -> Result<Command<'a>, Error> {
-    match word {
-        Ok(word) => Ok(command.subcommand(word)?),
-        Err(error) => {
-            drop(command);
-            Err(error)
-        }
-    }
-}
-
-fn answer<'a>(alloc: Global) -> Result<Command<'a>, Error> {
-    let command = Command::new(alloc, "answer")
-        .about("Answer the packets of standard input as one operator, as with no command")
-        .after_help(help::ANSWER);
-    with_telling(alloc, command)
-}
-
-/// The words that say what is told of the lines.
-fn with_telling<'a>(alloc: Global, command: Command<'a>) -> Result<Command<'a>, Error> {
-    let explain = Arg::new(alloc, "explain")
-        .long("explain")
-        .action(ArgAction::SetTrue)
-        .help("Print on standard error what is wrong with a line, and where");
-    let command = with_arg(command, explain)?;
-    let strict = Arg::new(alloc, "strict")
-        .long("strict")
-        .action(ArgAction::SetTrue)
-        .help("Exit with status 1 where --explain prints something");
-    with_arg(command, strict)
-}
-
-fn play<'a>(alloc: Global) -> Result<Command<'a>, Error> {
-    let store = Arg::new(alloc, "store")
-        .long("store")
-        .value_name("DIR")
-        .help("Keep the rows of each node in a file of this folder");
-    let command = Command::new(alloc, "play")
-        .about("Apply the events of standard input at the operators and providers of a setup")
-        .after_help(help::PLAY)
-        .arg(store)?;
-    with_telling(alloc, command)
-}
-
-/// The word that goes with `store` alone.
-fn existing<'a>(alloc: Global) -> Result<Arg<'a>, Error> {
-    let arg = Arg::new(alloc, "existing")
-        .long("existing")
-        .action(ArgAction::SetTrue)
-        .help("Create no file: refuse where there is none, as at any start but a node's first");
-    Ok(arg.requires_arg("store")?)
-}
-
-fn node<'a>(alloc: Global) -> Result<Command<'a>, Error> {
-    let existing = existing(alloc)?;
-    let party = Arg::new(alloc, "party")
-        .value_name("PARTY")
-        .required(true)
-        .help("The node's party, as BE/BEC");
-    let store = Arg::new(alloc, "store")
-        .long("store")
-        .value_name("FILE")
-        .help("Keep the node's rows in this file, and go on from what it has");
-    let echo = Arg::new(alloc, "echo")
-        .long("echo")
-        .action(ArgAction::SetTrue)
-        .help("Print each line before what it returns");
-    let command = Command::new(alloc, "node")
-        .about("Apply the events of standard input at one node of a setup")
-        .after_help(help::NODE)
-        .arg(party)?;
-    let command = with_arg(command, store)?;
-    let command = with_arg(command, existing)?;
-    let command = with_arg(command, echo)?;
-    with_telling(alloc, command)
-}
-
-fn with_arg<'a>(command: Command<'a>, arg: Arg<'a>) -> Result<Command<'a>, Error> {
-    Ok(command.arg(arg)?)
-}
-
-fn settle<'a>(alloc: Global) -> Result<Command<'a>, Error> {
-    let file = Arg::new(alloc, "file")
-        .value_name("FILE")
-        .required(true)
-        .help("The store of a node");
-    let command = Command::new(alloc, "settle")
-        .about("Print what is owed by the charge detail records of a store")
-        .after_help(help::SETTLE)
-        .arg(file)?;
-    Ok(command)
-}
-
-fn weave<'a>(alloc: Global) -> Result<Command<'a>, Error> {
-    let given = Arg::new(alloc, "given")
-        .long("given")
-        .value_name("PARTY")
-        .action(ArgAction::Append)
-        .help("Take what this party sent as it was received: it has no file here");
-    let files = Arg::new(alloc, "files")
-        .value_name("FILE")
-        .required(true)
-        .action(ArgAction::Append)
-        .help("The transcript of a node, as `node --echo` printed it");
-    let command = Command::new(alloc, "weave")
-        .about("Make one run of the transcripts of several nodes, as input of `play`")
-        .after_help(help::WEAVE)
-        .arg(given)?;
-    with_arg(command, files)
 }
 
 /// The values of an argument, in their order.
