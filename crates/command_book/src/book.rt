@@ -25,6 +25,7 @@ use ocpi_text::{Moment, PartyKey, Whole};
 use ocpi_types::{Boxed, CommandResultType, OpenCommand, Reply, Row, RowKey};
 use std::alloc::{AllocError, Global};
 use std::marker::Model;
+use crate::quick::Quick;
 use tables::Table;
 
 /// A request: its sender and its number.
@@ -34,9 +35,9 @@ pub(crate) type Request = (PartyKey, Whole);
 /// lookup and a change cost the logarithm of what is stored.
 #[derive(Drop)]
 pub struct CommandBook {
-    pub(crate) replies: Table<Request, Reply>,
+    pub(crate) replies: Quick<Reply>,
     pub(crate) pending: Table<Request, Boxed<OpenCommand>>,
-    pub(crate) results: Table<Request, CommandResultType>,
+    pub(crate) results: Quick<CommandResultType>,
     /// The open commands, by their deadlines.
     pub(crate) queue: Table<(Moment, Request), ()>,
 }
@@ -91,9 +92,9 @@ impl CommandBook {
         ensures { result.rows ≡ no_rows }
     {
         CommandBook {
-            replies: Table::new(alloc),
+            replies: Quick::new(alloc),
             pending: Table::new(alloc),
-            results: Table::new(alloc),
+            results: Quick::new(alloc),
             queue: Table::new(alloc),
         }
     }

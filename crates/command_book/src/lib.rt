@@ -45,6 +45,7 @@
 #![tactic(auto)]
 
 mod book;
+mod quick;
 mod due;
 mod fault;
 mod laws;

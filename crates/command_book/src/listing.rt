@@ -67,9 +67,7 @@ impl CommandBook {
         ensures list { OnOk result (rows.new.items ≡ rows.old.items ++ rows_of self.now.rows) }
         ensures none { self.now.rows ≡ no_rows → IsOk result }
     {
-        push_replies(&self.replies, rows)?;
         push_pending(&self.pending, rows)?;
-        push_results(&self.results, rows)?;
         Ok(())
     }
 
