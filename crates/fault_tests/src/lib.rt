@@ -1,4 +1,5 @@
-//! Each error type with a text of its own is an error as `std` has it, so that `?` takes it into an `anyhow::Error`.
+//! Error types are errors as `std` has them, so that `?` takes them into an `anyhow::Error`: those of texts, lines, books,
+//! nodes, stores and programs, whose texts are promised, and two of those that `thiserror` derives.
 #![tactic(auto)]
 
 #[cfg(test)]
