@@ -93,8 +93,12 @@ QUOTES = [
 # A table of the keys 1, 5 and 9 with themselves as values, and the key 3 with room alone: the value of 9; whether 1 stands, and 3 has
 # room, and stands; the first key, that from 2 on and that after 5; all values, and those from 2 on. Then whether 3 has room once that
 # is given back, and once it is taken; the value that was put there; and whether it stands once it was removed.
+# A lookup of the odd numbers below 1,000 with twice themselves, but for the multiples of 3, of which 3 alone has a value: what 3, 4, 5
+# and 9 have; the number of the entries and the sum of their values; what 5 had when it was removed, and whether it stands.
+ODD = [2 * it for it in range(1, 1000, 2) if it % 3] + [7]
 TABLES = [
     ("look_ups", "9 true true false 1 5 9 [ 1 5 9 ] [ 5 9 ]"),
+    ("lookups", f"7 none 10 none {len(ODD)} {sum(ODD)} 10 false"),
     ("changes", "false true 4 false"),
     ("parties", "[ 1 2 3 ]"),
     ("places", "E2 3"),

@@ -1,6 +1,6 @@
 -- The front of the queue, in order, is what is due.
 use Rattle.std.proofs.Common.{◌≡◌, ◌≤◌, ℕ, List, [], ◌++◌, refl, sym, ap, subst, ◌∙◌}
-use Rattle.std.specs.Prelude.{Option, Some, None, Contains}
+use Rattle.std.specs.Prelude.{Option, Some, None}
 use Rattle.std.specs.Option.{option_map}
 use Rattle.std.specs.List.Sorted.{IsSorted, IsPermutation}
 use Rattle.std.specs.FinMap.{get, entries, entries_sorted}

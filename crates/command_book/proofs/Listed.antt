@@ -1,72 +1,70 @@
 -- The rows of a command book as a list, and the command book of a list.
-use Rattle.std.proofs.Common.{◌≡◌, ◌≢◌, ◌↔◌, List, [], ◌∷◌, ◌++◌, map, ◌⊎◌, inl, inr, refl, sym, ap, subst, ◌∙◌}
+use Rattle.std.proofs.Common.{◌≡◌, ◌≢◌, ◌↔◌, List, [], ◌∷◌, ◌++◌, map, ◌⊎◌, inl, inr, sym, ap, subst, ◌∙◌}
 use Rattle.std.specs.Prelude.{Contains}
 use Rattle.std.specs.List.{AllPairs}
-use Rattle.std.specs.FinMap.{FinMap, entries, get, empty, get-empty}
+use Rattle.std.proofs.lemmas.List.{append_assoc}
 use Rattle.std.proofs.lemmas.List.Elements.{Contains-append_left, Contains-append_right, Contains-append_cases}
-use Rattle.tables.specs.Keys.{text_number_cmp, text_number_total, text_number_exact}
-use Rattle.tables.proofs.Options.{not_both}
 use Rattle.tables.proofs.Elements.{in_none, in_single, in_front, of_map, first_pairs, later_pairs, joined}
-use Rattle.tables.proofs.Entries.{found_in, each_in, all_apart, listed_only}
+use Rattle.tables.proofs.Listings.{each_there, found_there, listed_apart}
 use Rattle.ocpi_types.specs.Rows.{key_of}
 use Rattle.ocpi_types.specs.declared.rows.Row.{Row}
 use Rattle.ocpi_types.specs.declared.rows.Row.TheVariants as row
-use Rattle.command_book.specs.Stored.{Request, Rows, no_rows, HasRow, put_row}
-use Rattle.command_book.specs.Listing.{AreRowsOf, put_rows, reply_row, pending_row, result_row, rows_of}
+use Rattle.command_book.specs.Stored.{Rows, no_rows, HasRow, put_row}
+use Rattle.command_book.specs.Listing.{AreKindByKind, AreRowsOf, put_rows, reply_row, pending_row, result_row}
 use Rattle.command_book.proofs.RowChanges.{IsKept, is_kept, no_row, same_rows, same_key, other_key, put_stands, put_alone}
 
 abbrev Apart : Row → Row → Type 0
 Apart a b = key_of a ≢ key_of b
 
--- the rows of each kind, one after the other
-pub rows_are : (s : Rows) → AreRowsOf (rows_of s) s
-rows_are s = record { exact = λ r. (stand r, stands r); apart = differ }
+-- rows kind by kind are those that stand, each once
+pub rows_are : (list : List Row) (s : Rows) → AreKindByKind list s → AreRowsOf list s
+rows_are list s k = subst (λ l. AreRowsOf l s) (sym k.joined) (record { exact = λ r. (stand r, stands r); apart = differ })
   where
     replies : List Row
-    replies = map reply_row (entries s.replies)
+    replies = map reply_row k.replies
 
     pending : List Row
-    pending = map pending_row (entries s.pending)
+    pending = map pending_row k.pending
 
     results : List Row
-    results = map result_row (entries s.results)
+    results = map result_row k.results
 
-    stand : (r : Row) → Contains (rows_of s) r → HasRow s r
+    stand : (r : Row) → Contains (replies ++ pending ++ results) r → HasRow s r
     stand r h = elim (Contains-append_cases (replies ++ pending) results r h) [
       | inl i ↦ elim (Contains-append_cases replies pending r i) [
-        | inl j ↦ each_in text_number_total text_number_exact reply_row s.replies (HasRow s) (λ k x e. e) r j
-        | inr j ↦ each_in text_number_total text_number_exact pending_row s.pending (HasRow s) (λ k x e. e) r j
+        | inl j ↦ each_there reply_row s.replies k.replies k.list_replies (HasRow s) (λ q x e. e) r j
+        | inr j ↦ each_there pending_row s.pending k.pending k.list_pending (HasRow s) (λ q x e. e) r j
       ]
-      | inr i ↦ each_in text_number_total text_number_exact result_row s.results (HasRow s) (λ k x e. e) r i
+      | inr i ↦ each_there result_row s.results k.results k.list_results (HasRow s) (λ q x e. e) r i
     ]
 
-    stands : (r : Row) → HasRow s r → Contains (rows_of s) r
-    stands (row.Reply p n b) h = Contains-append_left (replies ++ pending) results _ (Contains-append_left replies pending _ (found_in text_number_total text_number_exact reply_row s.replies (p, n) b h))
-    stands (row.Pending p n b) h = Contains-append_left (replies ++ pending) results _ (Contains-append_right replies pending _ (found_in text_number_total text_number_exact pending_row s.pending (p, n) b h))
-    stands (row.Result p n b) h = Contains-append_right (replies ++ pending) results _ (found_in text_number_total text_number_exact result_row s.results (p, n) b h)
+    stands : (r : Row) → HasRow s r → Contains (replies ++ pending ++ results) r
+    stands (row.Reply p n b) h = Contains-append_left (replies ++ pending) results _ (Contains-append_left replies pending _ (found_there reply_row s.replies k.replies k.list_replies (p, n) b h))
+    stands (row.Pending p n b) h = Contains-append_left (replies ++ pending) results _ (Contains-append_right replies pending _ (found_there pending_row s.pending k.pending k.list_pending (p, n) b h))
+    stands (row.Result p n b) h = Contains-append_right (replies ++ pending) results _ (found_there result_row s.results k.results k.list_results (p, n) b h)
     stands other h = absurd h
 
     first_two : (x y : Row) → Contains replies x → Contains pending y → Apart x y
     first_two x y i j =
-        let a = of_map reply_row (entries s.replies) x i in
-        let b = of_map pending_row (entries s.pending) y j in
+        let a = of_map reply_row k.replies x i in
+        let b = of_map pending_row k.pending y j in
         subst (λ z. Apart z y) a.2 (subst (λ z. Apart (reply_row a.0) z) b.2 (λ e. absurd (cc)))
 
     last : (x y : Row) → Contains (replies ++ pending) x → Contains results y → Apart x y
     last x y i j =
-        let b = of_map result_row (entries s.results) y j in
+        let b = of_map result_row k.results y j in
         subst (λ z. Apart x z) b.2 (elim (Contains-append_cases replies pending x i) [
-          | inl k ↦ let a = of_map reply_row (entries s.replies) x k in subst (λ z. Apart z (result_row b.0)) a.2 (λ e. absurd (cc))
-          | inr k ↦ let a = of_map pending_row (entries s.pending) x k in subst (λ z. Apart z (result_row b.0)) a.2 (λ e. absurd (cc))
+          | inl j ↦ let a = of_map reply_row k.replies x j in subst (λ z. Apart z (result_row b.0)) a.2 (λ e. absurd (cc))
+          | inr j ↦ let a = of_map pending_row k.pending x j in subst (λ z. Apart z (result_row b.0)) a.2 (λ e. absurd (cc))
         ])
 
-    differ : AllPairs Apart (rows_of s)
+    differ : AllPairs Apart (replies ++ pending ++ results)
     differ =
         joined Apart (replies ++ pending) results
         (joined Apart replies pending
-        (all_apart text_number_total text_number_exact reply_row s.replies Apart (λ a b _ _ apart e. apart (let p : a.0.0 ≡ b.0.0 = cc in let n : a.0.1 ≡ b.0.1 = cc in λ i. (p i, n i))))
-        (all_apart text_number_total text_number_exact pending_row s.pending Apart (λ a b _ _ apart e. apart (let p : a.0.0 ≡ b.0.0 = cc in let n : a.0.1 ≡ b.0.1 = cc in λ i. (p i, n i)))) first_two)
-        (all_apart text_number_total text_number_exact result_row s.results Apart (λ a b _ _ apart e. apart (let p : a.0.0 ≡ b.0.0 = cc in let n : a.0.1 ≡ b.0.1 = cc in λ i. (p i, n i)))) last
+        (listed_apart reply_row s.replies k.replies k.list_replies Apart (λ a b _ _ apart e. apart (let p : a.0.0 ≡ b.0.0 = cc in let n : a.0.1 ≡ b.0.1 = cc in λ i. (p i, n i))))
+        (listed_apart pending_row s.pending k.pending k.list_pending Apart (λ a b _ _ apart e. apart (let p : a.0.0 ≡ b.0.0 = cc in let n : a.0.1 ≡ b.0.1 = cc in λ i. (p i, n i)))) first_two)
+        (listed_apart result_row s.results k.results k.list_results Apart (λ a b _ _ apart e. apart (let p : a.0.0 ≡ b.0.0 = cc in let n : a.0.1 ≡ b.0.1 = cc in λ i. (p i, n i)))) last
 
 -- no row of the list has the key of one that stands
 abbrev AreNew : List Row → Rows → Type 0
@@ -120,10 +118,6 @@ put_rows_of list s h = same_rows (put_rows list no_rows) s (λ r. (
     all : (r : Row) → HasRow (put_rows list no_rows) r ↔ (Contains list r ⊎ HasRow no_rows r)
     all = put_all list no_rows (λ a i. is_kept s a ((h.exact a).0 i)) h.apart (λ a r i none. absurd (no_row r none))
 
--- an empty table has no entries
-pub no_entries : {X : Type 0} (m : FinMap text_number_cmp X) → m ≡ empty → entries m ≡ []
-no_entries {X} m none = go (entries m) (λ e i. not_both e.1 (get m e.0) (ap (λ n. get n e.0) none ∙ get-empty text_number_cmp e.0) (listed_only text_number_total text_number_exact m e.0 e.1 i))
-  where
-    go : (es : List (Request × X)) → ((e : Request × X) → Contains es e → ⊥) → es ≡ []
-    go [] h = refl
-    go (e ∷ es) h = absurd (h e (in_front e es))
+-- three lists are added one after the other
+pub added_up : (before first second after a b c : List Row) → first ≡ before ++ a → second ≡ first ++ b → after ≡ second ++ c → after ≡ before ++ (a ++ b ++ c)
+added_up before first second after a b c x y z = z ∙ ap (λ l. l ++ c) (y ∙ ap (λ l. l ++ b) x ∙ append_assoc before a b) ∙ append_assoc before (a ++ b) c

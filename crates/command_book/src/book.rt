@@ -25,18 +25,19 @@ use ocpi_text::{Moment, PartyKey, Whole};
 use ocpi_types::{Boxed, CommandResultType, OpenCommand, Reply, Row, RowKey};
 use std::alloc::{AllocError, Global};
 use std::marker::Model;
-use tables::Table;
+use tables::{HashSeed, Lookup, Table};
 
 /// A request: its sender and its number.
 pub(crate) type Request = (PartyKey, Whole);
 
-/// The replies to requests, the commands that are open, and the results of commands, each by sender and number. A
-/// lookup and a change cost the logarithm of what is stored.
+/// The replies to requests, the commands that are open, and the results of commands, each by sender and number. What is
+/// kept for good, replies and results, is found by its hash, in constant time. A change costs the logarithm of what is
+/// open.
 #[derive(Drop)]
 pub struct CommandBook {
-    pub(crate) replies: Table<Request, Reply>,
+    pub(crate) replies: Lookup<Request, Reply>,
     pub(crate) pending: Table<Request, Boxed<OpenCommand>>,
-    pub(crate) results: Table<Request, CommandResultType>,
+    pub(crate) results: Lookup<Request, CommandResultType>,
     /// The open commands, by their deadlines.
     pub(crate) queue: Table<(Moment, Request), ()>,
 }
@@ -86,14 +87,15 @@ fn unqueue(
 }
 
 impl CommandBook {
-    /// Nothing is answered, open or settled. It takes no memory.
-    pub fn new(alloc: Global) -> CommandBook
+    /// Nothing is answered, open or settled. It takes no memory. Replies and results are found by hashes that begin
+    /// with the seed.
+    pub fn new(alloc: Global, seed: HashSeed) -> CommandBook
         ensures { result.rows ≡ no_rows }
     {
         CommandBook {
-            replies: Table::new(alloc),
+            replies: Lookup::new(alloc, seed),
             pending: Table::new(alloc),
-            results: Table::new(alloc),
+            results: Lookup::new(alloc, seed),
             queue: Table::new(alloc),
         }
     }

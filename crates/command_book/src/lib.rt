@@ -2,7 +2,7 @@
 //! moment, and how each command ended (OCPI 2.2.1, Commands: CommandResponse and CommandResult).
 //!
 //! ```
-//! let mut book = CommandBook::new(alloc);
+//! let mut book = CommandBook::new(alloc, seed);
 //! book.keep_reply(provider, number, reply)?;
 //! book.open(provider, number, Boxed::new(alloc, open)?)?;
 //! let open = book.opened(provider, number);

@@ -1,20 +1,21 @@
 //! The rows of a command book as a list, and a copy of a command book.
 
-ghost use Rattle.std.specs.Prelude.{◌≡◌, ◌++◌, [], IfOk, IsOk, OnErr, OnOk, map};
-ghost use Rattle.std.specs.FinMap.{entries};
+ghost use Rattle.std.specs.Prelude.{◌≡◌, ◌++◌, List, IfOk, IsOk, OnErr, OnOk};
+ghost use Rattle.std.specs.FinMap.{empty};
+ghost use Rattle.ocpi_types.specs.declared.rows.Row.{Row as RowOf};
 ghost use Rattle.tables.specs.Keys.{text_number_cmp};
 ghost use Rattle.tables.specs.Tables.{shown_of};
 ghost use Rattle.command_book.specs.Stored.{no_rows};
-ghost use Rattle.command_book.specs.Listing.{AreRowsOf, put_rows, rows_of, reply_row, pending_row, result_row};
+ghost use Rattle.command_book.specs.Listing.{AddsRows, AreKindByKind, AreRowsOf, put_rows, reply_row, pending_row, result_row};
 
 use crate::book::{CommandBook, Request};
 use ocpi_types::{Boxed, CommandResultType, OpenCommand, Reply, Row};
 use std::alloc::{AllocError, Global};
-use tables::Table;
+use tables::{HashSeed, Lookup, Table};
 
-fn push_replies(replies: &Table<Request, Reply>, rows: &mut Vec<Row>) -> Result<(), AllocError>
-    ensures list { OnOk result (rows.new.items ≡ rows.old.items ++ map reply_row (entries (shown_of text_number_cmp replies.now))) }
-    ensures none { entries (shown_of text_number_cmp replies.now) ≡ [] → IsOk result }
+fn push_replies(replies: &Lookup<Request, Reply>, rows: &mut Vec<Row>) -> Result<(), AllocError>
+    ensures list { OnOk result (AddsRows reply_row (shown_of text_number_cmp replies.now) rows.old.items rows.new.items) }
+    ensures none { shown_of text_number_cmp replies.now ≡ empty → IsOk result }
 {
     for (request, reply) in replies.iter() {
         rows.push(Row::Reply {
@@ -30,8 +31,8 @@ fn push_pending(
     pending: &Table<Request, Boxed<OpenCommand>>,
     rows: &mut Vec<Row>,
 ) -> Result<(), AllocError>
-    ensures list { OnOk result (rows.new.items ≡ rows.old.items ++ map pending_row (entries (shown_of text_number_cmp pending.now))) }
-    ensures none { entries (shown_of text_number_cmp pending.now) ≡ [] → IsOk result }
+    ensures list { OnOk result (AddsRows pending_row (shown_of text_number_cmp pending.now) rows.old.items rows.new.items) }
+    ensures none { shown_of text_number_cmp pending.now ≡ empty → IsOk result }
 {
     for (request, open) in pending.iter() {
         let open = open.copy()?;
@@ -45,11 +46,11 @@ fn push_pending(
 }
 
 fn push_results(
-    results: &Table<Request, CommandResultType>,
+    results: &Lookup<Request, CommandResultType>,
     rows: &mut Vec<Row>,
 ) -> Result<(), AllocError>
-    ensures list { OnOk result (rows.new.items ≡ rows.old.items ++ map result_row (entries (shown_of text_number_cmp results.now))) }
-    ensures none { entries (shown_of text_number_cmp results.now) ≡ [] → IsOk result }
+    ensures list { OnOk result (AddsRows result_row (shown_of text_number_cmp results.now) rows.old.items rows.new.items) }
+    ensures none { shown_of text_number_cmp results.now ≡ empty → IsOk result }
 {
     for (request, outcome) in results.iter() {
         rows.push(Row::Result {
@@ -62,9 +63,9 @@ fn push_results(
 }
 
 impl CommandBook {
-    /// The rows kind by kind, each in the order of its keys.
+    /// Adds the rows kind by kind.
     fn push_rows(&self, rows: &mut Vec<Row>) -> Result<(), AllocError>
-        ensures list { OnOk result (rows.new.items ≡ rows.old.items ++ rows_of self.now.rows) }
+        ensures list { OnOk result ((list : List RowOf) × AreKindByKind list self.now.rows × (rows.new.items ≡ rows.old.items ++ list)) }
         ensures none { self.now.rows ≡ no_rows → IsOk result }
     {
         push_replies(&self.replies, rows)?;
@@ -93,12 +94,12 @@ impl CommandBook {
         Ok(())
     }
 
-    /// A command book with the same rows. An error is want of memory.
-    pub fn copy(&self, alloc: Global) -> Result<CommandBook, AllocError>
+    /// A command book with the same rows, whose hashes begin with the seed. An error is want of memory.
+    pub fn copy(&self, alloc: Global, seed: HashSeed) -> Result<CommandBook, AllocError>
         ensures { IfOk result (λ b. b.rows ≡ self.now.rows) }
     {
         let rows = self.rows(alloc)?;
-        let mut copy = CommandBook::new(alloc);
+        let mut copy = CommandBook::new(alloc, seed);
         copy.add_rows(rows)?;
         Ok(copy)
     }

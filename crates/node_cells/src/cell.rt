@@ -24,6 +24,7 @@ use std::alloc::Global;
 use std::marker::Model;
 use stored_laws::laws::nodes_can_start_again;
 use stored_nodes::{Reopened, StoredNode, Unopened};
+use tables::HashSeed;
 
 /// A node whose rows are kept, with all that happened at it since it was opened, up to 100,000 events.
 ///
@@ -77,6 +78,7 @@ impl<K: Keep> NodeCell<K> {
     /// An error is want of memory, and hands the keeper back.
     pub fn open(
         alloc: Global,
+        seed: HashSeed,
         nodes: &[SetupNode],
         member: &SetupNode,
         keep: K,
@@ -95,7 +97,7 @@ impl<K: Keep> NodeCell<K> {
         }) }
         ensures err { IfErr result (λ k. k ≡ keep) }
     {
-        match StoredNode::open(alloc, nodes, member, keep) {
+        match StoredNode::open(alloc, seed, nodes, member, keep) {
             Ok(stored) => {
                 stored.is_stored();
                 let first = Past::new().note(&stored);
@@ -117,6 +119,7 @@ impl<K: Keep> NodeCell<K> {
     /// hands the keeper back, which keeps what it kept.
     pub fn reopen(
         alloc: Global,
+        seed: HashSeed,
         nodes: &[SetupNode],
         member: &SetupNode,
         keep: K,
@@ -133,7 +136,7 @@ impl<K: Keep> NodeCell<K> {
         ensures err { IfErr result (λ e. IsReopenFault (keeper_of K.content K.is_honest K.refusals K.may_leave) nodes.now member.now keep e.fault e.keep) }
         ensures kept { IfErr result (λ e. KeepsOn (keeper_of K.content K.is_honest K.refusals K.may_leave) keep e.keep) }
     {
-        match StoredNode::reopen(alloc, nodes, member, keep) {
+        match StoredNode::reopen(alloc, seed, nodes, member, keep) {
             Ok(reopened) => {
                 let Reopened { node, rows: _ } = reopened;
                 node.is_stored();

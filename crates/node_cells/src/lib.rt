@@ -1,7 +1,7 @@
 //! A node over its keeper, with the history of all that happened at it since it was opened.
 //!
 //! ```
-//! let mut cell = NodeCell::open(alloc, setup.as_slice(), member, keep)?;
+//! let mut cell = NodeCell::open(alloc, seed, setup.as_slice(), member, keep)?;
 //! let packets = cell.apply(event)?;
 //! let entries = cell.history();
 //! ```

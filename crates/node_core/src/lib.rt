@@ -1,7 +1,7 @@
 //! A node of either role: how it is opened or made of its rows, what it plans, and how it carries that out.
 //!
 //! ```
-//! let mut node = Node::open(alloc, nodes, member)?;
+//! let mut node = Node::open(alloc, seed, nodes, member)?;
 //! match node.plan(&NodeInput::Tick { at })? {
 //!     NodePlan::Skipped => {}
 //!     NodePlan::Refused(fault) => {}

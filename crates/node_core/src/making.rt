@@ -17,10 +17,12 @@ use operator_core::Operator;
 use provider_core::Provider;
 use std::alloc::Global;
 use stored_rows::RowsFault;
+use tables::HashSeed;
 
 /// The operator of that site that has just these rows.
 fn operator_of_rows(
     alloc: Global,
+    seed: HashSeed,
     nodes: &[SetupNode],
     party: &Party,
     site: &Site,
@@ -34,7 +36,7 @@ fn operator_of_rows(
     ensures good { (s : NodeState) → CanStartAgain s → StartsAgainFrom nodes.now (member.Operator party.now site.now) rows.items s → IfErr result (λ e. e ≡ RowsFault.Memory) }
 {
     let line = site_line(alloc, nodes, party, site)?;
-    match Operator::from_rows(alloc, line, rows) {
+    match Operator::from_rows(alloc, seed, line, rows) {
         Ok(operator) => Ok(Node::Operator(operator)),
         Err(fault) => Err(fault),
     }
@@ -43,6 +45,7 @@ fn operator_of_rows(
 /// The provider of that party that has just these rows.
 fn provider_of_rows(
     alloc: Global,
+    seed: HashSeed,
     nodes: &[SetupNode],
     party: &Party,
     rows: Vec<Row>,
@@ -55,7 +58,7 @@ fn provider_of_rows(
     ensures good { (s : NodeState) → CanStartAgain s → StartsAgainFrom nodes.now (member.Provider party.now) rows.items s → IfErr result (λ e. e ≡ RowsFault.Memory) }
 {
     let peers = peers(alloc, nodes, party)?;
-    match Provider::from_rows(alloc, peers, rows) {
+    match Provider::from_rows(alloc, seed, peers, rows) {
         Ok(provider) => Ok(Node::Provider(provider)),
         Err(fault) => Err(fault),
     }
@@ -68,6 +71,7 @@ impl Node {
     /// told, and what is wrong with it.
     pub fn from_rows(
         alloc: Global,
+        seed: HashSeed,
         nodes: &[SetupNode],
         member: &SetupNode,
         rows: Vec<Row>,
@@ -81,9 +85,9 @@ impl Node {
     {
         match member {
             SetupNode::Operator { party, site } => {
-                operator_of_rows(alloc, nodes, party, site, rows)
+                operator_of_rows(alloc, seed, nodes, party, site, rows)
             }
-            SetupNode::Provider { party } => provider_of_rows(alloc, nodes, party, rows),
+            SetupNode::Provider { party } => provider_of_rows(alloc, seed, nodes, party, rows),
         }
     }
 }

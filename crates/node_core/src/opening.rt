@@ -19,6 +19,7 @@ use operator_core::Operator;
 use provider_core::Provider;
 use provider_rows::Peers;
 use std::alloc::{AllocError, Global};
+use tables::HashSeed;
 
 /// Adds the party of a provider.
 fn push_provider(parties: &mut Vec<Party>, member: &SetupNode) -> Result<(), AllocError>
@@ -111,6 +112,7 @@ pub(crate) fn peers(alloc: Global, nodes: &[SetupNode], party: &Party) -> Result
 /// An operator of that site, and all providers among the nodes. An error is want of memory.
 fn open_operator(
     alloc: Global,
+    seed: HashSeed,
     nodes: &[SetupNode],
     party: &Party,
     site: &Site,
@@ -120,32 +122,42 @@ fn open_operator(
     ensures { IfOk result (λ o. o.state ≡ operator.opening (line_of nodes.now party.now site.now)) }
 {
     let line = site_line(alloc, nodes, party, site)?;
-    Operator::new(alloc, line)
+    Operator::new(alloc, seed, line)
 }
 
 /// A provider, and all operators among the nodes. An error is want of memory.
-fn open_provider(alloc: Global, nodes: &[SetupNode], party: &Party) -> Result<Provider, AllocError>
+fn open_provider(
+    alloc: Global,
+    seed: HashSeed,
+    nodes: &[SetupNode],
+    party: &Party,
+) -> Result<Provider, AllocError>
     requires setup { IsSetup nodes.now }
     requires member { Contains nodes.now (node.Provider party.now) }
     ensures { IfOk result (λ p. p.state ≡ provider.opening (peers_of nodes.now party.now)) }
 {
-    Ok(Provider::new(alloc, peers(alloc, nodes, party)?))
+    Ok(Provider::new(alloc, seed, peers(alloc, nodes, party)?))
 }
 
 impl Node {
     /// A node of a setup before its first event: an operator with all providers among the nodes, or a provider with all
     /// operators. An error is want of memory.
-    pub fn open(alloc: Global, nodes: &[SetupNode], member: &SetupNode) -> Result<Node, AllocError>
+    pub fn open(
+        alloc: Global,
+        seed: HashSeed,
+        nodes: &[SetupNode],
+        member: &SetupNode,
+    ) -> Result<Node, AllocError>
         requires setup { IsSetup nodes.now }
         requires member { Contains nodes.now member.now }
         ensures { IfOk result (λ n. state_of n ≡ opening_of nodes.now member.now) }
     {
         match member {
             SetupNode::Operator { party, site } => {
-                Ok(Node::Operator(open_operator(alloc, nodes, party, site)?))
+                Ok(Node::Operator(open_operator(alloc, seed, nodes, party, site)?))
             }
             SetupNode::Provider { party } => {
-                Ok(Node::Provider(open_provider(alloc, nodes, party)?))
+                Ok(Node::Provider(open_provider(alloc, seed, nodes, party)?))
             }
         }
     }

@@ -17,6 +17,7 @@ use node_store::ListKeep;
 use ocpi_text::Party;
 use ocpi_types::{Node, Packet};
 use std::alloc::Global;
+use tables::HashSeed;
 
 /// A node between two rounds, and the links to it.
 #[derive(Drop)]
@@ -55,7 +56,8 @@ fn open_cell(alloc: Global, nodes: &[Node], member: &Node) -> Result<NodeCell<Li
     requires member { Contains nodes.now member.now }
     ensures { IfOk result (IsOfSetup nodes.now) }
 {
-    match NodeCell::open(alloc, nodes, member, ListKeep::new(alloc)) {
+    let seed = HashSeed::fixed();
+    match NodeCell::open(alloc, seed, nodes, member, ListKeep::new(alloc)) {
         Ok(cell) => Ok(cell),
         Err(_) => Err(RunFault::Memory),
     }

@@ -20,6 +20,7 @@ use program_lines::{refuse, write_packets};
 use std::alloc::{AllocError, Global};
 use std::io::{BufRead, Write};
 use std::marker::Model;
+use tables::HashSeed;
 
 /// The operator, and the moment at which each packet comes.
 pub struct Running {
@@ -72,6 +73,7 @@ impl Running {
 #[derive(Drop)]
 struct Program {
     alloc: Global,
+    seed: HashSeed,
     scratch: Scratch,
     running: Option<Running>,
 }
@@ -90,11 +92,12 @@ impl Model for Program {
 }
 
 impl Program {
-    fn new(alloc: Global) -> Program
+    fn new(alloc: Global, seed: HashSeed) -> Program
         ensures { result ≡ None }
     {
         Program {
             alloc,
+            seed,
             scratch: Scratch::new(alloc),
             running: None,
         }
@@ -117,6 +120,7 @@ impl AnswerLines for Program {
         }
         answer_site(
             self.alloc,
+            self.seed,
             &mut self.scratch,
             &mut self.running,
             line,
@@ -138,19 +142,25 @@ impl AnswerLines for Program {
 }
 
 /// The operator of a site line, at the moment of that line.
-fn open(alloc: Global, scratch: &mut Scratch, line: &[u8]) -> Result<Running, JsonFault>
+fn open(
+    alloc: Global,
+    seed: HashSeed,
+    scratch: &mut Scratch,
+    line: &[u8],
+) -> Result<Running, JsonFault>
     ensures ok { IfOk result (λ r. (site : SiteLineOf) × (site_in line.now ≡ Ok site) × (r ≡ made_by site)) }
     ensures err { IfErr result (λ fault. Fails fault (site_in line.now)) }
 {
     let site = read_site(alloc, scratch, line)?;
     let at = site.at;
-    let operator = Operator::new(alloc, site)?;
+    let operator = Operator::new(alloc, seed, site)?;
     Ok(Running { at, operator })
 }
 
 /// Makes the operator of a site line, where there is none.
 fn answer_site(
     alloc: Global,
+    seed: HashSeed,
     scratch: &mut Scratch,
     running: &mut Option<Running>,
     line: &[u8],
@@ -161,7 +171,7 @@ fn answer_site(
         × SiteTurn line.now turn out running.new) }
     ensures err { IfErr result (λ _. (turn : TurnOf) × (out : List ℕ) × SiteTurn line.now turn out running.new) }
 {
-    match open(alloc, scratch, line) {
+    match open(alloc, seed, scratch, line) {
         Ok(opened) => {
             *running = Some(opened);
             Ok(Turn::Taken)
@@ -228,6 +238,7 @@ fn answer_packet(
 /// 1,000,000,000 lines are read. What was answered is flushed before each read that may wait, and at the end.
 pub fn run_answer<R: BufRead, W: Write>(
     alloc: Global,
+    seed: HashSeed,
     input: &mut LineReader<R>,
     writer: &mut W,
 ) -> Result<Ran, RunFault>
@@ -241,6 +252,6 @@ pub fn run_answer<R: BufRead, W: Write>(
     ensures failed { result ≡ Err RunFault.ReadFailed → input.new.failed ≡ true }
     ensures reads { ReadsFewLines (R.Read.remaining input.old.reader) (R.Read.remaining input.new.reader) }
 {
-    let mut answering = Program::new(alloc);
+    let mut answering = Program::new(alloc, seed);
     run_whole(alloc, &mut answering, input, writer)
 }

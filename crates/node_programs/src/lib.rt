@@ -4,7 +4,7 @@
 //! ```
 //! let mut input = LineReader::new(reader);
 //! let mut kept = Vec::new(alloc);
-//! let ran = run_play(alloc, &mut input, &mut writer, ListKeeps::new(alloc), &mut kept);
+//! let ran = run_play(alloc, seed, &mut input, &mut writer, ListKeeps::new(alloc), &mut kept);
 //! let status = status_after_play(ran);
 //! ```
 //!

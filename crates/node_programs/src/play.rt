@@ -38,6 +38,7 @@ use program_lines::{refuse, write_packets};
 use std::alloc::{AllocError, Global};
 use std::io::{BufRead, Write};
 use std::marker::Model;
+use tables::HashSeed;
 use world::{Outcome, World};
 
 /// The world, the setup that it was opened from, and the keepers of its nodes.
@@ -85,6 +86,7 @@ impl<K> Played<K> {
 #[derive(Drop)]
 struct Program<K, S> {
     alloc: Global,
+    seed: HashSeed,
     scratch: Scratch,
     keeps: S,
     played: Option<Played<K>>,
@@ -104,11 +106,12 @@ impl<K, S> Model for Program<K, S> {
 }
 
 impl<K, S> Program<K, S> {
-    fn new(alloc: Global, keeps: S) -> Program<K, S>
+    fn new(alloc: Global, seed: HashSeed, keeps: S) -> Program<K, S>
         ensures { result ≡ opening }
     {
         Program {
             alloc,
+            seed,
             scratch: Scratch::new(alloc),
             keeps,
             played: None,
@@ -125,6 +128,7 @@ impl<K, S: Drop> Program<K, S> {
     {
         let Program {
             alloc,
+            seed: _,
             scratch,
             keeps,
             played,
@@ -162,6 +166,7 @@ impl<K: Keep + Drop, S: Keeps<Kept = K>> AnswerLines for Program<K, S> {
         }
         play_setup(
             self.alloc,
+            self.seed,
             &mut self.scratch,
             &mut self.keeps,
             &mut self.played,
@@ -188,12 +193,17 @@ impl<K: Keep + Drop, S: Keeps<Kept = K>> AnswerLines for Program<K, S> {
 }
 
 /// The setup of a line, and its world, in which nothing has happened.
-fn open(alloc: Global, scratch: &mut Scratch, line: &[u8]) -> Result<(Setup, World), JsonFault>
+fn open(
+    alloc: Global,
+    seed: HashSeed,
+    scratch: &mut Scratch,
+    line: &[u8],
+) -> Result<(Setup, World), JsonFault>
     ensures ok { IfOk result (λ p. (setup_in line.now ≡ Ok p.0) × (p.1.places ≡ opened p.0)) }
     ensures err { IfErr result (λ fault. Fails fault (setup_in line.now)) }
 {
     let setup = read_setup(alloc, scratch, line)?;
-    let world = World::open(alloc, &setup)?;
+    let world = World::open(alloc, seed, &setup)?;
     Ok((setup, world))
 }
 
@@ -215,6 +225,7 @@ fn keep_world<S: Keeps>(
 /// Opens the world of a setup line, where there is none.
 fn play_setup<K: Keep + Drop, S: Keeps<Kept = K>>(
     alloc: Global,
+    seed: HashSeed,
     scratch: &mut Scratch,
     keeps: &mut S,
     played: &mut Option<Played<K>>,
@@ -230,7 +241,7 @@ fn play_setup<K: Keep + Drop, S: Keeps<Kept = K>>(
         × SetupTurn (keeping_of K.content K.is_honest K.refusals) S.may_refuse stop.old line.now turn out
         (record { playing = played.new; stop = stop.new })) }
 {
-    let (setup, world) = match open(alloc, scratch, line) {
+    let (setup, world) = match open(alloc, seed, scratch, line) {
         Ok(opened) => opened,
         Err(fault) => {
             refuse(output, fault)?;
@@ -373,6 +384,7 @@ fn ended(ran: Result<Ran, RunFault>, stop: Option<StoreFault>) -> Result<Ran, Pl
 /// read that may wait, and at the end.
 pub fn run_play<R: BufRead, W: Write, S: Keeps + Drop>(
     alloc: Global,
+    seed: HashSeed,
     input: &mut LineReader<R>,
     writer: &mut W,
     keeps: S,
@@ -391,7 +403,7 @@ pub fn run_play<R: BufRead, W: Write, S: Keeps + Drop>(
     ensures failed { result ≡ Err (PlayFault.Run RunFault.ReadFailed) → input.new.failed ≡ true }
     ensures reads { ReadsFewLines (R.Read.remaining input.old.reader) (R.Read.remaining input.new.reader) }
 {
-    let mut playing: Program<S::Kept, S> = Program::new(alloc, keeps);
+    let mut playing: Program<S::Kept, S> = Program::new(alloc, seed, keeps);
     let ran = run_whole(alloc, &mut playing, input, writer);
     let (left, stop) = playing.close();
     *kept = left;

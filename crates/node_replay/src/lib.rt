@@ -1,7 +1,7 @@
 //! A node of a setup that is carried through what happened at it, event by event, with no keeper of its rows.
 //!
 //! ```
-//! let mut replay = NodeReplay::open(alloc, nodes, member)?;
+//! let mut replay = NodeReplay::open(alloc, seed, nodes, member)?;
 //! let replayed = replay.apply(event)?;
 //! let entries = replay.entries();
 //! ```

@@ -20,12 +20,14 @@ use std::alloc::{AllocError, Global};
 use std::marker::Model;
 use stored_laws::laws::{nodes_can_start_again, openings_can_start_again};
 use stored_rows::RowsFault;
+use tables::HashSeed;
 
 /// A node of a setup, with all that happened at it since it was opened, however much that is. Nothing keeps its rows.
 ///
 /// At any time the node is what its entries made of it, one by one, each by a step of its own.
 pub struct NodeReplay<'a> {
     alloc: Global,
+    seed: HashSeed,
     nodes: &'a [SetupNode],
     member: &'a SetupNode,
     node: Node,
@@ -37,6 +39,7 @@ impl<'a> Drop for NodeReplay<'a> {
     fn drop(self) {
         let NodeReplay {
             alloc: _,
+            seed: _,
             nodes: _,
             member: _,
             node: _,
@@ -63,6 +66,7 @@ impl<'a> Model for NodeReplay<'a> {
 /// The same node, made of its rows, as it starts again. An error is want of memory.
 fn made_again(
     alloc: Global,
+    seed: HashSeed,
     nodes: &[SetupNode],
     member: &SetupNode,
     node: &Node,
@@ -74,7 +78,7 @@ fn made_again(
     ensures { IfOk result (λ n. state_of n ≡ restarted (state_of node.now)) }
 {
     let rows = node.stored()?;
-    match Node::from_rows(alloc, nodes, member, rows) {
+    match Node::from_rows(alloc, seed, nodes, member, rows) {
         Ok(again) => Ok(again),
         Err(RowsFault::Memory) => Err(AllocError),
         Err(RowsFault::BadRows(_)) => unreachable!(),
@@ -85,6 +89,7 @@ impl<'a> NodeReplay<'a> {
     /// A node of a setup before its first event. An error is want of memory.
     pub fn open(
         alloc: Global,
+        seed: HashSeed,
         nodes: &'a [SetupNode],
         member: &'a SetupNode,
     ) -> Result<NodeReplay<'a>, AllocError>
@@ -99,9 +104,10 @@ impl<'a> NodeReplay<'a> {
     {
         openings_can_start_again();
         nodes_keep_openings();
-        let node = Node::open(alloc, nodes, member)?;
+        let node = Node::open(alloc, seed, nodes, member)?;
         Ok(NodeReplay {
             alloc,
+            seed,
             nodes,
             member,
             node,
@@ -186,10 +192,11 @@ impl<'a> NodeReplay<'a> {
     {
         restarts_can_start_again();
         nodes_keep_openings();
-        let node = made_again(self.alloc, self.nodes, self.member, &self.node)?;
+        let node = made_again(self.alloc, self.seed, self.nodes, self.member, &self.node)?;
         let entries = restarted_copies(self.alloc, self.entries.as_slice())?;
         Ok(NodeReplay {
             alloc: self.alloc,
+            seed: self.seed,
             nodes: self.nodes,
             member: self.member,
             node,

@@ -21,6 +21,7 @@ use ocpi_types::{Node, Setup};
 use std::alloc::Global;
 use std::marker::Model;
 use stored_nodes::{Reopened, StoredNode, Unopened};
+use tables::HashSeed;
 
 /// A node over its keeper, and its party as the setup spells it.
 pub struct Running<K: Keep> {
@@ -104,6 +105,7 @@ fn member_of<'a>(nodes: &'a [Node], wanted: &Option<Party>) -> Option<&'a Node>
 /// that keeps. Where the setup has no such node, no keeper is opened.
 pub fn begin<S: Keeps>(
     alloc: Global,
+    seed: HashSeed,
     keeps: &mut S,
     wanted: &Option<Party>,
     setup: Setup,
@@ -125,7 +127,7 @@ pub fn begin<S: Keeps>(
         });
     };
     match keeps.open(1) {
-        Ok(keep) => begin_over(alloc, nodes, member, keep),
+        Ok(keep) => begin_over(alloc, seed, nodes, member, keep),
         Err(fault) => Err(Unbegun {
             keep: None,
             stop: NodeStop::Store(fault),
@@ -136,6 +138,7 @@ pub fn begin<S: Keeps>(
 /// Makes a node of what that keeper keeps.
 fn begin_over<K: Keep>(
     alloc: Global,
+    seed: HashSeed,
     nodes: &[Node],
     member: &Node,
     keep: K,
@@ -149,7 +152,7 @@ fn begin_over<K: Keep>(
         × (unmade : Unmade (keeper_of K.content K.is_honest K.refusals K.may_leave) nodes.now member.now fault k) × (unmade.fresh ≡ keep)
         × (u.keep ≡ Some k) × (u.stop ≡ stop_of fault)) }
 {
-    match StoredNode::reopen(alloc, nodes, member, keep) {
+    match StoredNode::reopen(alloc, seed, nodes, member, keep) {
         Ok(reopened) => {
             let Reopened { node, rows } = reopened;
             let party = *member.party();

@@ -5,7 +5,7 @@
 //! ```
 //! let mut input = LineReader::new(reader);
 //! let mut kept = None;
-//! let ran = run_node(alloc, &mut input, &mut writer, "BE/BEC", false, ListKeeps::new(alloc), &mut kept);
+//! let ran = run_node(alloc, seed, &mut input, &mut writer, "BE/BEC", false, keeps, &mut kept);
 //! let status = status_after_node(ran);
 //! ```
 //!

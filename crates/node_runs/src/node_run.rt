@@ -29,12 +29,14 @@ use ocpi_text::Party;
 use std::alloc::{AllocError, Global};
 use std::io::{BufRead, Write};
 use std::marker::Model;
+use tables::HashSeed;
 
 /// What the lines so far have made: a node, from the first on, or a keeper of which none was made; and what stopped the
 /// run, where that was neither reading nor writing.
 #[derive(Drop)]
 struct Program<K: Keep, S: Keeps<Kept = K>> {
     alloc: Global,
+    seed: HashSeed,
     scratch: Scratch,
     wanted: Option<Party>,
     keeps: S,
@@ -56,11 +58,12 @@ impl<K: Keep, S: Keeps<Kept = K>> Model for Program<K, S> {
 }
 
 impl<K: Keep, S: Keeps<Kept = K>> Program<K, S> {
-    fn new(alloc: Global, wanted: Option<Party>, keeps: S) -> Program<K, S>
+    fn new(alloc: Global, seed: HashSeed, wanted: Option<Party>, keeps: S) -> Program<K, S>
         ensures { result ≡ opening wanted (S.opened keeps) }
     {
         Program {
             alloc,
+            seed,
             scratch: Scratch::new(alloc),
             wanted,
             keeps,
@@ -80,6 +83,7 @@ impl<K: Keep + Drop, S: Keeps<Kept = K> + Drop> Program<K, S> {
     {
         let Program {
             alloc: _,
+            seed: _,
             scratch,
             wanted: _,
             keeps,
@@ -163,7 +167,7 @@ impl<K: Keep + Drop, S: Keeps<Kept = K>> Program<K, S> {
                 return Ok(Turn::Ended);
             }
         };
-        match begin(self.alloc, &mut self.keeps, &self.wanted, setup) {
+        match begin(self.alloc, self.seed, &mut self.keeps, &self.wanted, setup) {
             Ok(begun) => self.take_begun(begun, number, output),
             Err(unbegun) => {
                 let Unbegun { keep, stop } = unbegun;
@@ -265,6 +269,7 @@ fn ended(ran: Result<Ran, RunFault>, stop: Option<NodeStop>) -> Result<Ran, Node
 /// is read, and an echo before its line is carried out.
 pub fn run_node<R: BufRead, W: Write, S: Keeps + Drop>(
     alloc: Global,
+    seed: HashSeed,
     input: &mut LineReader<R>,
     writer: &mut W,
     party: &str,
@@ -286,7 +291,7 @@ pub fn run_node<R: BufRead, W: Write, S: Keeps + Drop>(
     ensures reads { ReadsFewLines (R.Read.remaining input.old.reader) (R.Read.remaining input.new.reader) }
 {
     let wanted = asked_for(party);
-    let mut program: Program<S::Kept, S> = Program::new(alloc, wanted, keeps);
+    let mut program: Program<S::Kept, S> = Program::new(alloc, seed, wanted, keeps);
     let ran = run_numbered(alloc, &mut program, input, writer, echo);
     let (left, stop) = program.close();
     *kept = left;

@@ -35,11 +35,15 @@ use ocpi_types::Row;
 use sqlite::{Start, Unknown};
 use std::io::{self, BufReader, BufWriter, IsTerminal, Write};
 use std::process::ExitCode;
+use tables::HashSeed;
 use watching::{Lines, lines_of, status_with, watch_in};
 use weaving::{report_weave, weave_files};
 
 /// What one read asks for, and what is written at once, in bytes.
 const BUFFER_BYTES: usize = 65_536;
+
+/// The exit status where the system gave no random bytes: a read failed.
+const WITHOUT_SEED: u8 = 1;
 
 fn main(rt: HostRuntime) -> ExitCode {
     ExitCode::from(run_program(&rt))
@@ -89,37 +93,49 @@ fn say(rt: &HostRuntime, text: &Error) -> u8
     status_after(text, is_printed)
 }
 
-/// Runs a program to the standard output, says what stopped it, and answers the exit status.
+/// Runs a program to the standard output, says what stopped it, and answers the exit status. What it looks up by a hash
+/// is hashed from a seed that nobody can foresee.
 fn run_word(rt: &HostRuntime, word: Word<'_>) -> u8 {
+    match HashSeed::random(rt) {
+        Ok(seed) => run_seeded(rt, seed, word),
+        Err(_) => {
+            let _ = eprintln!(rt; "error: the system gave no random bytes");
+            WITHOUT_SEED
+        }
+    }
+}
+
+/// Runs a program whose hashes begin with that seed.
+fn run_seeded(rt: &HostRuntime, seed: HashSeed, word: Word<'_>) -> u8 {
     match word {
-        Word::Answer(telling) => run_answer_word(rt, telling),
-        Word::Play(words) => run_play_word(rt, &words),
+        Word::Answer(telling) => run_answer_word(rt, seed, telling),
+        Word::Play(words) => run_play_word(rt, seed, &words),
         Word::Settle(file) => run_settle_word(rt, file),
-        Word::Node(words) => run_node_word(rt, &words),
-        Word::Weave(words) => report_weave(rt, weave_files(rt, &words)),
+        Word::Node(words) => run_node_word(rt, seed, &words),
+        Word::Weave(words) => report_weave(rt, weave_files(rt, seed, &words)),
     }
 }
 
 /// Runs `answer`, says what stopped it, and answers the exit status.
-fn run_answer_word(rt: &HostRuntime, telling: Telling) -> u8 {
+fn run_answer_word(rt: &HostRuntime, seed: HashSeed, telling: Telling) -> u8 {
     let told = Told::new(rt.alloc());
     let lines = lines_of(rt, Program::Answer, telling, false);
-    let ran = answer_buffered(rt, watch_in(&lines, telling));
+    let ran = answer_buffered(rt, seed, watch_in(&lines, telling));
     status_with(report(rt, ran, &told), telling, lines)
 }
 
 /// Runs `play`, says what stopped it, and answers the exit status.
-fn run_play_word(rt: &HostRuntime, words: &PlayWords<'_>) -> u8 {
+fn run_play_word(rt: &HostRuntime, seed: HashSeed, words: &PlayWords<'_>) -> u8 {
     let telling = words.telling;
     let mut told = Told::new(rt.alloc());
     let lines = lines_of(rt, Program::Play, telling, false);
     let watch = watch_in(&lines, telling);
     let ran = match words.folder {
-        None => play_buffered(rt, watch, &mut told),
+        None => play_buffered(rt, seed, watch, &mut told),
         // With no buffer, what an event gives is written before the next event is carried out.
         Some(folder) => {
             let mut writer = WatchedWriter::new(io::writer(rt), watch);
-            play_in_files(rt, &mut writer, watch, folder, &mut told)
+            play_in_files(rt, seed, &mut writer, watch, folder, &mut told)
         }
     };
     status_with(report(rt, ran, &told), telling, lines)
@@ -133,20 +149,24 @@ fn run_settle_word(rt: &HostRuntime, file: &str) -> u8 {
 }
 
 /// Runs one node, says what stopped it, and answers the exit status.
-fn run_node_word(rt: &HostRuntime, words: &NodeWords<'_>) -> u8 {
+fn run_node_word(rt: &HostRuntime, seed: HashSeed, words: &NodeWords<'_>) -> u8 {
     let telling = words.telling;
     let mut besides = None;
     let lines = lines_of(rt, Program::Node(words.party), telling, words.echo);
-    let ran = run_one_node(rt, words, watch_in(&lines, telling), &mut besides);
+    let ran = run_one_node(rt, seed, words, watch_in(&lines, telling), &mut besides);
     status_with(report_node(rt, ran, besides, words), telling, lines)
 }
 
 /// Answers the standard input to the standard output.
-fn answer_buffered(rt: &HostRuntime, watch: Option<&Lines<'_>>) -> Result<Ran, PlayFault> {
+fn answer_buffered(
+    rt: &HostRuntime,
+    seed: HashSeed,
+    watch: Option<&Lines<'_>>,
+) -> Result<Ran, PlayFault> {
     match BufWriter::with_capacity(rt.alloc(), BUFFER_BYTES, io::writer(rt)) {
         Ok(writer) => {
             let mut writer = WatchedWriter::new(writer, watch);
-            let ran = answer_input(rt, &mut writer, watch);
+            let ran = answer_input(rt, seed, &mut writer, watch);
             drop(writer);
             ran
         }
@@ -157,13 +177,14 @@ fn answer_buffered(rt: &HostRuntime, watch: Option<&Lines<'_>>) -> Result<Ran, P
 /// Plays the standard input to the standard output, with keepers in memory.
 fn play_buffered(
     rt: &HostRuntime,
+    seed: HashSeed,
     watch: Option<&Lines<'_>>,
     told: &mut Told,
 ) -> Result<Ran, PlayFault> {
     match BufWriter::with_capacity(rt.alloc(), BUFFER_BYTES, io::writer(rt)) {
         Ok(writer) => {
             let mut writer = WatchedWriter::new(writer, watch);
-            let ran = play_in_memory(rt, &mut writer, watch, told);
+            let ran = play_in_memory(rt, seed, &mut writer, watch, told);
             drop(writer);
             ran
         }
@@ -193,6 +214,7 @@ fn tell_wait(rt: &HostRuntime, wanted: &str) {
 /// Answers the standard input.
 fn answer_input<W: Write>(
     rt: &HostRuntime,
+    seed: HashSeed,
     writer: &mut W,
     watch: Option<&Lines<'_>>,
 ) -> Result<Ran, PlayFault> {
@@ -204,7 +226,7 @@ fn answer_input<W: Write>(
         return Err(PlayFault::Run(RunFault::ReadFailed));
     };
     let mut input = LineReader::new(WatchedReader::new(reader, watch));
-    let ran = run_answer(rt.alloc(), &mut input, writer);
+    let ran = run_answer(rt.alloc(), seed, &mut input, writer);
     drop(input);
     Ok(ran?)
 }
@@ -241,28 +263,47 @@ impl Located for FileKeeps<'_> {
 /// Plays the standard input with keepers in memory.
 fn play_in_memory<W: Write>(
     rt: &HostRuntime,
+    seed: HashSeed,
     writer: &mut W,
     watch: Option<&Lines<'_>>,
     told: &mut Told,
 ) -> Result<Ran, PlayFault> {
-    play_input(rt, writer, watch, ListKeeps::new(rt.alloc()), "", told)
+    play_input(
+        rt,
+        seed,
+        writer,
+        watch,
+        ListKeeps::new(rt.alloc()),
+        "",
+        told,
+    )
 }
 
 /// Plays the standard input with keepers in new files of a folder.
 fn play_in_files<W: Write>(
     rt: &HostRuntime,
+    seed: HashSeed,
     writer: &mut W,
     watch: Option<&Lines<'_>>,
     folder: &str,
     told: &mut Told,
 ) -> Result<Ran, PlayFault> {
-    play_input(rt, writer, watch, FileKeeps::new(rt, folder), folder, told)
+    play_input(
+        rt,
+        seed,
+        writer,
+        watch,
+        FileKeeps::new(rt, folder),
+        folder,
+        told,
+    )
 }
 
 /// Plays the standard input with keepers that have their files in that folder, closes them, and notes what is told of
 /// them.
 fn play_input<W: Write, S: Keeps + Located + Drop>(
     rt: &HostRuntime,
+    seed: HashSeed,
     writer: &mut W,
     watch: Option<&Lines<'_>>,
     keeps: S,
@@ -280,7 +321,7 @@ fn play_input<W: Write, S: Keeps + Located + Drop>(
     let mut input = LineReader::new(WatchedReader::new(reader, watch));
     let mut kept = Vec::new(rt.alloc());
     let mut keeps = keeps;
-    let ran = run_play(rt.alloc(), &mut input, writer, &mut keeps, &mut kept);
+    let ran = run_play(rt.alloc(), seed, &mut input, writer, &mut keeps, &mut kept);
     drop(input);
     let are_open = !kept.is_empty();
     let closed = close_all(&mut keeps, kept);
@@ -302,13 +343,14 @@ fn play_input<W: Write, S: Keeps + Located + Drop>(
 /// where the run had failed before.
 fn run_one_node(
     rt: &HostRuntime,
+    seed: HashSeed,
     words: &NodeWords<'_>,
     watch: Option<&Lines<'_>>,
     besides: &mut Option<StoreFault>,
 ) -> Result<Ran, NodeRunFault> {
     match words.store {
-        Some(path) => run_in_file(rt, words, watch, path, Unknown, besides),
-        None => run_over(rt, words, watch, ListKeeps::new(rt.alloc()), besides),
+        Some(path) => run_in_file(rt, seed, words, watch, path, Unknown, besides),
+        None => run_over(rt, seed, words, watch, ListKeeps::new(rt.alloc()), besides),
     }
 }
 
@@ -316,6 +358,7 @@ fn run_one_node(
 /// for what the file holds.
 fn run_in_file<S: Start>(
     rt: &HostRuntime,
+    seed: HashSeed,
     words: &NodeWords<'_>,
     watch: Option<&Lines<'_>>,
     path: &str,
@@ -325,13 +368,21 @@ fn run_in_file<S: Start>(
     if words.existing {
         run_over(
             rt,
+            seed,
             words,
             watch,
             StoreFile::existing(rt, path, start),
             besides,
         )
     } else {
-        run_over(rt, words, watch, StoreFile::new(rt, path, start), besides)
+        run_over(
+            rt,
+            seed,
+            words,
+            watch,
+            StoreFile::new(rt, path, start),
+            besides,
+        )
     }
 }
 
@@ -339,6 +390,7 @@ fn run_in_file<S: Start>(
 /// written before the next is carried out.
 fn run_over<S: Keeps + Drop>(
     rt: &HostRuntime,
+    seed: HashSeed,
     words: &NodeWords<'_>,
     watch: Option<&Lines<'_>>,
     keeps: S,
@@ -358,6 +410,7 @@ fn run_over<S: Keeps + Drop>(
     let mut keeps = keeps;
     let ran = run_node(
         rt.alloc(),
+        seed,
         &mut input,
         &mut writer,
         words.party,

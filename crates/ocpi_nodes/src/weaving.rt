@@ -11,6 +11,7 @@ use command_line::{WRONG_WORDS, WeaveWords};
 use line_runs::{Ran, RunFault, flush, status_of, write_whole};
 use std::fs;
 use std::io::{self, BufWriter, ErrorKind, Write};
+use tables::HashSeed;
 use thiserror::Error;
 use weave_runs::{GivenFault, TranscriptFile, WeaveRunFault, run_weave};
 
@@ -40,7 +41,11 @@ impl<'a> From<WeaveRunFault<'a>> for WeaveStop<'a> {
 }
 
 /// Reads each file whole, in their order, and writes the run that is made of them, or why there is none.
-pub fn weave_files<'a>(rt: &HostRuntime, words: &WeaveWords<'a>) -> Result<Ran, WeaveStop<'a>> {
+pub fn weave_files<'a>(
+    rt: &HostRuntime,
+    seed: HashSeed,
+    words: &WeaveWords<'a>,
+) -> Result<Ran, WeaveStop<'a>> {
     let mut texts = Vec::new(rt.alloc());
     for file in words.files.as_slice() {
         match read_file(rt, *file) {
@@ -53,7 +58,7 @@ pub fn weave_files<'a>(rt: &HostRuntime, words: &WeaveWords<'a>) -> Result<Ran, 
             Err(kind) => return Err(WeaveStop::Unread { file: *file, kind }),
         }
     }
-    weave_texts(rt, words, texts.as_slice())
+    weave_texts(rt, seed, words, texts.as_slice())
 }
 
 /// All that a file has.
@@ -67,6 +72,7 @@ fn read_file(rt: &HostRuntime, file: &str) -> Result<Vec<u8>, ErrorKind> {
 /// Weaves what was read.
 fn weave_texts<'a>(
     rt: &HostRuntime,
+    seed: HashSeed,
     words: &WeaveWords<'a>,
     texts: &[Vec<u8>],
 ) -> Result<Ran, WeaveStop<'a>> {
@@ -81,7 +87,13 @@ fn weave_texts<'a>(
         }
     }
     match BufWriter::with_capacity(rt.alloc(), BUFFER_BYTES, io::writer(rt)) {
-        Ok(mut writer) => weave_to(rt, files.as_slice(), words.given.as_slice(), &mut writer),
+        Ok(mut writer) => weave_to(
+            rt,
+            seed,
+            files.as_slice(),
+            words.given.as_slice(),
+            &mut writer,
+        ),
         Err(_) => refuse_memory(rt),
     }
 }
@@ -89,12 +101,13 @@ fn weave_texts<'a>(
 /// Weaves files to a writer, and says what goes with a refusal.
 fn weave_to<'a, W: Write>(
     rt: &HostRuntime,
+    seed: HashSeed,
     files: &[TranscriptFile<'_>],
     given: &[&'a str],
     writer: &mut W,
 ) -> Result<Ran, WeaveStop<'a>> {
     let mut words = String::new(rt.alloc());
-    let ran = run_weave(rt.alloc(), files, given, writer, &mut words);
+    let ran = run_weave(rt.alloc(), seed, files, given, writer, &mut words);
     if ran.is_ok() && !words.is_empty() {
         let _ = eprintln!(rt; "{}", words.as_str());
     }

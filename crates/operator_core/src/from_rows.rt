@@ -14,19 +14,25 @@ use ocpi_types::{Row, SiteLine};
 use operator_stored::books_of_rows;
 use std::alloc::{AllocError, Global};
 use stored_rows::RowsFault;
+use tables::HashSeed;
 
 impl Operator {
     /// The operator of a site that has just these rows, in whatever order they come: each push is due at once, and no
     /// authorization is awaited. So of all that an operator stored (`stored`) the very same is made, as it starts
     /// again. Refused (`BadRows`) where no operator of that site has just these rows: with the key of a row that shows
     /// it, and with the reason.
-    pub fn from_rows(alloc: Global, line: SiteLine, rows: Vec<Row>) -> Result<Operator, RowsFault>
+    pub fn from_rows(
+        alloc: Global,
+        seed: HashSeed,
+        line: SiteLine,
+        rows: Vec<Row>,
+    ) -> Result<Operator, RowsFault>
         ensures made { IfOk result (λ o. IsMadeOf line rows.items o.state) }
         ensures bad { IfErr result (IfBadRows (IsBad line rows.items)) }
         ensures again { (s : State) → IsConsistent s → StartsAgain line rows.items s → IfOk result (λ o. o.state ≡ restarted s) }
         ensures good { (s : State) → IsConsistent s → StartsAgain line rows.items s → IfErr result (λ e. e ≡ RowsFault.Memory) }
     {
-        let books = books_of_rows(alloc, line, rows)?;
+        let books = books_of_rows(alloc, seed, line, rows)?;
         Ok(Operator { alloc, books })
     }
 

@@ -2,7 +2,7 @@
 //! charge (OCPI 2.2.1, Commands, Sessions, CDRs, Tokens).
 //!
 //! ```
-//! let mut operator = Operator::new(alloc, site_line)?;
+//! let mut operator = Operator::new(alloc, seed, site_line)?;
 //! let stepped = operator.on_packet(at, &packet)?;
 //!
 //! let plan = operator.plan_tick(at)?;

@@ -9,6 +9,7 @@ use ocpi_types::{ChargerEvent, Packet, Row, SiteLine};
 use operator_rows::{Books, FullPlan};
 use std::alloc::{AllocError, Global};
 use std::marker::Model;
+use tables::HashSeed;
 
 /// An operator: it owns the charge points of a site, and answers the site's providers.
 ///
@@ -50,10 +51,10 @@ impl Operator {
     ghost use Rattle.operator_core.specs.Requests.{out_of};
 
     /// The operator of a site before its first event. An error is want of memory.
-    pub fn new(alloc: Global, line: SiteLine) -> Result<Operator, AllocError>
+    pub fn new(alloc: Global, seed: HashSeed, line: SiteLine) -> Result<Operator, AllocError>
         ensures { IfOk result (λ o. o.state ≡ opening line) }
     {
-        let books = Books::new(alloc, line)?;
+        let books = Books::new(alloc, seed, line)?;
         Ok(Operator { alloc, books })
     }
 

@@ -17,7 +17,7 @@ use session_book::SessionBook;
 use site_book::SiteBook;
 use std::alloc::{AllocError, Global};
 use std::marker::Model;
-use tables::Table;
+use tables::{HashSeed, Table};
 use token_desk::TokenDesk;
 
 /// The references that are spent, by provider.
@@ -75,14 +75,14 @@ impl Model for Books {
 impl Books {
     /// Nothing was sent, nothing is answered, open, reserved, pushed or awaited, no token is known, no session was
     /// begun, and each EVSE of the site is in service. An error is want of memory.
-    pub fn new(alloc: Global, line: SiteLine) -> Result<Books, AllocError>
+    pub fn new(alloc: Global, seed: HashSeed, line: SiteLine) -> Result<Books, AllocError>
         ensures { IfOk result (λ b. b.state ≡ opening line) }
     {
         let site = SiteBook::new(alloc, line.site)?;
         Ok(Books {
             parties: line.parties,
             serial: Whole::new(0).unwrap(),
-            commands: CommandBook::new(alloc),
+            commands: CommandBook::new(alloc, seed),
             spent: Table::new(alloc),
             booked: ReservationBook::new(alloc),
             outbox: Outbox::new(alloc),

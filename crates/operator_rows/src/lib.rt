@@ -2,7 +2,7 @@
 //! pushes, and the authorizations that it awaits; and how a step that is decided is carried out.
 //!
 //! ```
-//! let mut books = Books::new(alloc, site_line)?;
+//! let mut books = Books::new(alloc, seed, site_line)?;
 //! let plan = Plan::one(alloc, Change::Put(Row::Service { evse_uid }))?;
 //! books.make_room(&plan)?;
 //! let packets = books.apply(plan);

@@ -19,6 +19,7 @@ use ocpi_types::{Row, SiteLine};
 use operator_rows::Books;
 use std::alloc::Global;
 use stored_rows::{BadReason, BadRow, RowsFault, in_turn};
+use tables::HashSeed;
 
 /// Puts rows that come in turn, one by one, each where it may be. Where one may not the rows are bad, which it shows,
 /// and it is refused.
@@ -43,14 +44,19 @@ fn put_all(books: &mut Books, rows: Vec<Row>) -> Result<(), RowsFault>
 /// and no authorization is awaited. So of all that an operator stored the very same books are made, as it starts
 /// again. Refused (`BadRows`) where no operator of that site has just these rows: with the key of a row that shows it,
 /// and with the reason. `IsBad` lists the reasons.
-pub fn books_of_rows(alloc: Global, line: SiteLine, rows: Vec<Row>) -> Result<Books, RowsFault>
+pub fn books_of_rows(
+    alloc: Global,
+    seed: HashSeed,
+    line: SiteLine,
+    rows: Vec<Row>,
+) -> Result<Books, RowsFault>
     ensures made { IfOk result (λ b. IsMadeOf line rows.items b.state) }
     ensures bad { IfErr result (IfBadRows (IsBad line rows.items)) }
     ensures again { (s : State) → IsConsistent s → StartsAgain line rows.items s → IfOk result (λ b. b.state ≡ restarted s) }
     ensures good { (s : State) → IsConsistent s → StartsAgain line rows.items s → IfErr result (λ e. e ≡ RowsFault.Memory) }
 {
     check_bills(alloc, rows.as_slice())?;
-    let mut books = Books::new(alloc, line)?;
+    let mut books = Books::new(alloc, seed, line)?;
     put_all(&mut books, in_turn(rows))?;
     books.consistency();
     Ok(books)

@@ -1,4 +1,3 @@
-pub mod Failing
 pub mod Indexing
 pub mod PushRoom
 pub mod Timing

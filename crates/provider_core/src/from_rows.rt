@@ -15,19 +15,25 @@ use provider_rows::Peers;
 use provider_stored::books_of_rows;
 use std::alloc::{AllocError, Global};
 use stored_rows::RowsFault;
+use tables::HashSeed;
 
 impl Provider {
     /// The provider with these peers that has just these rows, in whatever order they come: each request that waits is
     /// due at once. So of all that a provider stored (`stored`) the very same is made, as it starts again. Refused
     /// (`BadRows`) where no provider with these peers has just these rows: the fault tells which row shows it, and for
     /// what reason.
-    pub fn from_rows(alloc: Global, peers: Peers, rows: Vec<Row>) -> Result<Provider, RowsFault>
+    pub fn from_rows(
+        alloc: Global,
+        seed: HashSeed,
+        peers: Peers,
+        rows: Vec<Row>,
+    ) -> Result<Provider, RowsFault>
         ensures made { IfOk result (λ p. IsMadeOf peers rows.items p.state) }
         ensures bad { IfErr result (IfBadRows (IsBad peers rows.items)) }
         ensures again { (s : State) → IsConsistent s → AreKeyed s.rows → StartsAgain peers rows.items s → IfOk result (λ p. p.state ≡ restarted s) }
         ensures good { (s : State) → IsConsistent s → AreKeyed s.rows → StartsAgain peers rows.items s → IfErr result (λ e. e ≡ RowsFault.Memory) }
     {
-        let books = books_of_rows(alloc, peers, rows)?;
+        let books = books_of_rows(alloc, seed, peers, rows)?;
         Ok(Provider { alloc, books })
     }
 

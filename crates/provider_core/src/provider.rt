@@ -11,6 +11,7 @@ use ocpi_types::{Order, Packet, Row, Token};
 use provider_rows::{Books, Peers, rows_change};
 use std::alloc::{AllocError, Global};
 use std::marker::Model;
+use tables::HashSeed;
 
 /// A provider: it has the tokens of its drivers, and deals with operators.
 ///
@@ -50,10 +51,10 @@ impl Provider {
     ghost use Rattle.provider_core.specs.Planned.{out_of};
 
     /// The provider of these peers before its first event. It takes no memory.
-    pub fn new(alloc: Global, peers: Peers) -> Provider
+    pub fn new(alloc: Global, seed: HashSeed, peers: Peers) -> Provider
         ensures { result.state ≡ opening peers }
     {
-        let books = Books::new(alloc, peers);
+        let books = Books::new(alloc, seed, peers);
         Provider { alloc, books }
     }
 

@@ -14,7 +14,7 @@ use ocpi_types::Reply;
 use outbox::Outbox;
 use std::alloc::Global;
 use std::marker::Model;
-use tables::Table;
+use tables::{HashSeed, Table};
 use token_desk::TokenDesk;
 
 /// The numbers of commands, each behind the place of the url that its result is posted to.
@@ -67,13 +67,13 @@ impl Model for Books {
 impl Books {
     /// Nothing was sent, nothing is answered, and no token, session or charge detail record is held. It takes no
     /// memory.
-    pub fn new(alloc: Global, peers: Peers) -> Books
+    pub fn new(alloc: Global, seed: HashSeed, peers: Peers) -> Books
         ensures { result.state ≡ opening peers }
     {
         Books {
             peers,
             serial: Whole::new(0).unwrap(),
-            answered: CommandBook::new(alloc),
+            answered: CommandBook::new(alloc, seed),
             desk: TokenDesk::new(alloc),
             outbox: Outbox::new(alloc),
             urls: Table::new(alloc),

@@ -19,6 +19,7 @@ use ocpi_types::Row;
 use provider_rows::{Books, Peers};
 use std::alloc::{AllocError, Global};
 use stored_rows::{BadReason, BadRow, RowsFault, in_turn};
+use tables::HashSeed;
 
 /// Puts a row beside those that stand, or tells what is wrong with it.
 fn add(books: &mut Books, row: Row) -> Result<Option<BadReason>, AllocError>
@@ -53,13 +54,18 @@ fn add_all(books: &mut Books, rows: Vec<Row>) -> Result<(), RowsFault>
 /// waits is due at once. So of all that a provider stored the very same books are made, as it starts again. Refused
 /// (`BadRows`) where no provider with these peers has just these rows: the fault tells which row shows it, and for what
 /// reason (`IsBad`).
-pub fn books_of_rows(alloc: Global, peers: Peers, rows: Vec<Row>) -> Result<Books, RowsFault>
+pub fn books_of_rows(
+    alloc: Global,
+    seed: HashSeed,
+    peers: Peers,
+    rows: Vec<Row>,
+) -> Result<Books, RowsFault>
     ensures made { IfOk result (λ b. IsMadeOf peers rows.items b.state) }
     ensures bad { IfErr result (IfBadRows (IsBad peers rows.items)) }
     ensures again { (s : State) → IsConsistent s → AreKeyed s.rows → StartsAgain peers rows.items s → IfOk result (λ b. b.state ≡ restarted s) }
     ensures good { (s : State) → IsConsistent s → AreKeyed s.rows → StartsAgain peers rows.items s → IfErr result (λ e. e ≡ RowsFault.Memory) }
 {
-    let mut books = Books::new(alloc, peers);
+    let mut books = Books::new(alloc, seed, peers);
     add_all(&mut books, in_turn(rows))?;
     books.keys_are_own();
     Ok(books)

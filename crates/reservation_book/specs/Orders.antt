@@ -5,11 +5,8 @@ use Rattle.std.specs.Ordering.{nat_cmp}
 use Rattle.std.specs.Cmp.{IsTotalOrder, nat_cmp_total}
 use Rattle.std.specs.FinMap.{IsAntisymmetric, nat_cmp-IsAntisymmetric}
 use Rattle.std.proofs.lemmas.Cmp.{on_total, then_total}
-use Rattle.tables.specs.Keys.{text_cmp, text_total, text_exact, pair_exact, triple_exact}
+use Rattle.tables.specs.Keys.{text_cmp, text_total, text_exact, pair_exact, triple_exact, triple_total}
 use Rattle.reservation_book.specs.Places.{Place, triple_cmp, expiry_cmp, group_cmp, place_cmp}
-
-triple_total : {A B C : Type 0} {R : A → A → Ordering} {S : B → B → Ordering} {T : C → C → Ordering} → IsTotalOrder R → IsTotalOrder S → IsTotalOrder T → IsTotalOrder (triple_cmp R S T)
-triple_total {A} {B} {C} r s t = then_total (then_total (on_total (λ (p : A × B × C). p.0) r) (on_total (λ (p : A × B × C). p.1) s)) (on_total (λ (p : A × B × C). p.2) t)
 
 pub expiry_total : IsTotalOrder expiry_cmp
 expiry_total = triple_total nat_cmp_total text_total text_total

@@ -8,14 +8,12 @@ use Rattle.session_state.specs.Resuming.{CannotResume, IsResumed, in_state}
 use Rattle.session_state.specs.Versions.{HasCost}
 use Rattle.operator_rows.specs.State.{IsLive}
 use Rattle.session_tables.specs.Going.{IsGoing}
+use Rattle.tables.proofs.Options.{some_same}
 
 module _ (price : ℤ) (v : Session) where
-  one_state : {r x : Resumed} → Some r ≡ Some x → r ≡ x
-  one_state e = cc
-
   going_in : (st : SessionStatus) → v.status ≡ st → IsLive st → (x : Resumed) → in_state st (record { version = v; price = price }) ≡ Some x → IsGoing price v x
-  going_in status.Pending is live x e = subst (IsGoing price v) (one_state e) (is, refl)
-  going_in status.Active is live x e = subst (IsGoing price v) (one_state e) (is, refl)
+  going_in status.Pending is live x e = subst (IsGoing price v) (some_same _ x e) (is, refl)
+  going_in status.Active is live x e = subst (IsGoing price v) (some_same _ x e) (is, refl)
   going_in status.Completed is live x e = absurd live
   going_in status.Invalid is live x e = absurd live
   going_in status.Reservation is live x e = absurd live

@@ -2,7 +2,7 @@
 //! committed before its packets are answered; and whatever stops it, it goes on from what is kept.
 //!
 //! ```
-//! let reopened = StoredNode::reopen(alloc, setup.as_slice(), member, keep)?;
+//! let reopened = StoredNode::reopen(alloc, seed, setup.as_slice(), member, keep)?;
 //! let mut node = reopened.node;
 //! let applied = node.apply(&event.kind)?;
 //! let keep = node.into_keep();

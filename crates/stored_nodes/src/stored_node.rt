@@ -37,6 +37,7 @@ use std::alloc::{AllocError, Global};
 use std::marker::Model;
 use stored_laws::laws::nodes_can_start_again;
 use stored_rows::RowsFault;
+use tables::HashSeed;
 
 /// A node whose rows are kept.
 ///
@@ -205,6 +206,7 @@ impl<K: Keep> StoredNode<K> {
     /// An error is want of memory, and hands the keeper back.
     pub fn open(
         alloc: Global,
+        seed: HashSeed,
         nodes: &[SetupNode],
         member: &SetupNode,
         keep: K,
@@ -216,7 +218,7 @@ impl<K: Keep> StoredNode<K> {
         ensures ok { IfOk result (λ n. n ≡ record { state = opening_of nodes.now member.now; keep = keep }) }
         ensures err { IfErr result (λ k. k ≡ keep) }
     {
-        match Node::open(alloc, nodes, member) {
+        match Node::open(alloc, seed, nodes, member) {
             Ok(node) => Ok(StoredNode { alloc, node, keep }),
             Err(_) => Err(keep),
         }
@@ -226,6 +228,7 @@ impl<K: Keep> StoredNode<K> {
     /// what it keeps, as of one that was just opened. A refusal hands the keeper back, which keeps what it kept.
     pub fn reopen(
         alloc: Global,
+        seed: HashSeed,
         nodes: &[SetupNode],
         member: &SetupNode,
         mut keep: K,
@@ -252,7 +255,7 @@ impl<K: Keep> StoredNode<K> {
             }
         };
         let count = rows.len();
-        match Node::from_rows(alloc, nodes, member, rows) {
+        match Node::from_rows(alloc, seed, nodes, member, rows) {
             Ok(node) => {
                 node.is_sound();
                 Ok(Reopened {

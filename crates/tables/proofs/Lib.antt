@@ -12,3 +12,5 @@ pub mod DueFront
 pub mod Nothing
 pub mod Rooms
 pub mod Places
+pub mod Looked
+pub mod Listings

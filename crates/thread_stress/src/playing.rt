@@ -12,6 +12,7 @@ use ocpi_text::Party;
 use ocpi_types::{Event, Setup};
 use packet_equality::is_equal_packets;
 use std::alloc::{AllocError, Global};
+use tables::HashSeed;
 use world::{Outcome, World};
 
 /// The number of the history of a party.
@@ -83,7 +84,7 @@ pub fn is_played(
 {
     let mut left = Vec::new(alloc);
     left.extend_from_slice(histories)?;
-    let mut world = World::open(alloc, setup)?;
+    let mut world = World::open(alloc, HashSeed::fixed(), setup)?;
     for event in events {
         if !play(&mut world, &mut left, event)? {
             return Ok(false);

@@ -9,6 +9,7 @@ use crate::way::Way;
 use node_core::nodes_of;
 use ocpi_types::Setup;
 use std::alloc::{AllocError, Global};
+use tables::HashSeed;
 use transcript_parts::LineRead;
 
 /// The most ways that are followed.
@@ -18,6 +19,7 @@ const MOST_WAYS: usize = 64;
 /// another node, to which all that came to that one comes once more. An error is want of memory.
 fn several_would_change<'a>(
     alloc: Global,
+    seed: HashSeed,
     setup: &'a Setup,
     way: &Way<'a>,
     left: &LineEvents<'a>,
@@ -25,7 +27,7 @@ fn several_would_change<'a>(
     requires { left.now.several ≡ true }
     ensures { IfOk result (λ changes. IsTrue changes → MayBeCarriedOut setup.now way.now left.now) }
 {
-    let mut again = match way.repeated(alloc, nodes_of(setup)) {
+    let mut again = match way.repeated(alloc, seed, nodes_of(setup)) {
         Ok(Some(again)) => again,
         Ok(None) => return Ok(false),
         Err(_) => return Err(AllocError),
@@ -43,6 +45,7 @@ fn several_would_change<'a>(
 /// Whether the events of a line change a row of the node of a way, if they are carried out. An error is want of memory.
 fn would_change<'a>(
     alloc: Global,
+    seed: HashSeed,
     setup: &'a Setup,
     way: &Way<'a>,
     left: &LineEvents<'a>,
@@ -50,7 +53,7 @@ fn would_change<'a>(
     ensures { IfOk result (λ changes. IsTrue changes → MayBeCarriedOut setup.now way.now left.now) }
 {
     if left.are_several() {
-        return several_would_change(alloc, setup, way, left);
+        return several_would_change(alloc, seed, setup, way, left);
     }
     match left.only_event() {
         Some(event) => way.would_change(event),
@@ -74,6 +77,7 @@ fn counted(count: usize, changes: bool) -> usize
 /// and without it. An error is want of memory.
 pub(crate) fn are_too_many<'a>(
     alloc: Global,
+    seed: HashSeed,
     setup: &'a Setup,
     ways: &[Way<'a>],
     left: &LineEvents<'a>,
@@ -85,7 +89,7 @@ pub(crate) fn are_too_many<'a>(
         return Ok(false);
     }
     for way in ways {
-        match would_change(alloc, setup, way, left) {
+        match would_change(alloc, seed, setup, way, left) {
             Ok(changes) => count = counted(count, changes),
             Err(_) => return Err(AllocError),
         }

@@ -3,7 +3,7 @@
 //!
 //! ```
 //! let beginning = find_beginning(alloc, &mut scratch, first)?;
-//! let transcript = read_transcript(alloc, &mut scratch, &beginning.setup, text, earlier)?;
+//! let transcript = read_transcript(alloc, seed, &mut scratch, &beginning.setup, text, earlier)?;
 //! let entries = transcript.entries();
 //! ```
 //!

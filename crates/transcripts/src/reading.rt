@@ -35,6 +35,7 @@ use ocpi_types::Setup;
 use setup_equality::are_equal;
 use std::alloc::Global;
 use std::marker::Model;
+use tables::HashSeed;
 use transcript_lines::Done;
 use transcript_parts::{
     Ending, LineRead, Opened, TranscriptFault, fits_first, opened_by, opened_setup, pass_line,
@@ -43,6 +44,7 @@ use transcript_parts::{
 /// What the parts so far tell: the ways in which it may have happened, those first that are preferred.
 pub(crate) struct Reading<'a> {
     alloc: Global,
+    seed: HashSeed,
     setup: &'a Setup,
     ways: Vec<Way<'a>>,
     /// Whether a run is open.
@@ -56,6 +58,7 @@ impl<'a> Drop for Reading<'a> {
     fn drop(self) {
         let Reading {
             alloc: _,
+            seed: _,
             setup: _,
             ways,
             within: _,
@@ -90,11 +93,12 @@ fn is_starved(done: &Done) -> bool
 
 impl<'a> Reading<'a> {
     /// Nothing is read yet.
-    pub(crate) fn new(alloc: Global, setup: &'a Setup) -> Reading<'a>
+    pub(crate) fn new(alloc: Global, seed: HashSeed, setup: &'a Setup) -> Reading<'a>
         ensures { result ≡ record { setup = setup.now; ways = []; within = false; unanswered = None } }
     {
         Reading {
             alloc,
+            seed,
             setup,
             ways: Vec::new(alloc),
             within: false,
@@ -109,6 +113,7 @@ impl<'a> Reading<'a> {
     {
         let Reading {
             alloc: _,
+            seed: _,
             setup: _,
             ways,
             within: _,
@@ -371,7 +376,13 @@ impl<'a> Reading<'a> {
             Err(_) => return Err(TranscriptFault::Memory),
         };
         events.are_held();
-        match are_too_many(self.alloc, self.setup, self.ways.as_slice(), &events) {
+        match are_too_many(
+            self.alloc,
+            self.seed,
+            self.setup,
+            self.ways.as_slice(),
+            &events,
+        ) {
             Ok(false) => {}
             Ok(true) => return Err(TranscriptFault::TooManyWays(part.line().number)),
             Err(_) => return Err(TranscriptFault::Memory),
@@ -448,7 +459,7 @@ impl<'a> Reading<'a> {
         if opened.rows.value() != 0 || opened.serial.value() != 0 || !part.gave_nothing() {
             return Err(TranscriptFault::NotARun(part.line().number));
         }
-        let way = match Way::open(self.alloc, nodes, member) {
+        let way = match Way::open(self.alloc, self.seed, nodes, member) {
             Ok(way) => way,
             Err(_) => return Err(TranscriptFault::Memory),
         };

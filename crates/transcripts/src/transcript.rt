@@ -18,6 +18,7 @@ use ocpi_text::Party;
 use ocpi_types::Setup;
 use std::alloc::Global;
 use std::marker::Model;
+use tables::HashSeed;
 use transcript_parts::laws::parts_are_unique;
 use transcript_parts::{Lines, TranscriptFault, next_part};
 
@@ -80,6 +81,7 @@ impl<'a> Transcript<'a> {
 /// Reads all parts of a file.
 fn read_parts<'a>(
     alloc: Global,
+    seed: HashSeed,
     scratch: &mut Scratch,
     setup: &'a Setup,
     text: &'a [u8],
@@ -92,7 +94,7 @@ fn read_parts<'a>(
 {
     parts_are_unique();
     let mut lines = Lines::new(text);
-    let mut reading = Reading::new(alloc, setup);
+    let mut reading = Reading::new(alloc, seed, setup);
     loop {
         let part = match next_part(alloc, scratch, &mut lines) {
             Ok(Some(part)) => part,
@@ -119,6 +121,7 @@ fn read_parts<'a>(
 /// holds.
 pub fn read_transcript<'a>(
     alloc: Global,
+    seed: HashSeed,
     scratch: &mut Scratch,
     setup: &'a Setup,
     text: &'a [u8],
@@ -130,7 +133,7 @@ pub fn read_transcript<'a>(
     ensures none { IfErr result (AccusesRightly setup.now earlier.now text.now) }
     ensures many { IfErr result (TooManyFit setup.now earlier.now text.now) }
 {
-    match read_parts(alloc, scratch, setup, text, earlier) {
+    match read_parts(alloc, seed, scratch, setup, text, earlier) {
         Ok(reading) => match reading.into_first() {
             Some(way) => Ok(Transcript { way }),
             None => Err(TranscriptFault::Wrong(0)),

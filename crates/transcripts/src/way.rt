@@ -26,6 +26,7 @@ use ocpi_types::{Node, NodeEvent, NodeEventKind, Packet};
 use packet_equality::is_equal_packets;
 use std::alloc::{AllocError, Global};
 use std::marker::Model;
+use tables::HashSeed;
 use transcript_lines::Done;
 use transcript_parts::{EchoedLine, Ending, Opened};
 
@@ -192,6 +193,7 @@ impl<'a> Way<'a> {
     /// A node before its first event. An error is want of memory.
     pub(crate) fn open(
         alloc: Global,
+        seed: HashSeed,
         nodes: &'a [Node],
         member: &'a Node,
     ) -> Result<Way<'a>, AllocError>
@@ -199,7 +201,7 @@ impl<'a> Way<'a> {
         requires member { Contains nodes.now member.now }
         ensures { IfOk result (λ w. w ≡ opening_told nodes.now member.now) }
     {
-        let replay = NodeReplay::open(alloc, nodes, member)?;
+        let replay = NodeReplay::open(alloc, seed, nodes, member)?;
         Ok(Way {
             replay,
             sources: Vec::new(alloc),
@@ -318,6 +320,7 @@ impl<'a> Way<'a> {
     pub(crate) fn repeated(
         &self,
         alloc: Global,
+        seed: HashSeed,
         nodes: &'a [Node],
     ) -> Result<Option<Way<'a>>, AllocError>
         requires { IsSetup nodes.now }
@@ -327,7 +330,7 @@ impl<'a> Way<'a> {
         let Some(member) = member_spelled(nodes, self.party()) else {
             return Ok(None);
         };
-        let mut replay = NodeReplay::open(alloc, nodes, member)?;
+        let mut replay = NodeReplay::open(alloc, seed, nodes, member)?;
         match repeat_all(&mut replay, self.entries()) {
             Ok(true) => {}
             Ok(false) => return Ok(None),

@@ -2,7 +2,7 @@
 //!
 //! ```
 //! let files = [TranscriptFile { name: "be.transcript", text }, ..];
-//! let ran = run_weave(alloc, &files, &["NL/TNM"], &mut writer, &mut words);
+//! let ran = run_weave(alloc, seed, &files, &["NL/TNM"], &mut writer, &mut words);
 //! ```
 //!
 //! # Promises
@@ -62,6 +62,7 @@ use line_runs::{Ran, RunFault, flush, write_whole};
 use refusal::MEMORY_LINE;
 use std::alloc::Global;
 use std::io::Write;
+use tables::HashSeed;
 pub use told::TranscriptFile;
 use weaving::{Refusal, Written, weave_files};
 
@@ -108,6 +109,7 @@ fn write_refusal<'a, W: Write>(
 /// a refusal, if anything, is added to `words`.
 pub fn run_weave<'a, W: Write>(
     alloc: Global,
+    seed: HashSeed,
     files: &[TranscriptFile<'_>],
     given: &[&'a str],
     writer: &mut W,
@@ -117,7 +119,7 @@ pub fn run_weave<'a, W: Write>(
         × Appends (W.contents writer.old) (W.contents writer.new) out) }
     ensures err { IfErr result (EndsBefore given.now files.now (W.contents writer.old) (W.contents writer.new)) }
 {
-    match weave_files(alloc, files, given) {
+    match weave_files(alloc, seed, files, given) {
         Ok(Written::Run(text)) => write_all(writer, text.as_slice(), Ran::Whole),
         Ok(Written::Refused(refusal)) => write_refusal(writer, &refusal, words),
         Ok(Written::Wrong(fault)) => Err(WeaveRunFault::Given(fault)),

@@ -7,6 +7,7 @@ ghost use Rattle.weave_runs.specs.Accusations.{RefusesAt};
 use json_text::Scratch;
 use ocpi_types::Setup;
 use std::alloc::Global;
+use tables::HashSeed;
 use transcript_parts::TranscriptFault;
 use transcripts::{Transcript, read_transcript};
 
@@ -42,6 +43,7 @@ impl<'a> FileFault<'a> {
 /// Reads files as transcripts of nodes of a setup, in their order.
 pub(crate) fn read_files<'a>(
     alloc: Global,
+    seed: HashSeed,
     scratch: &mut Scratch,
     setup: &'a Setup,
     files: &[TranscriptFile<'a>],
@@ -53,7 +55,7 @@ pub(crate) fn read_files<'a>(
     let mut transcripts = Vec::new(alloc);
     for file in files {
         let earlier = transcripts.as_slice();
-        let transcript = match read_transcript(alloc, scratch, setup, file.text, earlier) {
+        let transcript = match read_transcript(alloc, seed, scratch, setup, file.text, earlier) {
             Ok(transcript) => transcript,
             Err(fault) => return Err(FileFault::of(file, fault)),
         };

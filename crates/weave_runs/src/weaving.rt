@@ -18,6 +18,7 @@ use json_text::Scratch;
 use node_core::nodes_of;
 use ocpi_text::Party;
 use std::alloc::{AllocError, Global};
+use tables::HashSeed;
 use transcript_parts::{Beginning, TranscriptFault, find_beginning};
 use transcripts::Transcript;
 use transcripts::laws::transcripts_have_beginnings;
@@ -140,6 +141,7 @@ fn refused_file<'a>(
 /// Weaves files, the first of which has that beginning. An error is want of memory.
 fn weave_from<'a>(
     alloc: Global,
+    seed: HashSeed,
     scratch: &mut Scratch,
     beginning: &Beginning<'_>,
     files: &[TranscriptFile<'_>],
@@ -148,7 +150,7 @@ fn weave_from<'a>(
     requires { Begin files.now beginning.now.line.now beginning.now.setup }
     ensures { IfOk result (IsWritten words.now files.now) }
 {
-    match read_files(alloc, scratch, &beginning.setup, files) {
+    match read_files(alloc, seed, scratch, &beginning.setup, files) {
         Ok(transcripts) => weave_told(alloc, beginning, files, transcripts.as_slice(), words),
         Err(refused) => refused_file(alloc, refused.name, refused.fault),
     }
@@ -157,6 +159,7 @@ fn weave_from<'a>(
 /// Weaves files. An error is want of memory.
 pub(crate) fn weave_files<'a>(
     alloc: Global,
+    seed: HashSeed,
     files: &[TranscriptFile<'_>],
     words: &[&'a str],
 ) -> Result<Written<'a>, AllocError>
@@ -168,7 +171,7 @@ pub(crate) fn weave_files<'a>(
     let mut scratch = Scratch::new(alloc);
     transcripts_have_beginnings();
     match find_beginning(alloc, &mut scratch, first.text) {
-        Ok(beginning) => weave_from(alloc, &mut scratch, &beginning, files, words),
+        Ok(beginning) => weave_from(alloc, seed, &mut scratch, &beginning, files, words),
         Err(fault) => refused_file(alloc, first.name, fault),
     }
 }

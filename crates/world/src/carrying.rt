@@ -13,6 +13,7 @@ use node_core::NodeWork;
 use node_steps::copies;
 use ocpi_types::{Boxed, Change, Packet, Row, Session};
 use std::alloc::{AllocError, Global};
+use tables::HashSeed;
 
 /// Adds the version of a session that a change puts.
 fn push_version(versions: &mut Vec<Boxed<Session>>, change: &Change) -> Result<(), AllocError>
@@ -119,6 +120,7 @@ impl Place {
     pub(crate) fn carry_out(
         &mut self,
         alloc: Global,
+        seed: HashSeed,
         work: NodeWork,
     ) -> Result<Vec<Change>, AllocError>
         requires may { MayDo (state_of self.old.node) work }
@@ -129,7 +131,7 @@ impl Place {
     {
         match work {
             NodeWork::Restart => {
-                self.node.start_again(alloc)?;
+                self.node.start_again(alloc, seed)?;
                 Ok(Vec::new(alloc))
             }
             work => self.act(alloc, work),

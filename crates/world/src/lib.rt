@@ -2,7 +2,7 @@
 //! holds of them then.
 //!
 //! ```
-//! let mut world = World::open(alloc, &setup)?;
+//! let mut world = World::open(alloc, seed, &setup)?;
 //! let outcome = world.step(&event)?;
 //! let packets = world.packets();
 //! let changes = world.changes();

@@ -9,15 +9,21 @@ use crate::place::Place;
 use node_core::Node;
 use ocpi_types::Node as SetupNode;
 use std::alloc::{AllocError, Global};
+use tables::HashSeed;
 
 impl Place {
     /// The place of a node among the nodes, before the first event. An error is want of memory.
-    fn open(alloc: Global, nodes: &[SetupNode], member: &SetupNode) -> Result<Place, AllocError>
+    fn open(
+        alloc: Global,
+        seed: HashSeed,
+        nodes: &[SetupNode],
+        member: &SetupNode,
+    ) -> Result<Place, AllocError>
         requires setup { IsSetup nodes.now }
         requires member { Contains nodes.now member.now }
         ensures { IfOk result (λ p. place_seen p ≡ place_of nodes.now member.now) }
     {
-        let node = Node::open(alloc, nodes, member)?;
+        let node = Node::open(alloc, seed, nodes, member)?;
         Ok(Place {
             party: *member.party(),
             node,
@@ -28,13 +34,17 @@ impl Place {
 }
 
 /// A place for each node, in order, before the first event. An error is want of memory.
-pub(crate) fn open_all(alloc: Global, nodes: &[SetupNode]) -> Result<Vec<Place>, AllocError>
+pub(crate) fn open_all(
+    alloc: Global,
+    seed: HashSeed,
+    nodes: &[SetupNode],
+) -> Result<Vec<Place>, AllocError>
     requires { IsSetup nodes.now }
     ensures { IfOk result (λ v. places_seen v.items ≡ opened nodes.now) }
 {
     let mut places = Vec::new(alloc);
     for member in nodes {
-        let place = Place::open(alloc, nodes, member)?;
+        let place = Place::open(alloc, seed, nodes, member)?;
         places.push(place)?;
     }
     Ok(places)

@@ -22,11 +22,13 @@ use ocpi_types::{Change, Event, Packet, Session, Setup};
 use std::alloc::{AllocError, Global};
 use std::marker::Model;
 use stored_laws::laws::{operators_are_whole, providers_are_whole};
+use tables::HashSeed;
 use world_laws::laws::{worlds_are_right, worlds_go_on};
 
 /// The nodes of a setup, all packets that each ever sent, and all versions that the sessions of each operator ever had.
 pub struct World {
     alloc: Global,
+    seed: HashSeed,
     places: Vec<Place>,
     changes: Vec<Change>,
     sending: Option<Sending>,
@@ -37,6 +39,7 @@ impl Drop for World {
     fn drop(self) {
         let World {
             alloc: _,
+            seed: _,
             places: _,
             changes: _,
             sending: _,
@@ -62,7 +65,12 @@ impl Model for World {
 }
 
 /// An event comes to the node of its party. An error is want of memory, and changes nothing.
-fn step_places(alloc: Global, places: &mut Vec<Place>, event: &Event) -> Result<Told, AllocError>
+fn step_places(
+    alloc: Global,
+    seed: HashSeed,
+    places: &mut Vec<Place>,
+    event: &Event,
+) -> Result<Told, AllocError>
     requires { IsReached (places_seen places.old.items) }
     ensures ok { IfOk result (λ t. Gives (places_seen places.old.items) event.now (told_in (places_seen places.new.items) t) (places_seen places.new.items)) }
     ensures idle { IfOk result (λ t. t.outcome ≢ Outcome.Stepped → (t.sending ≡ None) × (t.changes.items ≡ [])) }
@@ -78,7 +86,7 @@ fn step_places(alloc: Global, places: &mut Vec<Place>, event: &Event) -> Result<
         EventPlan::Acts(work) => {
             let place = &mut places[i];
             let from = place.sent.as_slice().len();
-            let changes = place.carry_out(alloc, work)?;
+            let changes = place.carry_out(alloc, seed, work)?;
             Ok(Told {
                 outcome: Outcome::Stepped,
                 sending: Some(Sending { place: i, from }),
@@ -148,12 +156,13 @@ fn owed_among(
 
 impl World {
     /// The world of a setup before the first event. An error is want of memory.
-    pub fn open(alloc: Global, setup: &Setup) -> Result<World, AllocError>
+    pub fn open(alloc: Global, seed: HashSeed, setup: &Setup) -> Result<World, AllocError>
         ensures { IfOk result (λ w. w ≡ record { places = opened setup.now; changes = []; packets = [] }) }
     {
-        let places = open_all(alloc, nodes_of(setup))?;
+        let places = open_all(alloc, seed, nodes_of(setup))?;
         Ok(World {
             alloc,
+            seed,
             places,
             changes: Vec::new(alloc),
             sending: None,
@@ -173,7 +182,7 @@ impl World {
         ensures err { OnErr result (self.new ≡ self.old) }
     {
         worlds_go_on();
-        let told = step_places(self.alloc, &mut self.places, event)?;
+        let told = step_places(self.alloc, self.seed, &mut self.places, event)?;
         let Told {
             outcome,
             sending,
@@ -211,13 +220,18 @@ impl World {
 
     /// The world of a setup after events. Of these neither packets nor changes are told: what they sent was sent when
     /// they happened. An error is want of memory.
-    pub fn run(alloc: Global, setup: &Setup, events: &[Event]) -> Result<World, AllocError>
+    pub fn run(
+        alloc: Global,
+        seed: HashSeed,
+        setup: &Setup,
+        events: &[Event],
+    ) -> Result<World, AllocError>
         ensures legal { IfOk result (λ w. WorldRun (opened setup.now) events.now w.places) }
         ensures told { IfOk result (λ w. (w.packets ≡ []) × (w.changes ≡ [])) }
         ensures right { IfOk result (λ w. IsRight w.places) }
         ensures goes_on { IfOk result (λ w. (es : List EventOf) (v : WorldOf) → WorldRun w.places es v → IsRight v × IsLater w.places v) }
     {
-        let mut world = World::open(alloc, setup)?;
+        let mut world = World::open(alloc, seed, setup)?;
         for event in events {
             let _outcome = world.step(event)?;
         }

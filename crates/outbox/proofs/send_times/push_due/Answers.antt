@@ -2,7 +2,7 @@ use Rattle.std.proofs.Common.{◌++◌, sym, ap, subst, ◌∙◌}
 use Rattle.std.specs.Prelude.{Contains}
 use Rattle.outbox.specs.Due.{due_front}
 use Rattle.outbox.proofs.DueNumbers.{front_more, front_ends, front_kept, front_first}
-use Rattle.outbox.proofs.Failing.{on_err}
+use Rattle.tables.proofs.Options.{on_err}
 use Rattle.tables.proofs.Elements.{one_more, none_left}
 use Rattle.outbox.proofs.send_times.push_due.Goals as goal
 

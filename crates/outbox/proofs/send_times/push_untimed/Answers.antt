@@ -2,7 +2,7 @@ use Rattle.std.proofs.Common.{ap, subst, ◌∙◌}
 use Rattle.std.specs.Prelude.{Contains}
 use Rattle.outbox.specs.Due.{untimed}
 use Rattle.outbox.proofs.DueNumbers.{untimed_takes, front_kept, front_first, no_time}
-use Rattle.outbox.proofs.Failing.{on_err}
+use Rattle.tables.proofs.Options.{on_err}
 use Rattle.tables.proofs.Elements.{one_more}
 use Rattle.outbox.proofs.send_times.push_untimed.Goals as goal
 
