@@ -11,8 +11,7 @@ use Rattle.line_runs.specs.declared.run.Turn.{Turn}
 use Rattle.line_runs.specs.declared.run.Turn.TheVariants.{Taken, Refused, Ended}
 use Rattle.node_store.specs.declared.fault.StoreFault.{StoreFault}
 use Rattle.node_keepers.specs.Keeping.{Keeping}
-use Rattle.node_keepers.specs.declared.keeping.KeptNode.{KeptNode}
-use Rattle.node_programs.specs.Play.{Happened, Lost, NoSetup, Opened, PlayBegins, PlayEndGives, PlayLineGives, PlayOutputs, PlayStops, PlayTurn, Playing, Stage, Starved, Unkept, Unread, kept_in, opening}
+use Rattle.node_programs.specs.Play.{Happened, Lost, NoSetup, Opened, PlayBegins, PlayEndGives, PlayLineGives, PlayOutputs, PlayStops, PlayTurn, Playing, Stage, Starved, Unkept, Unread, opening}
 use Rattle.node_programs.specs.Stops.{IfRun, IfStore}
 use Rattle.node_programs.specs.declared.fault.PlayFault.{PlayFault}
 use Rattle.node_programs.specs.declared.fault.PlayFault.TheVariants.{Run, Store}
@@ -61,52 +60,52 @@ module _ {K : Type 0} (keeping : Keeping K) (may_refuse : ℕ → StoreFault →
   ended_writes (Some t) (Some before) new last ran fault is wrote =
       (wrote.0, subst (λ r. IsRun (PlayLineGives keeping may_refuse) PlayEndGives opening (lines_of t) r wrote.0 last) (was_ended wrote.1 fault is) wrote.1, wrote.2)
 
-  -- of a run from a stage that is the opening, and of the keepers that it left
-  module _ (text old new : Option (List ℕ)) (first last : Stage K) (begun : first ≡ opening) (kept : List (KeptNode K)) (kept_is : kept_in last.playing ≡ kept) where
-    begins_so : (fault : RunFault) → Begins (PlayLineGives keeping may_refuse) PlayEndGives first text old new last → PlayBegins keeping may_refuse text old new kept
+  -- of a run from a stage that is the opening, and of what it left
+  module _ (text old new : Option (List ℕ)) (first last : Stage K) (begun : first ≡ opening) (left : Option (Playing K)) (left_is : last.playing ≡ left) where
+    begins_so : (fault : RunFault) → Begins (PlayLineGives keeping may_refuse) PlayEndGives first text old new last → PlayBegins keeping may_refuse text old new left
     begins_so fault begins = record {
       last = last;
       begins = subst (λ (s : Stage K). Begins (PlayLineGives keeping may_refuse) PlayEndGives s text old new last) begun begins;
-      left = kept_is;
+      leaves = left_is;
     }
 
     pub broken_off : (result : Result Ran PlayFault) (ran : Result Ran RunFault) → IfErr result (IfRun (λ fault. ran ≡ Err fault))
         → IfErr ran (λ fault. Begins (PlayLineGives keeping may_refuse) PlayEndGives first text old new last)
-        → IfErr result (IfRun (λ fault. PlayBegins keeping may_refuse text old new kept))
-    broken_off result ran is begins = stopped result ran (λ fault. Begins (PlayLineGives keeping may_refuse) PlayEndGives first text old new last) (λ fault. PlayBegins keeping may_refuse text old new kept) begins_so is begins
+        → IfErr result (IfRun (λ fault. PlayBegins keeping may_refuse text old new left))
+    broken_off result ran is begins = stopped result ran (λ fault. Begins (PlayLineGives keeping may_refuse) PlayEndGives first text old new last) (λ fault. PlayBegins keeping may_refuse text old new left) begins_so is begins
 
     stops_so : (rest : Option (List ℕ)) (fault : RunFault) → (fault ≢ WriteFailed → StopsReading (PlayLineGives keeping may_refuse) first fault text rest old new last)
-        → fault ≢ WriteFailed → PlayStops keeping may_refuse fault text rest old new kept
+        → fault ≢ WriteFailed → PlayStops keeping may_refuse fault text rest old new left
     stops_so rest fault stops other = record {
       last = last;
       stops = subst (λ (s : Stage K). StopsReading (PlayLineGives keeping may_refuse) s fault text rest old new last) begun (stops other);
-      left = kept_is;
+      leaves = left_is;
     }
 
     pub read_to : (rest : Option (List ℕ)) (result : Result Ran PlayFault) (ran : Result Ran RunFault) → IfErr result (IfRun (λ fault. ran ≡ Err fault))
         → IfErr ran (λ fault. fault ≢ WriteFailed → StopsReading (PlayLineGives keeping may_refuse) first fault text rest old new last)
-        → IfErr result (IfRun (λ fault. fault ≢ WriteFailed → PlayStops keeping may_refuse fault text rest old new kept))
+        → IfErr result (IfRun (λ fault. fault ≢ WriteFailed → PlayStops keeping may_refuse fault text rest old new left))
     read_to rest result ran is stops =
         stopped result ran (λ fault. fault ≢ WriteFailed → StopsReading (PlayLineGives keeping may_refuse) first fault text rest old new last)
-        (λ fault. fault ≢ WriteFailed → PlayStops keeping may_refuse fault text rest old new kept) (stops_so rest) is stops
+        (λ fault. fault ≢ WriteFailed → PlayStops keeping may_refuse fault text rest old new left) (stops_so rest) is stops
 
   -- of a run from a stage that is the opening, and of the stop that it left
-  module _ (text old new : Option (List ℕ)) (first last : Stage K) (begun : first ≡ opening) (stop : Option StoreFault) (left : stop ≡ last.stop)
-      (kept : List (KeptNode K)) (kept_is : kept_in last.playing ≡ kept) where
+  module _ (text old new : Option (List ℕ)) (first last : Stage K) (begun : first ≡ opening) (stop : Option StoreFault) (stop_is : stop ≡ last.stop)
+      (left : Option (Playing K)) (left_is : last.playing ≡ left) where
     pub went : (result : Result Ran PlayFault) (ran : Result Ran RunFault) → IfOk result (λ r. (ran ≡ Ok r) × (stop ≡ None)) → IfOk ran (Writes first text old new last)
-        → IfOk result (λ r. PlayOutputs keeping may_refuse text r None old new kept)
+        → IfOk result (λ r. PlayOutputs keeping may_refuse text r None old new left)
     went (Ok r) ran is wrote =
         let writes = subst (λ (x : Result Ran RunFault). IfOk x (Writes first text old new last)) is.0 wrote in
-        record { last = last; outputs = subst (λ (s : Stage K). Writes s text old new last r) begun writes; stopped_by = sym left ∙ is.1; left = kept_is }
+        record { last = last; outputs = subst (λ (s : Stage K). Writes s text old new last r) begun writes; stopped_by = sym stop_is ∙ is.1; leaves = left_is }
     went (Err e) ran is wrote = tt
 
     pub kept_off : (result : Result Ran PlayFault) (ran : Result Ran RunFault)
         → IfErr result (IfStore (λ fault. IsOk ran × (stop ≡ Some fault))) → IfOk ran (Writes first text old new last)
-        → IfErr result (IfStore (λ fault. PlayOutputs keeping may_refuse text WithRefusals (Some fault) old new kept))
+        → IfErr result (IfStore (λ fault. PlayOutputs keeping may_refuse text WithRefusals (Some fault) old new left))
     kept_off (Ok r) ran is wrote = tt
     kept_off (Err (Run e)) ran is wrote = tt
     kept_off (Err (Store fault)) (Err e) is wrote = let ok : false ≡ true = is.0 in absurd cc
     kept_off (Err (Store fault)) (Ok r) is wrote =
         let writes = subst (λ (s : Stage K). Writes s text old new last r) begun wrote in
-        let stopped_by = sym left ∙ is.1 in
-        record { last = last; outputs = ended_writes text old new last r fault stopped_by writes; stopped_by = stopped_by; left = kept_is }
+        let stopped_by = sym stop_is ∙ is.1 in
+        record { last = last; outputs = ended_writes text old new last r fault stopped_by writes; stopped_by = stopped_by; leaves = left_is }

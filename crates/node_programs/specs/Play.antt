@@ -44,11 +44,6 @@ pub record Stage (K : Type 0) : Type 0 where
   pub playing : Option (Playing K)
   pub stop : Option StoreFault
 
--- the keepers that the nodes have then
-abbrev pub kept_in : {K : Type 0} → Option (Playing K) → List (KeptNode K)
-kept_in None = []
-kept_in (Some now) = now.kept
-
 -- before the first line
 abbrev pub opening : {K : Type 0} → Stage K
 opening = record { playing = None; stop = None }
@@ -142,27 +137,27 @@ PlayEndGives s ran out = PlayEnd s.playing ran out
 
 -- Where a reader tells its bytes, and a writer what it holds: what was written is an output of the input. At its end
 -- `stop` is why a store stopped the run, where one did: it is set by the line that ended the run alone (`Unkept`,
--- `Lost`). `kept` are the keepers as the lines that were answered left them, so that each keeps what they made it keep
--- and nothing else.
+-- `Lost`). `left` is the world, with its keepers, as the lines that were answered left it, so that each keeps what they
+-- made it keep and nothing else.
 pub record PlayOutputs {K : Type 0} (keeping : Keeping K) (may_refuse : ℕ → StoreFault → Type 0)
-    (text : Option (List ℕ)) (ran : Ran) (stop : Option StoreFault) (old new : Option (List ℕ)) (kept : List (KeptNode K)) : Type 0 where
+    (text : Option (List ℕ)) (ran : Ran) (stop : Option StoreFault) (old new : Option (List ℕ)) (left : Option (Playing K)) : Type 0 where
   pub last : Stage K
   pub outputs : Outputs (PlayLineGives keeping may_refuse) PlayEndGives opening text ran old new last
   pub stopped_by : last.stop ≡ stop
-  pub left : kept_in last.playing ≡ kept
+  pub leaves : last.playing ≡ left
 
--- The same of a run that reading or writing stopped: what was written is a beginning of an output. The keepers are as
--- the lines that were answered left them; where the answer to one was not written whole, as that one left them.
+-- The same of a run that reading or writing stopped: what was written is a beginning of an output. The world and its
+-- keepers are as the lines that were answered left them; where the answer to one was not written whole, as that one did.
 pub record PlayBegins {K : Type 0} (keeping : Keeping K) (may_refuse : ℕ → StoreFault → Type 0)
-    (text old new : Option (List ℕ)) (kept : List (KeptNode K)) : Type 0 where
+    (text old new : Option (List ℕ)) (left : Option (Playing K)) : Type 0 where
   pub last : Stage K
   pub begins : Begins (PlayLineGives keeping may_refuse) PlayEndGives opening text old new last
-  pub left : kept_in last.playing ≡ kept
+  pub leaves : last.playing ≡ left
 
 -- the same of one that reading stopped: what was written, and what the keepers keep, is what exactly the lines that
 -- were read whole give
 pub record PlayStops {K : Type 0} (keeping : Keeping K) (may_refuse : ℕ → StoreFault → Type 0) (fault : RunFault)
-    (text rest old new : Option (List ℕ)) (kept : List (KeptNode K)) : Type 0 where
+    (text rest old new : Option (List ℕ)) (left : Option (Playing K)) : Type 0 where
   pub last : Stage K
   pub stops : StopsReading (PlayLineGives keeping may_refuse) opening fault text rest old new last
-  pub left : kept_in last.playing ≡ kept
+  pub leaves : last.playing ≡ left

@@ -22,7 +22,7 @@ use std::io::{BufRead, Write};
 use std::marker::Model;
 use tables::HashSeed;
 
-/// The operator, and the moment at which each packet comes.
+/// The operator of a site line, and the moment of that line, at which each packet comes.
 pub struct Running {
     at: Moment,
     operator: Operator,
@@ -50,6 +50,14 @@ impl Model for Running {
 }
 
 impl Running {
+    /// The operator.
+    pub fn into_operator(self) -> Operator
+        ensures { result.state ≡ self.operator }
+    {
+        let Running { at: _, operator } = self;
+        operator
+    }
+
     ghost use Rattle.ocpi_types.specs.declared.rows.Change.{Change as ChangeOf};
     ghost use Rattle.operator_steps.specs.Faults.{IsDue};
     ghost use Rattle.operator_steps.specs.Steps.{OperatorStep};
@@ -101,6 +109,20 @@ impl Program {
             scratch: Scratch::new(alloc),
             running: None,
         }
+    }
+
+    /// The operator as the lines left it.
+    fn close(self) -> Option<Running>
+        ensures { result ≡ self }
+    {
+        let Program {
+            alloc: _,
+            seed: _,
+            scratch,
+            running,
+        } = self;
+        drop(scratch);
+        running
     }
 }
 
@@ -235,23 +257,27 @@ fn answer_packet(
 ///
 /// Where the run was not stopped, what is written is the output of the input. Where it was stopped, what is written is
 /// a beginning of that: by a failed read or too many reads, what exactly the lines that were read whole give. At most
-/// 1,000,000,000 lines are read. What was answered is flushed before each read that may wait, and at the end.
+/// 1,000,000,000 lines are read. What was answered is flushed before each read that may wait, and at the end. `left` gets
+/// the operator as the run left it, where there was a site line.
 pub fn run_answer<R: BufRead, W: Write>(
     alloc: Global,
     seed: HashSeed,
     input: &mut LineReader<R>,
     writer: &mut W,
+    left: &mut Option<Running>,
 ) -> Result<Ran, RunFault>
-    ensures output { IfOk result (λ ran. (last : Option Answering) × Outputs LineGives EndGives None (R.Read.remaining input.old.reader) ran
-        (W.contents writer.old) (W.contents writer.new) last) }
-    ensures begun { IfErr result (λ fault. (last : Option Answering) × Begins LineGives EndGives None (R.Read.remaining input.old.reader)
-        (W.contents writer.old) (W.contents writer.new) last) }
-    ensures stopped { IfErr result (λ fault. fault ≢ RunFault.WriteFailed → (last : Option Answering) × StopsReading LineGives None fault
+    ensures output { IfOk result (λ ran. Outputs LineGives EndGives None (R.Read.remaining input.old.reader) ran
+        (W.contents writer.old) (W.contents writer.new) left.new) }
+    ensures begun { IfErr result (λ fault. Begins LineGives EndGives None (R.Read.remaining input.old.reader)
+        (W.contents writer.old) (W.contents writer.new) left.new) }
+    ensures stopped { IfErr result (λ fault. fault ≢ RunFault.WriteFailed → StopsReading LineGives None fault
         (R.Read.remaining input.old.reader) (R.Read.remaining input.new.reader)
-        (W.contents writer.old) (W.contents writer.new) last) }
+        (W.contents writer.old) (W.contents writer.new) left.new) }
     ensures failed { result ≡ Err RunFault.ReadFailed → input.new.failed ≡ true }
     ensures reads { ReadsFewLines (R.Read.remaining input.old.reader) (R.Read.remaining input.new.reader) }
 {
     let mut answering = Program::new(alloc, seed);
-    run_whole(alloc, &mut answering, input, writer)
+    let ran = run_whole(alloc, &mut answering, input, writer);
+    *left = answering.close();
+    ran
 }

@@ -3,8 +3,8 @@
 //!
 //! ```
 //! let mut input = LineReader::new(reader);
-//! let mut kept = Vec::new(alloc);
-//! let ran = run_play(alloc, seed, &mut input, &mut writer, ListKeeps::new(alloc), &mut kept);
+//! let mut left = None;
+//! let ran = run_play(alloc, seed, &mut input, &mut writer, ListKeeps::new(alloc), &mut left);
 //! let status = status_after_play(ran);
 //! ```
 //!
@@ -27,8 +27,8 @@
 //! - Only such a line sets why a store stopped the run, to the fault of that refusal. Where the answer is `Ok` none
 //!   did; where it is `PlayFault::Store` one did, for just that fault. By `run_play`: `output`, `store`
 //!   (`PlayOutputs`).
-//! - The keepers are handed out, and each keeps what these lines made it keep and nothing else (`left`). By `run_play`:
-//!   `output`, `store`.
+//! - The operator, or the world with its keepers, is handed out as these lines left it (`left`); each keeper keeps what
+//!   they made it keep and nothing else. By `run_answer`: `output`; `run_play`: `output`, `store`.
 //! - So they are where reading or writing failed: each keeps what the lines that were carried out made it keep. By
 //!   `run_play`: `begun`, `stopped` (`PlayBegins`, `PlayStops`).
 //! - So `Refused` is told of an event only where its node's keeper has refused a call, or none of its party has one. By
@@ -42,7 +42,7 @@
 //!
 //! `run_answer` is `run_whole` over an operator. `run_play` is `run_whole` over a world and its keepers: each event
 //! is a step of the world, whose changes are committed before its packets are spelled; a refused commit ends the run
-//! at that line, and is told as `PlayFault::Store`. On every exit the keepers are those of the machine's last state.
+//! at that line, and is told as `PlayFault::Store`. On every exit the world and its keepers are those of the machine's last state.
 //! `run_settle` writes what is owed by rows.
 #![tactic(auto)]
 
@@ -52,7 +52,7 @@ mod fault;
 mod play;
 mod settle;
 
-pub use answer::run_answer;
+pub use answer::{Running, run_answer};
 pub use fault::{PlayFault, STORE_REFUSED, status_after_play};
-pub use play::run_play;
+pub use play::{Played, run_play};
 pub use settle::run_settle;

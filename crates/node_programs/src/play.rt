@@ -12,7 +12,6 @@ ghost use Rattle.node_programs.specs.Play.{EventTurn, PlayBegins, PlayEndGives, 
 ghost use Rattle.node_programs.specs.Play.{
   SetupTurn,
   Stage,
-  kept_in,
   opening,
   outcome_lines,
   owed_lines,
@@ -72,13 +71,14 @@ impl<K> Model for Played<K> {
 }
 
 impl<K> Played<K> {
-    fn into_kept(self) -> Vec<KeptNode<K>>
-        ensures { result.items ≡ self.kept }
+    /// The world, and the keepers of its nodes in the order of the setup.
+    pub fn into_parts(self) -> (World, Vec<KeptNode<K>>)
+        ensures world { result.0.places ≡ self.world }
+        ensures kept { result.1.items ≡ self.kept }
     {
         let Played { setup, world, kept } = self;
         drop(setup);
-        drop(world);
-        kept
+        (world, kept)
     }
 }
 
@@ -121,13 +121,13 @@ impl<K, S> Program<K, S> {
 }
 
 impl<K, S: Drop> Program<K, S> {
-    /// The keepers as the lines left them, and why a store stopped the run.
-    fn close(self) -> (Vec<KeptNode<K>>, Option<StoreFault>)
-        ensures kept { result.0.items ≡ kept_in self.playing }
+    /// The world and its keepers as the lines left them, and why a store stopped the run.
+    fn close(self) -> (Option<Played<K>>, Option<StoreFault>)
+        ensures played { result.0 ≡ self.playing }
         ensures stop { result.1 ≡ self.stop }
     {
         let Program {
-            alloc,
+            alloc: _,
             seed: _,
             scratch,
             keeps,
@@ -136,10 +136,7 @@ impl<K, S: Drop> Program<K, S> {
         } = self;
         drop(scratch);
         drop(keeps);
-        match played {
-            Some(played) => (played.into_kept(), stop),
-            None => (Vec::new(alloc), stop),
-        }
+        (played, stop)
     }
 }
 
@@ -374,9 +371,9 @@ fn ended(ran: Result<Ran, RunFault>, stop: Option<StoreFault>) -> Result<Ran, Pl
 /// changes are committed to it before the packets of the event are written (no clause says when). Where one of these
 /// is refused the run ends, of that line nothing is written, and `Store` tells the fault of the refusal, unless the
 /// last flush fails too. A keeper counts the calls that it refuses, but not want of memory, so that no clause ties
-/// `StoreFault::Memory` to a refusal. `kept` gets the keepers as the run left them, in the order of the setup; none,
-/// where the nodes of no setup got any. However the run ends, they keep what the lines that were carried out made of
-/// them. Where a write failed, that is all those before and the one whose output was not written whole.
+/// `StoreFault::Memory` to a refusal. `left` gets the world with its keepers as the run left them; none, where the nodes
+/// of no setup got any. However the run ends, they keep what the lines that were carried out made of them. Where a
+/// write failed, that is all those before and the one whose output was not written whole.
 ///
 /// Where the run was not stopped, what is written is the output of the input. Where it was stopped, what is written is
 /// a beginning of that: by a failed read or too many reads, what exactly the lines that were read whole give; by a
@@ -388,24 +385,24 @@ pub fn run_play<R: BufRead, W: Write, S: Keeps + Drop>(
     input: &mut LineReader<R>,
     writer: &mut W,
     keeps: S,
-    kept: &mut Vec<KeptNode<S::Kept>>,
+    left: &mut Option<Played<S::Kept>>,
 ) -> Result<Ran, PlayFault>
     ensures output { IfOk result (λ ran. PlayOutputs (keeping_of S.Kept.content S.Kept.is_honest S.Kept.refusals) S.may_refuse
-        (R.Read.remaining input.old.reader) ran None (W.contents writer.old) (W.contents writer.new) kept.new.items) }
+        (R.Read.remaining input.old.reader) ran None (W.contents writer.old) (W.contents writer.new) left.new) }
     ensures begun { IfErr result (IfRun (λ fault. PlayBegins (keeping_of S.Kept.content S.Kept.is_honest S.Kept.refusals) S.may_refuse
-        (R.Read.remaining input.old.reader) (W.contents writer.old) (W.contents writer.new) kept.new.items)) }
+        (R.Read.remaining input.old.reader) (W.contents writer.old) (W.contents writer.new) left.new)) }
     ensures stopped { IfErr result (IfRun (λ fault. fault ≢ RunFault.WriteFailed
         → PlayStops (keeping_of S.Kept.content S.Kept.is_honest S.Kept.refusals) S.may_refuse fault
         (R.Read.remaining input.old.reader) (R.Read.remaining input.new.reader)
-        (W.contents writer.old) (W.contents writer.new) kept.new.items)) }
+        (W.contents writer.old) (W.contents writer.new) left.new)) }
     ensures store { IfErr result (IfStore (λ fault. PlayOutputs (keeping_of S.Kept.content S.Kept.is_honest S.Kept.refusals) S.may_refuse
-        (R.Read.remaining input.old.reader) WithRefusals (Some fault) (W.contents writer.old) (W.contents writer.new) kept.new.items)) }
+        (R.Read.remaining input.old.reader) WithRefusals (Some fault) (W.contents writer.old) (W.contents writer.new) left.new)) }
     ensures failed { result ≡ Err (PlayFault.Run RunFault.ReadFailed) → input.new.failed ≡ true }
     ensures reads { ReadsFewLines (R.Read.remaining input.old.reader) (R.Read.remaining input.new.reader) }
 {
     let mut playing: Program<S::Kept, S> = Program::new(alloc, seed, keeps);
     let ran = run_whole(alloc, &mut playing, input, writer);
-    let (left, stop) = playing.close();
-    *kept = left;
+    let (played, stop) = playing.close();
+    *left = played;
     ended(ran, stop)
 }

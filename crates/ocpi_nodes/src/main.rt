@@ -27,13 +27,15 @@ use command_line::{NodeWords, PlayWords, WRONG_WORDS, Word, status_after, take_w
 use endings::{Told, and_closed, and_node_closed, let_go, report, report_node};
 use explanations::{Program, Telling, WatchedReader, WatchedWriter};
 use line_runs::{LineReader, Ran, RunFault};
-use node_keepers::{FileKeeps, Found, Keeps, ListKeeps, StoreFile, close_all, rows_in};
-use node_programs::{PlayFault, run_answer, run_play, run_settle};
+use node_keepers::{FileKeeps, Found, Keeps, KeptNode, ListKeeps, StoreFile, close_all, rows_in};
+use node_programs::{PlayFault, Played, run_answer, run_play, run_settle};
 use node_runs::{NodeRunFault, run_node};
 use node_store::StoreFault;
 use ocpi_types::Row;
 use sqlite::{Start, Unknown};
+use std::alloc::Global;
 use std::io::{self, BufReader, BufWriter, IsTerminal, Write};
+use std::mem;
 use std::process::ExitCode;
 use tables::HashSeed;
 use watching::{Lines, lines_of, status_with, watch_in};
@@ -226,8 +228,11 @@ fn answer_input<W: Write>(
         return Err(PlayFault::Run(RunFault::ReadFailed));
     };
     let mut input = LineReader::new(WatchedReader::new(reader, watch));
-    let ran = run_answer(rt.alloc(), seed, &mut input, writer);
+    let mut left = None;
+    let ran = run_answer(rt.alloc(), seed, &mut input, writer, &mut left);
     drop(input);
+    // The process ends, and the system takes all memory back at once.
+    mem::forget(left);
     Ok(ran?)
 }
 
@@ -299,6 +304,19 @@ fn play_in_files<W: Write>(
     )
 }
 
+/// The keepers of what was played. The world is left as it is: the process ends, and the system takes all memory back at
+/// once.
+fn kept_of<K: Drop>(alloc: Global, left: Option<Played<K>>) -> Vec<KeptNode<K>> {
+    match left {
+        Some(played) => {
+            let (world, kept) = played.into_parts();
+            mem::forget(world);
+            kept
+        }
+        None => Vec::new(alloc),
+    }
+}
+
 /// Plays the standard input with keepers that have their files in that folder, closes them, and notes what is told of
 /// them.
 fn play_input<W: Write, S: Keeps + Located + Drop>(
@@ -319,10 +337,11 @@ fn play_input<W: Write, S: Keeps + Located + Drop>(
         return Err(PlayFault::Run(RunFault::ReadFailed));
     };
     let mut input = LineReader::new(WatchedReader::new(reader, watch));
-    let mut kept = Vec::new(rt.alloc());
+    let mut left = None;
     let mut keeps = keeps;
-    let ran = run_play(rt.alloc(), seed, &mut input, writer, &mut keeps, &mut kept);
+    let ran = run_play(rt.alloc(), seed, &mut input, writer, &mut keeps, &mut left);
     drop(input);
+    let kept = kept_of(rt.alloc(), left);
     let are_open = !kept.is_empty();
     let closed = close_all(&mut keeps, kept);
     if ran.is_ok() {
