@@ -1,0 +1,151 @@
+"""Tries wrong bodies of several functions in one check, for try_wrong.
+
+What the prover says of a function stands on its body and on the contracts of what it calls, and on no other body. So
+edits of bodies that do not call each other are tried in one check, and each function gets its own verdict. Of two
+functions of which one calls the other, the caller gets none, so such two are kept apart. What is left without a verdict
+is for the caller to try alone: an edit that changes something else than a body, one whose function is not found by its
+name, one that the language refuses, and one whose function is proved.
+"""
+import collections
+import os
+import re
+import shutil
+import tempfile
+from concurrent.futures import ThreadPoolExecutor, as_completed
+
+# The most edits of a check.
+MOST = 12
+FLAGS = ["--jobs", "1"]
+SIGNATURE = re.compile(r"\s*(?:pub(?:\([^)]*\))? )?(?:const )?(?:unsafe )?fn (\w+)")
+# Lines that belong to no body, though they may stand inside one's braces.
+CLAUSE = re.compile(r"\s*(requires|ensures|ghost|pub |impl|fn |use |const |static |#)")
+LITERAL = re.compile(r"""b?"(?:\\.|[^"\\])*"|b?'(?:\\.|[^'\\])'|//.*""")
+VERDICT = re.compile(r"^fn (\S+): (.*)$", re.M)
+# A name that is called.
+CALL = re.compile(r"\b(\w+)(?:::<[^>]*>)?\(")
+# Verdicts by which the function's own statement was not proved.
+REFUSED = re.compile(r"not proved$|no proof: expected answers")
+# Names that so many functions have that a call says nothing of which is called.
+COMMON = {"new", "fmt", "eq", "get", "next", "from", "drop", "copy", "len", "push", "iter", "clone"}
+
+
+def text_of(path):
+    with open(path, encoding="utf-8") as it:
+        return it.read()
+
+
+def functions_of(text):
+    """The functions of a source that have a body: its first line, from 0, its last, and its name. The body begins
+    with the brace that stands alone in its line, or ends that of the signature."""
+    found, open_braces, begun = [], [], None
+    for number, line in enumerate(text.split("\n")):
+        code = LITERAL.sub("", line).rstrip()
+        named = SIGNATURE.match(code)
+        if named:
+            begun = named[1], number
+        is_body = begun and code.endswith("{") and (code.strip() == "{" or named or code.lstrip().startswith(")"))
+        for at, sign in enumerate(code):
+            if sign == "{":
+                opens = is_body and at == len(code) - 1
+                open_braces.append(begun if opens else None)
+                begun = None if opens else begun
+            elif sign == "}" and open_braces:
+                ended = open_braces.pop()
+                if ended:
+                    found.append((ended[1], number, ended[0]))
+    return found
+
+
+def changed_by(edit, folder):
+    """The names of the functions whose bodies an edit changes, or nothing where it changes something else."""
+    path, names = None, set()
+    for line in text_of(edit).split("\n"):
+        if line.startswith("file: "):
+            path = line[len("file: "):].strip()
+        elif line.startswith("old: "):
+            old, text = line[len("old: "):], text_of(os.path.join(folder, path))
+            at = text[: text.find(old)].count("\n")
+            inside = [it for it in functions_of(text) if it[0] < at <= it[1]]
+            if text.count(old) != 1 or not inside or CLAUSE.match(old):
+                return set()
+            names.add(max(inside)[2])
+    return names
+
+
+def reached_in(folder):
+    """For each function name of a crate, the names that its body calls, and what those call, and so on."""
+    bodies = collections.defaultdict(str)
+    for at, _, names in os.walk(os.path.join(folder, "src")):
+        for name in names:
+            text = text_of(os.path.join(at, name))
+            lines = text.split("\n")
+            for first, last, function in functions_of(text):
+                bodies[function] += "\n".join(lines[first + 1:last + 1])
+    calls = {it: set(CALL.findall(body)) & bodies.keys() - COMMON - {it} for it, body in bodies.items()}
+
+    def reached(name):
+        found, left = set(), [name]
+        while left:
+            new = calls[left.pop()] - found
+            found |= new
+            left += new
+        return found
+
+    return {it: reached(it) for it in calls}
+
+
+def batches_of(changes, reached):
+    """Edits by what they change, in batches: of no two of a batch does one change what the other changes or calls."""
+    def calls(one, other):
+        return any(reached.get(it, set()) & other for it in one)
+
+    def meet(one, other):
+        return one & other or calls(one, other) or calls(other, one)
+
+    batches = []
+    for edit, names in changes.items():
+        for batch in batches:
+            if len(batch) < MOST and not any(meet(names, changes[other]) for other in batch):
+                batch.append(edit)
+                break
+        else:
+            batches.append([edit])
+    return batches
+
+
+def verdicts_of(rt, crate, edits, seed):
+    """What a check with these edits says of each function, by its path. It is empty where the prover did not come to a
+    verdict."""
+    texts, _ = rt.edited("\n".join(text_of(it) for it in edits), crate.folder)
+    if texts is None:
+        return {}
+    with tempfile.TemporaryDirectory(prefix="try-wrong-") as room:
+        over = os.path.join(room, "seed")
+        rt.linked(seed, over)
+        ran = rt.checked(crate, texts, FLAGS, over)
+    is_whole = ran.returncode == 1 and ran.stdout.rstrip().split("\n")[-1].startswith("logic=not-proved")
+    return dict(VERDICT.findall(ran.stdout)) if is_whole else {}
+
+
+def is_refused(names, verdicts):
+    """Whether a function that an edit changes is not proved. Each of them must be the only one of its name."""
+    told = [[said for path, said in verdicts.items() if path.rsplit("::", 1)[1] == it] for it in names]
+    return all(len(it) == 1 for it in told) and any(REFUSED.match(it[0]) for it in told)
+
+
+def tries_together(rt, crate, edits, lanes, start=None):
+    """Tries a crate's edits over what it proves as it stands. Gives those that were refused, of how many at once."""
+    changes = {it: changed_by(it, crate.folder) for it in edits}
+    changes = {it: names for it, names in changes.items() if names}
+    batches = batches_of(changes, reached_in(crate.folder))
+    room = rt.seeded(crate, FLAGS, start) if changes else None
+    if not room:
+        return
+    try:
+        with ThreadPoolExecutor(lanes) as pool:
+            tried = {pool.submit(verdicts_of, rt, crate, it, os.path.join(room, "seed")): it for it in batches}
+            for done in as_completed(tried):
+                batch, verdicts = tried[done], done.result()
+                yield from ((it, len(batch)) for it in batch if is_refused(changes[it], verdicts))
+    finally:
+        shutil.rmtree(room, ignore_errors=True)
