@@ -5,6 +5,9 @@ edits of bodies that do not call each other are tried in one check, and each fun
 functions of which one calls the other, the caller gets none, so such two are kept apart. What is left without a verdict
 is for the caller to try alone: an edit that changes something else than a body, one whose function is not found by its
 name, one that the language refuses, and one whose function is proved.
+
+A function that is not proved may be so only because its proof names what the edit took away. That says little of its
+contract. `rt must-fail` tells of such an edit, and this does not.
 """
 import collections
 import os
