@@ -33,16 +33,17 @@ ghost use Rattle.outbox.specs.Resend.{
 };
 
 use ocpi_text::{Moment, Whole};
+use sorted_lists::SortedList;
 use std::alloc::{AllocError, Global};
 use std::marker::Model;
-use tables::{Table, Visits};
+use tables::Visits;
 
 /// From which moment on each request is due again that was sent.
 #[derive(Drop)]
 pub(crate) struct SendTimes {
-    moments: Table<Whole, Moment>,
+    moments: SortedList<Whole, Moment>,
     /// The numbers, by that moment.
-    queue: Table<(Moment, Whole), ()>,
+    queue: SortedList<(Moment, Whole), ()>,
 }
 
 impl Model for SendTimes {
@@ -66,7 +67,7 @@ impl Model for SendTimes {
 }
 
 /// Takes a number out of a queue, where it stands there by that moment.
-fn unqueue(queue: &mut Table<(Moment, Whole), ()>, moment: Option<Moment>, number: Whole)
+fn unqueue(queue: &mut SortedList<(Moment, Whole), ()>, moment: Option<Moment>, number: Whole)
     ensures shown { shown_of moment_number_cmp queue.new ≡ unqueued moment number (shown_of moment_number_cmp queue.old) }
     ensures room { rooms_of moment_number_cmp queue.new ≡ unqueued moment number (rooms_of moment_number_cmp queue.old) }
 {
@@ -106,7 +107,7 @@ pub(crate) fn push_untimed<V>(
 /// Adds the numbers at the front of a queue whose moments are at or before that one. An error is want of memory for
 /// one of these.
 fn push_due(
-    queue: &Table<(Moment, Whole), ()>,
+    queue: &SortedList<(Moment, Whole), ()>,
     at: Moment,
     due: &mut Vec<Whole>,
 ) -> Result<(), AllocError>
@@ -128,8 +129,8 @@ impl SendTimes {
         ensures { result.resend ≡ map.empty }
     {
         SendTimes {
-            moments: Table::new(alloc),
-            queue: Table::new(alloc),
+            moments: SortedList::new(alloc),
+            queue: SortedList::new(alloc),
         }
     }
 
@@ -194,7 +195,7 @@ impl SendTimes {
     }
 
     /// Each number that has a resend time, with that.
-    fn visits(&self) -> Visits<'_, Whole, Moment>
+    fn visits(&self) -> sorted_lists::Visits<'_, Whole, Moment>
         ensures { result ≡ map.entries self.now.resend }
     {
         self.moments.iter()

@@ -1,0 +1,4 @@
+pub mod Places
+pub mod Search
+pub mod Parts
+pub mod Seen
