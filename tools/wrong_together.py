@@ -7,7 +7,7 @@ is for the caller to try alone: an edit that changes something else than a body,
 name, one that the language refuses, and one whose function is proved.
 
 A function that is not proved may be so only because its proof names what the edit took away. That says little of its
-contract. `rt must-fail` tells of such an edit, and this does not.
+contract: of such an edit the line says so, as that of `rt must-fail` does.
 """
 import collections
 import os
@@ -24,6 +24,9 @@ SIGNATURE = re.compile(r"\s*(?:pub(?:\([^)]*\))? )?(?:const )?(?:unsafe )?fn (\w
 CLAUSE = re.compile(r"\s*(requires|ensures|ghost|pub |impl|fn |use |const |static |#)")
 LITERAL = re.compile(r"""b?"(?:\\.|[^"\\])*"|b?'(?:\\.|[^'\\])'|//.*""")
 VERDICT = re.compile(r"^fn (\S+): (.*)$", re.M)
+# What is said of a proof file, with the line behind it, and such words of a name that is gone.
+SAID = re.compile(r"^(?:\./)?proofs/(\S+)/Answers\.antt:\d+:\d+: error: (.*\n.*)", re.M)
+GONE = re.compile(r"has no field|is not in scope|has no `|not admitted")
 # A name that is called.
 CALL = re.compile(r"\b(\w+)(?:::<[^>]*>)?\(")
 # Verdicts by which the function's own statement was not proved.
@@ -117,27 +120,34 @@ def batches_of(changes, reached):
 
 
 def verdicts_of(rt, crate, edits, seed):
-    """What a check with these edits says of each function, by its path. It is empty where the prover did not come to a
-    verdict."""
+    """What a check with these edits says of each function, by its path, and of which it says no more than that names are
+    gone that its proof has. Both are empty where the prover did not come to a verdict."""
     texts, _ = rt.edited("\n".join(text_of(it) for it in edits), crate.folder)
     if texts is None:
-        return {}
+        return {}, set()
     with tempfile.TemporaryDirectory(prefix="try-wrong-") as room:
         over = os.path.join(room, "seed")
         rt.linked(seed, over)
         ran = rt.checked(crate, texts, FLAGS, over)
     is_whole = ran.returncode == 1 and ran.stdout.rstrip().split("\n")[-1].startswith("logic=not-proved")
-    return dict(VERDICT.findall(ran.stdout)) if is_whole else {}
+    if not is_whole:
+        return {}, set()
+    said = collections.defaultdict(list)
+    for at, words in SAID.findall(ran.stdout):
+        said[at.replace("/", "::")].append(bool(GONE.search(words)))
+    verdicts = dict(VERDICT.findall(ran.stdout))
+    return verdicts, {it for it in verdicts if all(said.get(it.split("::", 1)[1], [False]))}
 
 
-def is_refused(names, verdicts):
-    """Whether a function that an edit changes is not proved. Each of them must be the only one of its name."""
-    told = [[said for path, said in verdicts.items() if path.rsplit("::", 1)[1] == it] for it in names]
-    return all(len(it) == 1 for it in told) and any(REFUSED.match(it[0]) for it in told)
+def refused_of(names, verdicts):
+    """The functions that an edit changes and that are not proved, or none where one of its names is not the only one."""
+    told = [[it for it in verdicts if it.rsplit("::", 1)[1] == name] for name in names]
+    return [it[0] for it in told if REFUSED.match(verdicts[it[0]])] if all(len(it) == 1 for it in told) else []
 
 
 def tries_together(rt, crate, edits, lanes, start=None):
-    """Tries a crate's edits over what it proves as it stands. Gives those that were refused, of how many at once."""
+    """Tries a crate's edits over what it proves as it stands. Gives those that were refused, of how many at once, and
+    whether only for names that are gone."""
     changes = {it: changed_by(it, crate.folder) for it in edits}
     changes = {it: names for it, names in changes.items() if names}
     batches = batches_of(changes, reached_in(crate.folder))
@@ -148,7 +158,8 @@ def tries_together(rt, crate, edits, lanes, start=None):
         with ThreadPoolExecutor(lanes) as pool:
             tried = {pool.submit(verdicts_of, rt, crate, it, os.path.join(room, "seed")): it for it in batches}
             for done in as_completed(tried):
-                batch, verdicts = tried[done], done.result()
-                yield from ((it, len(batch)) for it in batch if is_refused(changes[it], verdicts))
+                batch, (verdicts, gone) = tried[done], done.result()
+                refused = {it: refused_of(changes[it], verdicts) for it in batch}
+                yield from ((it, len(batch), gone.issuperset(paths)) for it, paths in refused.items() if paths)
     finally:
         shutil.rmtree(room, ignore_errors=True)
