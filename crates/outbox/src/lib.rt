@@ -21,7 +21,7 @@
 //!
 //! - Each number was given, none is both a push and a command, no two pushes are about the same session or token at one
 //!   operator, and only what waits has a resend time. By `consistency`: `rows`, `resend`.
-//! - What waits and has no resend time is due at once. So a restart is two empty tables, and takes no memory. By
+//! - What waits and has no resend time is due at once. So a restart is two empty lists, and takes no memory. By
 //!   `restart`.
 //! - Exactly what waits and whose resend time is absent, or at or before the moment, is listed by number. Memory never
 //!   wants where nothing is due. By `due`: `ok`, `none`.
@@ -37,9 +37,12 @@
 //!
 //! An `Outbox` has beside its rows what a start of the node empties: `resend`, the resend times of what waits for an
 //! answer, and `sending`, the room for them. `SendTimes` keeps each time by number, and a queue of the numbers by
-//! time. What waits and has no time is due at once; none has a number below one that is kept beside the tables
-//! (`first`), so that a look for it begins there, and a restart is two empty tables. `reserve_sent` and `sent` are to
+//! time. What waits and has no time is due at once; none has a number below one that is kept beside the lists
+//! (`first`), so that a look for it begins there, and a restart is two empty lists. `reserve_sent` and `sent` are to
 //! a resend time what `reserve_row` and `put_row` are to a row.
+//!
+//! Numbers and times rise, so what is kept by them is a `SortedList`: what comes last moves nothing. A store gives its
+//! rows in another order; `in_turn` of `stored_rows` puts them by number first.
 #![tactic(auto)]
 
 mod fault;

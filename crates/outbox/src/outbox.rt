@@ -24,16 +24,16 @@ use crate::send_times::SendTimes;
 use crate::sent_commands::SentCommands;
 use ocpi_text::{Party, Whole};
 use ocpi_types::{Boxed, Push, SentCommand};
+use sorted_lists::Visits;
 use std::alloc::Global;
 use std::marker::Model;
-use tables::Visits;
 
 /// The requests of a node that are sent until they are answered, by number, and the number of its last request:
 /// pushes, which end when they are acknowledged, and at a provider commands, which stay, and wait until their answer
 /// or their result comes. A push of a newer version of a session, or of a token to the same operator, replaces the
 /// older one. A request that was sent is due again ten seconds later, and one that was not at once; these times are no
-/// rows. A lookup and a change cost the logarithm of what is stored; a resend time that is earlier than others moves
-/// these, or those before it, whichever are fewer.
+/// rows. A lookup and a change cost the logarithm of what is stored; a new row of a lower number than others, or a
+/// resend time that is earlier, moves these, or those before it, whichever are fewer.
 ///
 /// At all times each number is at most that of the last request, no number is both a push's and a command's, no two
 /// pushes are about the same, and only what waits has a resend time: `consistency`.

@@ -33,9 +33,10 @@ ghost use Rattle.outbox.specs.Pushes.{
 
 use ocpi_text::{CiKey, Party, PartyKey, Whole};
 use ocpi_types::{Push, TokenType};
+use sorted_lists::{SortedList, Visits};
 use std::alloc::{AllocError, Global};
 use std::marker::Model;
-use tables::{Table, TableKey, Visits};
+use tables::{Table, TableKey};
 
 /// What is pushed, and to whom.
 #[derive(Drop)]
@@ -64,7 +65,7 @@ impl TableKey for Subject {
 /// Pushes by number.
 #[derive(Drop)]
 pub(crate) struct PushBook {
-    pushes: Table<Whole, Outgoing>,
+    pushes: SortedList<Whole, Outgoing>,
     /// The numbers of the pushes about each subject.
     subjects: Table<(Subject, Whole), ()>,
 }
@@ -130,7 +131,7 @@ impl PushBook {
         ensures { result.pushes ≡ map.empty }
     {
         PushBook {
-            pushes: Table::new(alloc),
+            pushes: SortedList::new(alloc),
             subjects: Table::new(alloc),
         }
     }

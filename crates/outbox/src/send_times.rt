@@ -33,10 +33,9 @@ ghost use Rattle.outbox.specs.Resend.{
 };
 
 use ocpi_text::{Moment, Whole};
-use sorted_lists::SortedList;
+use sorted_lists::{SortedList, Visits};
 use std::alloc::{AllocError, Global};
 use std::marker::Model;
-use tables::Visits;
 
 /// From which moment on each request is due again that was sent.
 #[derive(Drop)]
@@ -195,7 +194,7 @@ impl SendTimes {
     }
 
     /// Each number that has a resend time, with that.
-    fn visits(&self) -> sorted_lists::Visits<'_, Whole, Moment>
+    fn visits(&self) -> Visits<'_, Whole, Moment>
         ensures { result ≡ map.entries self.now.resend }
     {
         self.moments.iter()

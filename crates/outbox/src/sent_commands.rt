@@ -9,16 +9,16 @@ ghost use Rattle.outbox.specs.Commands.{AreWaiting, HasRoomOfCommand, IsOpen, Is
 
 use ocpi_text::Whole;
 use ocpi_types::{Boxed, SentCommand};
+use sorted_lists::{SortedList, Visits};
 use std::alloc::{AllocError, Global};
 use std::marker::Model;
-use tables::{Table, Visits};
 
 /// Sent commands by number.
 #[derive(Drop)]
 pub(crate) struct SentCommands {
-    commands: Table<Whole, Boxed<SentCommand>>,
+    commands: SortedList<Whole, Boxed<SentCommand>>,
     /// The numbers of those with neither answer nor result.
-    waiting: Table<Whole, ()>,
+    waiting: SortedList<Whole, ()>,
 }
 
 impl Model for SentCommands {
@@ -54,8 +54,8 @@ impl SentCommands {
         ensures { result.commands ≡ map.empty }
     {
         SentCommands {
-            commands: Table::new(alloc),
-            waiting: Table::new(alloc),
+            commands: SortedList::new(alloc),
+            waiting: SortedList::new(alloc),
         }
     }
 

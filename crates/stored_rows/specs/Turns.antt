@@ -1,5 +1,5 @@
 -- The order in which rows are put when a node is made of them.
-use Rattle.std.specs.Prelude.{ℕ}
+use Rattle.std.specs.Prelude.{ℕ, ◌+◌}
 use Rattle.ocpi_types.specs.declared.rows.Row.{Row}
 use Rattle.ocpi_types.specs.declared.rows.Row.TheVariants as row
 
@@ -8,3 +8,9 @@ abbrev pub turn_of : Row → ℕ
 turn_of (row.Count c last) = 0
 turn_of (row.Reply sender number reply) = 1
 turn_of r = 2
+
+-- where a row stands among those that are put: in its turn, and pushes and commands, which have the last turn, by number
+abbrev pub place_of : Row → ℕ
+place_of (row.Push number to push) = 2 + number
+place_of (row.Command number command) = 2 + number
+place_of r = turn_of r

@@ -2,18 +2,19 @@
 
 ghost use Rattle.std.specs.Prelude.{◌≡◌};
 ghost use Rattle.std.specs.List.Sorted.{IsNonDecreasingBy, IsPermutation};
-ghost use Rattle.stored_rows.specs.Turns.{turn_of};
+ghost use Rattle.stored_rows.specs.Turns.{place_of, turn_of};
 
 use ocpi_types::Row;
 
-fn turn_of(row: &Row) -> u8
-    ensures { result ≡ turn_of row.now }
+/// Where a row stands among those that are put.
+fn place_of(row: &Row) -> u64
+    ensures { result ≡ place_of row.now }
 {
     match row {
         Row::Count { .. } => 0,
         Row::Reply { .. } => 1,
+        Row::Push { number, .. } | Row::Command { number, .. } => 2 + number.value(),
         Row::Token { .. }
-        | Row::Push { .. }
         | Row::Service { .. }
         | Row::Spent { .. }
         | Row::Mark { .. }
@@ -21,17 +22,18 @@ fn turn_of(row: &Row) -> u8
         | Row::Pending { .. }
         | Row::Result { .. }
         | Row::Session { .. }
-        | Row::Cdr { .. }
-        | Row::Command { .. } => 2,
+        | Row::Cdr { .. } => 2,
     }
 }
 
-/// The rows in the order in which they are put: counters first, then replies, and then all others. It takes no memory.
+/// The rows in the order in which they are put: counters first, then replies, and then all others. Pushes and commands
+/// rise by number, so that each is put behind those that stand. It takes no memory.
 pub fn in_turn(rows: Vec<Row>) -> Vec<Row>
     ensures same { IsPermutation rows.items result.items }
     ensures order { IsNonDecreasingBy turn_of result.items }
+    ensures places { IsNonDecreasingBy place_of result.items }
 {
     let mut sorted = rows;
-    sorted.sort_unstable_by_key(|row| turn_of(row));
+    sorted.sort_unstable_by_key(|row| place_of(row));
     sorted
 }
