@@ -41,8 +41,8 @@ def text_of(path):
 
 
 def functions_of(text):
-    """The functions of a source that have a body: its first line, from 0, its last, and its name. The body begins
-    with the brace that stands alone in its line, or ends that of the signature."""
+    """The functions of a source that have a body: its first line, from 0, its last, its name, and the line in which the
+    body begins: with the brace that stands alone in its line, or ends that of the signature."""
     found, open_braces, begun = [], [], None
     for number, line in enumerate(text.split("\n")):
         code = LITERAL.sub("", line).rstrip()
@@ -53,13 +53,25 @@ def functions_of(text):
         for at, sign in enumerate(code):
             if sign == "{":
                 opens = is_body and at == len(code) - 1
-                open_braces.append(begun if opens else None)
+                open_braces.append((*begun, number) if opens else None)
                 begun = None if opens else begun
             elif sign == "}" and open_braces:
                 ended = open_braces.pop()
                 if ended:
-                    found.append((ended[1], number, ended[0]))
+                    name, first, body = ended
+                    found.append((first, number, name, body))
     return found
+
+
+def promises_of(text):
+    """What a source promises: all of it but bodies, comments, attributes and imports for code, however it is laid out."""
+    lines = text.split("\n")
+    for _, last, _, body in functions_of(text):
+        lines[body + 1:last] = [""] * (last - body - 1)
+    rest = "\n".join(re.sub(r"(^|\s)//.*", "", it) for it in lines)
+    for left_out in (r"^\s*#!?\[.*\]$", r"^(pub(\([^)]*\))? )?use [^;]*;", r",(?=\s*[}\])])"):
+        rest = re.sub(left_out, "", rest, flags=re.M)
+    return " ".join(re.sub(r"([{}(),;])", r" \1 ", rest).split())
 
 
 def changed_by(edit, folder):
@@ -85,7 +97,7 @@ def reached_in(folder):
         for name in names:
             text = text_of(os.path.join(at, name))
             lines = text.split("\n")
-            for first, last, function in functions_of(text):
+            for first, last, function, _ in functions_of(text):
                 bodies[function] += "\n".join(lines[first + 1:last + 1])
     calls = {it: set(CALL.findall(body)) & bodies.keys() - COMMON - {it} for it, body in bodies.items()}
 
