@@ -13,7 +13,7 @@ use Rattle.tables.proofs.Entries.{keys_in_order}
 use Rattle.tables.proofs.Maps.{insert_present}
 use Rattle.tables.proofs.Options.{is_none}
 use Rattle.tables.proofs.Ordered.{looked}
-use Rattle.tables.proofs.Slots.{got, has_room, listed_shown, sorted_shown}
+use Rattle.tables.proofs.Slots.{got, has_room, listed_shown, sorted_shown, unit_there}
 use Rattle.sorted_lists.specs.Slots.{room_in, room_of, seen, stands, with_room}
 use Rattle.sorted_lists.specs.declared.slots.Slot.{Slot}
 use Rattle.sorted_lists.specs.declared.slots.Slot.TheVariants.{Out, Room, Value}
@@ -64,10 +64,7 @@ module _ {K V : Type 0} {R : K → K → Ordering} (o : IsTotalOrder R) (exact :
 module _ {K : Type 0} {R : K → K → Ordering} (o : IsTotalOrder R) (exact : IsAntisymmetric R) where
   -- room that is there is not taken twice
   pub had_room : (m : FinMap R (Unit {0})) (k : K) → contains_key m k ≡ true → insert m k tt ≡ m
-  had_room m k h = insert_present o exact m k tt (unit_of (get m k) h) where
-    unit_of : (r : Option (Unit {0})) → is_some r ≡ true → r ≡ Some tt
-    unit_of None e = absurd (let f : false ≡ true = e in cc)
-    unit_of (Some x) e = refl
+  had_room m k h = insert_present o exact m k tt (unit_there (get m k) h)
 
 -- something stands in a slot that has room
 pub roomy : {V : Type 0} (s : Slot V) → stands s ≡ is_some (room_in s)

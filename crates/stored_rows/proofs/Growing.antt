@@ -12,7 +12,7 @@ use Rattle.ocpi_types.specs.Rows.{key_of}
 use Rattle.ocpi_types.specs.declared.rows.Row.{Row}
 use Rattle.ocpi_types.specs.declared.rows.Change.TheVariants.{Put}
 use Rattle.ocpi_types.specs.declared.rows.Row.TheVariants as row
-use Rattle.stored_rows.specs.Turns.{place_of, turn_of}
+use Rattle.stored_rows.specs.Turns.{order_of, turn_of}
 
 -- the rows of the list stand, and no others, each under a key of its own
 pub record AreExactly (rows : List Row) (Has : Row → Type 0) : Type 0 where
@@ -48,28 +48,28 @@ one_more rows Had Has x was new now = record {
     one_alone : (x : Row) → AllPairs (λ a b. key_of a ≢ key_of b) (x ∷ [])
     one_alone x i j d below bound = absurd (omega arith)
 
--- a turn is at most the last and at most the place, and each that is not the last is the place
-turns_of : (r : Row) → (turn_of r ≤ 2) × (turn_of r ≤ place_of r) × ((turn_of r ≡ place_of r) ⊎ (turn_of r ≡ 2))
-turns_of (row.Count c l) = (omega arith, omega arith, inl refl)
-turns_of (row.Reply s n r) = (omega arith, omega arith, inl refl)
-turns_of (row.Token t) = (omega arith, omega arith, inr refl)
-turns_of (row.Push n t p) = (omega arith, omega arith, inr refl)
-turns_of (row.Service u) = (omega arith, omega arith, inr refl)
-turns_of (row.Spent p r) = (omega arith, omega arith, inr refl)
-turns_of (row.Mark p i n) = (omega arith, omega arith, inr refl)
-turns_of (row.Reservation p i r) = (omega arith, omega arith, inr refl)
-turns_of (row.Pending p n o) = (omega arith, omega arith, inr refl)
-turns_of (row.Result p n r) = (omega arith, omega arith, inr refl)
-turns_of (row.Session s) = (omega arith, omega arith, inr refl)
-turns_of (row.Cdr c) = (omega arith, omega arith, inr refl)
-turns_of (row.Command n c) = (omega arith, omega arith, inr refl)
+-- a turn is at most the last one and at most the order, and each that is not the last one is the order
+turn_within : (r : Row) → (turn_of r ≤ 2) × (turn_of r ≤ order_of r) × ((turn_of r ≡ order_of r) ⊎ (turn_of r ≡ 2))
+turn_within (row.Count c l) = (omega arith, omega arith, inl refl)
+turn_within (row.Reply s n r) = (omega arith, omega arith, inl refl)
+turn_within (row.Token t) = (omega arith, omega arith, inr refl)
+turn_within (row.Push n t p) = (omega arith, omega arith, inr refl)
+turn_within (row.Service u) = (omega arith, omega arith, inr refl)
+turn_within (row.Spent p r) = (omega arith, omega arith, inr refl)
+turn_within (row.Mark p i n) = (omega arith, omega arith, inr refl)
+turn_within (row.Reservation p i r) = (omega arith, omega arith, inr refl)
+turn_within (row.Pending p n o) = (omega arith, omega arith, inr refl)
+turn_within (row.Result p n r) = (omega arith, omega arith, inr refl)
+turn_within (row.Session s) = (omega arith, omega arith, inr refl)
+turn_within (row.Cdr c) = (omega arith, omega arith, inr refl)
+turn_within (row.Command n c) = (omega arith, omega arith, inr refl)
 
--- rows that rise by place come in turn
-pub turn_rises : (r q : Row) → place_of r ≤ place_of q → turn_of r ≤ turn_of q
+-- rows that rise by order come in turn
+pub turn_rises : (r q : Row) → order_of r ≤ order_of q → turn_of r ≤ turn_of q
 turn_rises r q up =
-    let of_r = turns_of r in
-    elim (turns_of q).2 [
-      | inl place ↦ omega arith
+    let of_r = turn_within r in
+    elim (turn_within q).2 [
+      | inl same ↦ omega arith
       | inr last ↦ omega arith
     ]
 
