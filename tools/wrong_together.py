@@ -1,10 +1,10 @@
 """Tries wrong bodies of several functions in one check, for try_wrong.
 
 What the prover says of a function stands on its body and on the contracts of what it calls, and on no other body. So
-edits of bodies that do not call each other are tried in one check, and each function gets its own verdict. Of two
-functions of which one calls the other, the caller gets none, so such two are kept apart. What is left without a verdict
-is for the caller to try alone: an edit that changes something else than a body, one whose function is not found by its
-name, one that the language refuses, and one whose function is proved.
+edits of bodies that do not call each other are tried in one check, of their functions alone, and each gets its own
+verdict. Of two functions of which one calls the other, the caller gets none, so such two are kept apart. What is left
+without a verdict is for the caller to try alone: an edit that changes something else than a body, one whose function is
+not found by its module and its name, one that the language refuses, and one whose function is proved.
 
 A function that is not proved may be so only because its proof names what the edit took away. That says little of its
 contract: of such an edit the line says so, as that of `rt must-fail` does.
@@ -64,7 +64,7 @@ def functions_of(text):
 
 
 def promises_of(text):
-    """What a source promises: all of it but bodies, comments, attributes and imports for code, however it is laid out."""
+    """What a source promises: all but bodies, comments, attributes and imports for code, however it is laid out."""
     lines = text.split("\n")
     for _, last, _, body in functions_of(text):
         lines[body + 1:last] = [""] * (last - body - 1)
@@ -74,8 +74,14 @@ def promises_of(text):
     return " ".join(re.sub(r"([{}(),;])", r" \1 ", rest).split())
 
 
+def module_of(path):
+    """The module of a source, as the path of a function in it begins behind the crate's name."""
+    words = path[len("src/"):-len(".rt")].removesuffix("/mod").split("/")
+    return "" if words in (["lib"], ["main"]) else "::".join(words) + "::"
+
+
 def changed_by(edit, folder):
-    """The names of the functions whose bodies an edit changes, or nothing where it changes something else."""
+    """The functions whose bodies an edit changes, by module and name, or nothing where it changes something else."""
     path, names = None, set()
     for line in text_of(edit).split("\n"):
         if line.startswith("file: "):
@@ -86,8 +92,23 @@ def changed_by(edit, folder):
             inside = [it for it in functions_of(text) if it[0] < at <= it[1]]
             if text.count(old) != 1 or not inside or CLAUSE.match(old):
                 return set()
-            names.add(max(inside)[2])
+            names.add((module_of(path), max(inside)[2]))
     return names
+
+
+def paths_of(functions, paths):
+    """The paths of functions told by module and name, or nothing where one fits none of the paths, or several."""
+    found = set()
+    for module, name in functions:
+        fits = [it for it in paths if it.split("::", 1)[1].startswith(module) and name_of(it) == name]
+        if len(fits) != 1:
+            return set()
+        found.add(fits[0])
+    return found
+
+
+def name_of(path):
+    return path.rsplit("::", 1)[1]
 
 
 def reached_in(folder):
@@ -114,6 +135,8 @@ def reached_in(folder):
 
 def batches_of(changes, reached):
     """Edits by what they change, in batches: of no two of a batch does one change what the other changes or calls."""
+    names = {edit: {name_of(it) for it in paths} for edit, paths in changes.items()}
+
     def calls(one, other):
         return any(reached.get(it, set()) & other for it in one)
 
@@ -121,9 +144,9 @@ def batches_of(changes, reached):
         return one & other or calls(one, other) or calls(other, one)
 
     batches = []
-    for edit, names in changes.items():
+    for edit in changes:
         for batch in batches:
-            if len(batch) < MOST and not any(meet(names, changes[other]) for other in batch):
+            if len(batch) < MOST and not any(meet(names[edit], names[other]) for other in batch):
                 batch.append(edit)
                 break
         else:
@@ -131,18 +154,18 @@ def batches_of(changes, reached):
     return batches
 
 
-def verdicts_of(rt, crate, edits, seed):
-    """What a check with these edits says of each function, by its path, and of which it says no more than that names are
-    gone that its proof has. Both are empty where the prover did not come to a verdict."""
+def verdicts_of(rt, crate, edits, paths, seed):
+    """What a check with these edits says of functions, by their paths, and of which it says no more than that names are
+    gone that their proofs have. Both are empty where the prover did not come to a verdict."""
     texts, _ = rt.edited("\n".join(text_of(it) for it in edits), crate.folder)
     if texts is None:
         return {}, set()
+    only = [word for it in sorted(paths) for word in ("--only", it.split("::", 1)[1])]
     with tempfile.TemporaryDirectory(prefix="try-wrong-") as room:
         over = os.path.join(room, "seed")
         rt.linked(seed, over)
-        ran = rt.checked(crate, texts, FLAGS, over)
-    is_whole = ran.returncode == 1 and ran.stdout.rstrip().split("\n")[-1].startswith("logic=not-proved")
-    if not is_whole:
+        ran = rt.checked(crate, texts, FLAGS + only, over)
+    if ran.returncode != 1 or not ran.stdout.rstrip().split("\n")[-1].startswith("only="):
         return {}, set()
     said = collections.defaultdict(list)
     for at, words in SAID.findall(ran.stdout):
@@ -151,27 +174,28 @@ def verdicts_of(rt, crate, edits, seed):
     return verdicts, {it for it in verdicts if all(said.get(it.split("::", 1)[1], [False]))}
 
 
-def refused_of(names, verdicts):
-    """The functions that an edit changes and that are not proved, or none where one of its names is not the only one."""
-    told = [[it for it in verdicts if it.rsplit("::", 1)[1] == name] for name in names]
-    return [it[0] for it in told if REFUSED.match(verdicts[it[0]])] if all(len(it) == 1 for it in told) else []
-
-
 def tries_together(rt, crate, edits, lanes, start=None):
     """Tries a crate's edits over what it proves as it stands. Gives those that were refused, of how many at once, and
     whether only for names that are gone."""
-    changes = {it: changed_by(it, crate.folder) for it in edits}
-    changes = {it: names for it, names in changes.items() if names}
-    batches = batches_of(changes, reached_in(crate.folder))
-    room = rt.seeded(crate, FLAGS, start) if changes else None
+    functions = {it: changed_by(it, crate.folder) for it in edits}
+    room = rt.seeded(crate, FLAGS, start) if any(functions.values()) else None
     if not room:
         return
+    seed = os.path.join(room, "seed")
     try:
+        paths = dict(VERDICT.findall(rt.checked(crate, {}, FLAGS, seed).stdout))
+        changes = {it: paths_of(changed, paths) for it, changed in functions.items()}
+        batches = batches_of({it: changed for it, changed in changes.items() if changed}, reached_in(crate.folder))
         with ThreadPoolExecutor(lanes) as pool:
-            tried = {pool.submit(verdicts_of, rt, crate, it, os.path.join(room, "seed")): it for it in batches}
+            tried = {}
+            for batch in batches:
+                changed = set().union(*(changes[it] for it in batch))
+                tried[pool.submit(verdicts_of, rt, crate, batch, changed, seed)] = batch
             for done in as_completed(tried):
                 batch, (verdicts, gone) = tried[done], done.result()
-                refused = {it: refused_of(changes[it], verdicts) for it in batch}
-                yield from ((it, len(batch), gone.issuperset(paths)) for it, paths in refused.items() if paths)
+                for edit in batch:
+                    refused = {it for it in changes[edit] if REFUSED.match(verdicts.get(it, ""))}
+                    if refused:
+                        yield edit, len(batch), gone.issuperset(refused)
     finally:
         shutil.rmtree(room, ignore_errors=True)
