@@ -67,9 +67,9 @@ fn histories_of<'a, K: Keep>(
 /// which ends with each node as its cell has it and with all that it sent, and with each other node as it was opened.
 /// So the cells are safe, what is acknowledged is held, and answers agree.
 ///
-/// Refused (`NeverSent`, `Differs`) with the first packet that came, in the order of the cells and of their entries, and
-/// was not sent so; (`NoOrder`) where each next entry, from these places on, waits for what is sent behind them; and
-/// (`Memory`) for want of memory. With any refusal but the last these histories have no interleaving.
+/// Refused (`NeverSent`, `Differs`) with the first packet that came, in the order of the cells and of their entries,
+/// and was not sent so; (`NoOrder`) where each next entry, from these places on, waits for what is sent behind them;
+/// and (`Memory`) for want of memory. With any refusal but the last these histories have no interleaving.
 pub fn weave_cells<K: Keep>(alloc: Global, cells: &[NodeCell<K>]) -> Result<Vec<Event>, WeaveFault>
     requires cells { (setup : List NodeOf) × AreCellsOf setup cells.now }
     ensures run { IfOk result (λ events. (setup : List NodeOf) → AreCellsOf setup cells.now → IsRunOfCells setup cells.now events.items) }

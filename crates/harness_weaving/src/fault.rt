@@ -13,7 +13,8 @@ pub enum NoRun {
     /// The nodes stopped.
     #[error("the run stopped")]
     Stopped,
-    /// What happened at the nodes has no order in which each delivery follows the sending of its packet, for this reason.
+    /// What happened at the nodes has no order in which each delivery follows the sending of its packet, for this
+    /// reason.
     #[error(transparent)]
     NotWoven(WeaveFault),
     /// Memory ran out, also for a thread.

@@ -67,11 +67,11 @@ fn weave_nodes(alloc: Global, nodes: Vec<NodeRan>) -> Result<WovenRun, NoRun>
 }
 
 /// Runs the nodes of a setup on threads, as `run_nodes` does, and makes of all that happened at them one run of the
-/// setup's world. The cells are of all nodes of the setup, in its order. So each is safe, what is acknowledged is held, and
-/// answers agree.
+/// setup's world. The cells are of all nodes of the setup, in its order. So each is safe, what is acknowledged is held,
+/// and answers agree.
 ///
-/// Refused (`Stopped`) where the nodes stop, (`NotWoven`) where what happened has no order in which each delivery follows
-/// the sending of its packet, and (`Memory`) for want of memory.
+/// Refused (`Stopped`) where the nodes stop, (`NotWoven`) where what happened has no order in which each delivery
+/// follows the sending of its packet, and (`Memory`) for want of memory.
 pub fn run_and_weave<G: Gate + Sync, R: Threads + Wait + Sync>(
     rt: &R,
     alloc: Global,

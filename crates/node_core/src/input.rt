@@ -3,8 +3,8 @@
 use ocpi_text::{CiKey, Moment, Party};
 use ocpi_types::{ChargerEvent, Order, Packet, Token};
 
-/// What may reach a node. An order and a token are for a provider, an EVSE's service, a charge point's report and a credit
-/// for an operator, and the others for both.
+/// What may reach a node. An order and a token are for a provider, an EVSE's service, a charge point's report and a
+/// credit for an operator, and the others for both.
 #[derive(Clone, Copy)]
 pub enum NodeInput<'a> {
     /// A provider orders a command of an operator.

@@ -68,7 +68,8 @@ pub struct PassesMissing<J: Naming, K: Keep, G: Gate> {
 }
 
 impl<J: Naming, K: Keep + Drop, G: Gate + Drop> Desk<J, K, G> {
-    /// A desk of a cell, and its passes: one for each part of the blank. An error is want of memory, and hands the cell back.
+    /// A desk of a cell, and its passes: one for each part of the blank. An error is want of memory, and hands the cell
+    /// back.
     pub fn new(
         alloc: Global,
         blank: Blank,
@@ -103,12 +104,12 @@ impl<J: Naming, K: Keep + Drop, G: Gate + Drop> Desk<J, K, G> {
         Ok((desk, all))
     }
 
-    /// Brings an event to the node, and waits for its lock. Where it is entered, the receipt has its place in the history
-    /// and the packets that the node sends; the pass has then seen that entry, and counts one more.
+    /// Brings an event to the node, and waits for its lock. Where it is entered, the receipt has its place in the
+    /// history and the packets that the node sends; the pass has then seen that entry, and counts one more.
     ///
-    /// Refused, in this order: where the history has 100,000 entries (`TraceFull`); where it has fewer than the pass has
-    /// seen (`Rewound`); where the node refuses the event (`Core`) or the keeper its changes (`Store`); and for want of
-    /// memory. A refusal hands the event back. It enters nothing, and the pass is as it was.
+    /// Refused, in this order: where the history has 100,000 entries (`TraceFull`); where it has fewer than the pass
+    /// has seen (`Rewound`); where the node refuses the event (`Core`) or the keeper its changes (`Store`); and for
+    /// want of memory. A refusal hands the event back. It enters nothing, and the pass is as it was.
     pub fn call<R: Wait>(
         &self,
         rt: &R,

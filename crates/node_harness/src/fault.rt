@@ -9,8 +9,8 @@ use thiserror::Error;
 /// Why a run ends without an answer.
 #[derive(Clone, Copy, Debug, PartialEq, Eq, Error)]
 pub enum RunFault {
-    /// A desk refused an event, for another reason than that its node does or that memory ran out; or what came of a node
-    /// is not what was asked of it.
+    /// A desk refused an event, for another reason than that its node does or that memory ran out; or what came of a
+    /// node is not what was asked of it.
     #[error("the run stopped")]
     Stopped,
     /// Memory ran out, also for a thread.

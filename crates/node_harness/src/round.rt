@@ -20,7 +20,8 @@ use std::sync::ledger::Blank;
 use std::thread;
 use std::thread::Threads;
 
-/// What a node has to do in a round: an event of its own, whose packets go out, and what comes by each link, at a moment.
+/// What a node has to do in a round: an event of its own, whose packets go out, and what comes by each link, at a
+/// moment.
 #[derive(Drop)]
 pub(crate) struct Job {
     pub(crate) at: Moment,

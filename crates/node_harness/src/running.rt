@@ -131,14 +131,14 @@ fn run_round<S: OfSetup + Send + Sync, G: Gate + Sync, R: Threads + Wait + Sync>
 
 /// Runs the nodes of a setup on threads, in rounds, over lists of rows.
 ///
-/// In round k, at `script.start` and k seconds, each node has a thread of its own and a desk. Under it one thread brings
-/// the node's k-th event, whose packets go out at once, and one for each other node delivers what came from that node: what
-/// was left for this round, and what its own event sends. What the node sends when it takes a delivery is left for the
-/// next round. The n-th packet that comes by a link is passed, lost, repeated or held as the n-th act for that link says.
-/// The run ends after `script.rounds` rounds, after 1,000, or once nothing is left.
+/// In round k, at `script.start` and k seconds, each node has a thread of its own and a desk. Under it one thread
+/// brings the node's k-th event, whose packets go out at once, and one for each other node delivers what came from that
+/// node: what was left for this round, and what its own event sends. What the node sends when it takes a delivery is
+/// left for the next round. The n-th packet that comes by a link is passed, lost, repeated or held as the n-th act for
+/// that link says. The run ends after `script.rounds` rounds, after 1,000, or once nothing is left.
 ///
-/// An event that its node refuses is passed over. Any other refusal of a desk, but for want of memory, stops the run, and
-/// so does a node that is not as the contract says.
+/// An event that its node refuses is passed over. Any other refusal of a desk, but for want of memory, stops the run,
+/// and so does a node that is not as the contract says.
 pub fn run_nodes<G: Gate + Sync, R: Threads + Wait + Sync>(
     rt: &R,
     alloc: Global,

@@ -322,8 +322,8 @@ trait InFile: Keep {
     /// What is known of what a keeper leaves.
     ghost leaves: { Self → Self.Ended → Type 0 };
 
-    /// Ends it, so that the file at that path holds all rows; whoever gets the files may remove the log beside it. After
-    /// a refusal they are in the file and its log together, as before.
+    /// Ends it, so that the file at that path holds all rows; whoever gets the files may remove the log beside it.
+    /// After a refusal they are in the file and its log together, as before.
     fn end(
         self,
         rt: &HostRuntime,

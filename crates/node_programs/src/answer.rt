@@ -257,8 +257,8 @@ fn answer_packet(
 ///
 /// Where the run was not stopped, what is written is the output of the input. Where it was stopped, what is written is
 /// a beginning of that: by a failed read or too many reads, what exactly the lines that were read whole give. At most
-/// 1,000,000,000 lines are read. What was answered is flushed before each read that may wait, and at the end. `left` gets
-/// the operator as the run left it, where there was a site line.
+/// 1,000,000,000 lines are read. What was answered is flushed before each read that may wait, and at the end. `left`
+/// gets the operator as the run left it, where there was a site line.
 pub fn run_answer<R: BufRead, W: Write>(
     alloc: Global,
     seed: HashSeed,

@@ -40,10 +40,10 @@
 //!
 //! # How it is built
 //!
-//! `run_answer` is `run_whole` over an operator. `run_play` is `run_whole` over a world and its keepers: each event
-//! is a step of the world, whose changes are committed before its packets are spelled; a refused commit ends the run
-//! at that line, and is told as `PlayFault::Store`. On every exit the world and its keepers are those of the machine's last state.
-//! `run_settle` writes what is owed by rows.
+//! `run_answer` is `run_whole` over an operator. `run_play` is `run_whole` over a world and its keepers: each event is
+//! a step of the world, whose changes are committed before its packets are spelled; a refused commit ends the run at
+//! that line, and is told as `PlayFault::Store`. On every exit the world and its keepers are those of the machine's
+//! last state. `run_settle` writes what is owed by rows.
 #![tactic(auto)]
 
 mod answer;

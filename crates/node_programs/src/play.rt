@@ -367,13 +367,13 @@ fn ended(ran: Result<Ran, RunFault>, stop: Option<StoreFault>) -> Result<Ran, Pl
 /// as `skipped`. A line that is refused is written as `refused`, its number and its name, changes nothing, and the
 /// next follows; a refused or absent setup ends the run. At the end what each provider owes each operator is one line.
 ///
-/// Each node has a keeper of its rows, opened once the setup was read, in its order, and the rows that an event
-/// changes are committed to it before the packets of the event are written (no clause says when). Where one of these
-/// is refused the run ends, of that line nothing is written, and `Store` tells the fault of the refusal, unless the
-/// last flush fails too. A keeper counts the calls that it refuses, but not want of memory, so that no clause ties
-/// `StoreFault::Memory` to a refusal. `left` gets the world with its keepers as the run left them; none, where the nodes
-/// of no setup got any. However the run ends, they keep what the lines that were carried out made of them. Where a
-/// write failed, that is all those before and the one whose output was not written whole.
+/// Each node has a keeper of its rows, opened once the setup was read, in its order, and the rows that an event changes
+/// are committed to it before the packets of the event are written (no clause says when). Where one of these is refused
+/// the run ends, of that line nothing is written, and `Store` tells the fault of the refusal, unless the last flush
+/// fails too. A keeper counts the calls that it refuses, but not want of memory, so that no clause ties
+/// `StoreFault::Memory` to a refusal. `left` gets the world with its keepers as the run left them; none, where the
+/// nodes of no setup got any. However the run ends, they keep what the lines that were carried out made of them. Where
+/// a write failed, that is all those before and the one whose output was not written whole.
 ///
 /// Where the run was not stopped, what is written is the output of the input. Where it was stopped, what is written is
 /// a beginning of that: by a failed read or too many reads, what exactly the lines that were read whole give; by a

@@ -101,8 +101,8 @@ fn member_of<'a>(nodes: &'a [Node], wanted: &Option<Party>) -> Option<&'a Node>
     None
 }
 
-/// Opens the keeper of the party's node, which is made of what was found for the first place, and makes the node of what
-/// that keeps. Where the setup has no such node, no keeper is opened.
+/// Opens the keeper of the party's node, which is made of what was found for the first place, and makes the node of
+/// what that keeps. Where the setup has no such node, no keeper is opened.
 pub fn begin<S: Keeps>(
     alloc: Global,
     seed: HashSeed,

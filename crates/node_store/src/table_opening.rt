@@ -115,10 +115,10 @@ impl TableKeep<MemStore> {
 impl<S: Start> TableKeep<FileStore<FileFrom<S>>> {
     /// A keeper in the file at the path. A file that is missing is made, and one of layout 1 is moved to layout 2.
     /// `OldLayout` where the file has tables for other rows, and `BadRow` where it is of layout 1 with a text that is
-    /// no row of its kind and key. Where no database was opened, it is neither of the two. Where nothing comes back, the
-    /// cause is `CannotOpen`, `DatabaseBusy` or want of memory. After any other refusal the
-    /// files come back, or the connection once there is one: a stop leaves what the files held, or, where that was no
-    /// database yet or an opening had begun to move it, all that the opening would have made of it.
+    /// no row of its kind and key. Where no database was opened, it is neither of the two. Where nothing comes back,
+    /// the cause is `CannotOpen`, `DatabaseBusy` or want of memory. After any other refusal the files come back, or the
+    /// connection once there is one: a stop leaves what the files held, or, where that was no database yet or an
+    /// opening had begun to move it, all that the opening would have made of it.
     ///
     /// `S` stands for what the file holds, which no code can read: so the clauses are proved of whatever it holds. A
     /// program names `Unknown`, at which they speak of an empty file alone.

@@ -25,8 +25,8 @@ pub fn runs_are_transcripts<S: Keeps>()
     openings_can_start_again();
 }
 
-/// And so is what stands of a run that was cut, or that a line ended: the node is told as it was before the last line, or
-/// behind it.
+/// And so is what stands of a run that was cut, or that a line ended: the node is told as it was before the last line,
+/// or behind it.
 pub fn cut_runs_are_transcripts<S: Keeps>()
     ensures answers { CutRunsAreTranscripts (keeper_of S.Kept.content S.Kept.is_honest S.Kept.refusals S.Kept.may_leave) (source_of S.may_refuse S.found) }
     ensures echoes { EchoesAreTranscripts (keeper_of S.Kept.content S.Kept.is_honest S.Kept.refusals S.Kept.may_leave) (source_of S.may_refuse S.found) }
@@ -38,8 +38,8 @@ pub fn cut_runs_are_transcripts<S: Keeps>()
 }
 
 /// What runs of one node over one store wrote, one behind the other, is one transcript. Each may have come to its end,
-/// ended at a line, or been stopped anywhere. The next one opens what it left, whether or not a line of which nothing is
-/// written was carried out. Between them may stand runs in which no node began.
+/// ended at a line, or been stopped anywhere. The next one opens what it left, whether or not a line of which nothing
+/// is written was carried out. Between them may stand runs in which no node began.
 pub fn several_runs_are_transcripts<S: Keeps>()
     ensures runs { SeveralRunsAreTranscripts (keeper_of S.Kept.content S.Kept.is_honest S.Kept.refusals S.Kept.may_leave) (source_of S.may_refuse S.found) }
     ensures first_lines { FirstLinesEndRuns (keeper_of S.Kept.content S.Kept.is_honest S.Kept.refusals S.Kept.may_leave) (source_of S.may_refuse S.found) }
@@ -54,7 +54,8 @@ pub fn several_runs_are_transcripts<S: Keeps>()
     restarts_can_start_again();
 }
 
-/// Whatever `run_node` wrote, whether the run came to the end of its input, ended at a line, or was cut, is a transcript.
+/// Whatever `run_node` wrote, whether the run came to the end of its input, ended at a line, or was cut, is a
+/// transcript.
 pub fn outputs_are_transcripts<S: Keeps>()
     ensures whole { WholeRunsAreTranscripts (keeper_of S.Kept.content S.Kept.is_honest S.Kept.refusals S.Kept.may_leave) (source_of S.may_refuse S.found) }
     ensures begun { BegunRunsAreTranscripts (keeper_of S.Kept.content S.Kept.is_honest S.Kept.refusals S.Kept.may_leave) (source_of S.may_refuse S.found) }

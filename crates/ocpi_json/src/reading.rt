@@ -292,8 +292,8 @@ pub fn other_rows_are_alike()
     ensures { OthersAreAlike }
 {}
 
-/// The text of a row in layout 1 is read by [`read_row_1`] as that row, beside the row's kind and key, for each row that
-/// its types can hold. So what an old store has of a row is read as the row that was put there.
+/// The text of a row in layout 1 is read by [`read_row_1`] as that row, beside the row's kind and key, for each row
+/// that its types can hold. So what an old store has of a row is read as the row that was put there.
 pub fn row_texts_of_1_are_read()
     ensures { RowTextsOf1AreRead }
 {}

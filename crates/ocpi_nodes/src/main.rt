@@ -304,8 +304,8 @@ fn play_in_files<W: Write>(
     )
 }
 
-/// The keepers of what was played. The world is left as it is: the process ends, and the system takes all memory back at
-/// once.
+/// The keepers of what was played. The world is left as it is: the process ends, and the system takes all memory back
+/// at once.
 fn kept_of<K: Drop>(alloc: Global, left: Option<Played<K>>) -> Vec<KeptNode<K>> {
     match left {
         Some(played) => {

@@ -61,8 +61,8 @@ impl Operator {
         Some(bill)
     }
 
-    /// The party that the credit of a bill goes to: the provider of the bill's token, as the site spells it. None, where
-    /// a record has the id of the credit, or the provider is none of the site. An error is want of memory.
+    /// The party that the credit of a bill goes to: the provider of the bill's token, as the site spells it. None,
+    /// where a record has the id of the credit, or the provider is none of the site. An error is want of memory.
     fn goes_to(&self, bill: &Cdr) -> Result<Option<Party>, AllocError>
         requires { length bill.now.id ≤ 37 }
         ensures some { IfOk result (λ o. IfSome o (MayGoTo self.now.state bill.now)) }
@@ -92,9 +92,9 @@ impl Operator {
         Ok(draft.into_plan())
     }
 
-    /// The step in which a bill is taken back, by a credit that goes to a party. Refused (`StampEnd`) where the bill was
-    /// updated at the last moment, (`NumbersUsedUp`) where a counter would pass its last number, and else for want of
-    /// memory (`Memory`).
+    /// The step in which a bill is taken back, by a credit that goes to a party. Refused (`StampEnd`) where the bill
+    /// was updated at the last moment, (`NumbersUsedUp`) where a counter would pass its last number, and else for want
+    /// of memory (`Memory`).
     fn plan_taken_back(&self, at: Moment, to: Party, bill: &Cdr) -> Result<Plan, NodeFault>
         requires bill { IsBill bill.now }
         requires short { length bill.now.id ≤ 37 }
@@ -108,8 +108,8 @@ impl Operator {
         }
     }
 
-    /// What becomes of the order to take the bill of a session back at a moment. Nothing changes. Refused as `on_credit`
-    /// says.
+    /// What becomes of the order to take the bill of a session back at a moment. Nothing changes. Refused as
+    /// `on_credit` says.
     pub fn plan_credit(&self, at: Moment, session: CiKey<36>) -> Result<FullPlan, NodeFault>
         ensures step { IfOk result (λ x. PlannedBy (Quietly (CreditLine self.now.state at session)) self.now.state (full_step_of x)) }
         ensures follows { IfOk result (λ x. MayFollowFull self.now.state (full_step_of x)) }

@@ -168,15 +168,15 @@ impl Operator {
     }
 
     /// The bill of a session is taken back at a moment, where the session is COMPLETED, has one bill and no credit yet,
-    /// and the provider of the bill's token is one of the site. The credit has the bill's id followed by `-C`, the bill's
-    /// cost negated, and the bill's id as its `credit_reference_id`; it is updated later than the bill, and all else is
-    /// as in the bill. It is stored, and pushed to that provider (OCPI 2.2.1, CDRs: CDR object, members `credit` and
-    /// `credit_reference_id`; Sender interface). Nothing happens where there is no such bill, where its id has more than
-    /// 37 characters, or where a record has the id of its credit.
+    /// and the provider of the bill's token is one of the site. The credit has the bill's id followed by `-C`, the
+    /// bill's cost negated, and the bill's id as its `credit_reference_id`; it is updated later than the bill, and all
+    /// else is as in the bill. It is stored, and pushed to that provider (OCPI 2.2.1, CDRs: CDR object, members
+    /// `credit` and `credit_reference_id`; Sender interface). Nothing happens where there is no such bill, where its id
+    /// has more than 37 characters, or where a record has the id of its credit.
     ///
     /// Refused (`StampEnd`) where the bill was updated at the last moment, since no credit can be later, and
-    /// (`NumbersUsedUp`) where a counter of packets or of requests would pass its last number. A refusal, want of memory
-    /// included, changes nothing and sends nothing.
+    /// (`NumbersUsedUp`) where a counter of packets or of requests would pass its last number. A refusal, want of
+    /// memory included, changes nothing and sends nothing.
     pub fn on_credit(&mut self, at: Moment, session_id: CiText<36>) -> Result<Stepped, NodeFault>
         ensures step { IfOk result (λ x. CreditStep self.old.state at (key session_id) (out_of self.new.state x)) }
         ensures fault { IfErr result (IsCreditFault self.old.state at (key session_id)) }

@@ -4,8 +4,8 @@ ghost use Rattle.replay_laws.specs.Answers.{NodesHaveOneAnswer, ReplaysHaveOneAn
 ghost use Rattle.replay_laws.specs.Setups.{SetupsHavePlaces};
 
 /// A node has at most one answer to an event: the packets that it sends, whether rows change, and the node behind it;
-/// that the event is none of its role; or why it refuses it. A new START_SESSION or RESERVE_NOW is excepted for which an
-/// operator may take one of several EVSEs.
+/// that the event is none of its role; or why it refuses it. A new START_SESSION or RESERVE_NOW is excepted for which
+/// an operator may take one of several EVSEs.
 pub fn nodes_have_one_answer()
     ensures { NodesHaveOneAnswer }
 {}

@@ -38,8 +38,8 @@ use tables::Table;
 /// The newest versions of the sessions of an operator, and its charge detail records, each by its id without case, and
 /// the numbers of the last of both. All are the operator's own, so that ids alone tell them apart.
 ///
-/// A look-up and a change cost the logarithm of the number of sessions, or of records, and so does a look-up of the bill
-/// or the credit of a session.
+/// A look-up and a change cost the logarithm of the number of sessions, or of records, and so does a look-up of the
+/// bill or the credit of a session.
 #[derive(Drop)]
 pub struct SessionBook {
     pub(crate) sessions: Table<CiKey<36>, Boxed<Session>>,

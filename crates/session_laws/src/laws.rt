@@ -35,9 +35,9 @@ pub fn final_versions_are_last()
 /// An event puts a bill exactly where it puts a COMPLETED version of a session, and it is the record of that version:
 /// its energy and its cost are the version's, and its id is that of the next number. A credit that an event puts takes
 /// back a bill that stands, of a COMPLETED session without a credit: it names the bill, its cost is the bill's negated,
-/// its id is new, and it is later than the bill. The event is an order to take the bill of that session back. A bill for
-/// a session that goes on, a completed session without one, a second credit, one that nobody ordered, or one of a cost
-/// that is not the bill's, would break this.
+/// its id is new, and it is later than the bill. The event is an order to take the bill of that session back. A bill
+/// for a session that goes on, a completed session without one, a second credit, one that nobody ordered, or one of a
+/// cost that is not the bill's, would break this.
 pub fn records_are_of_completed_sessions()
     ensures { RecordsAreOfCompletedSessions }
 {}

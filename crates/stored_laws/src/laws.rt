@@ -10,8 +10,8 @@ pub fn operators_are_whole()
     ensures { OperatorsAreWhole }
 {}
 
-/// And each provider: the authorization references of its commands are its own, its tokens and those of its sessions and
-/// charge detail records are of its own drivers, and it holds no two bills of one session of an operator, nor two
+/// And each provider: the authorization references of its commands are its own, its tokens and those of its sessions
+/// and charge detail records are of its own drivers, and it holds no two bills of one session of an operator, nor two
 /// credits.
 pub fn providers_are_whole()
     ensures { ProvidersAreWhole }

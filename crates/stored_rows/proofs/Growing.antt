@@ -12,7 +12,7 @@ use Rattle.ocpi_types.specs.Rows.{key_of}
 use Rattle.ocpi_types.specs.declared.rows.Row.{Row}
 use Rattle.ocpi_types.specs.declared.rows.Change.TheVariants.{Put}
 use Rattle.ocpi_types.specs.declared.rows.Row.TheVariants as row
-use Rattle.stored_rows.specs.Turns.{order_of, turn_of}
+use Rattle.stored_rows.specs.Turns.{rank_of, turn_of}
 
 -- the rows of the list stand, and no others, each under a key of its own
 pub record AreExactly (rows : List Row) (Has : Row → Type 0) : Type 0 where
@@ -48,8 +48,8 @@ one_more rows Had Has x was new now = record {
     one_alone : (x : Row) → AllPairs (λ a b. key_of a ≢ key_of b) (x ∷ [])
     one_alone x i j d below bound = absurd (omega arith)
 
--- a turn is at most the last one and at most the order, and each that is not the last one is the order
-turn_within : (r : Row) → (turn_of r ≤ 2) × (turn_of r ≤ order_of r) × ((turn_of r ≡ order_of r) ⊎ (turn_of r ≡ 2))
+-- a turn is at most the last one and at most the rank, and each that is not the last one is the rank
+turn_within : (r : Row) → (turn_of r ≤ 2) × (turn_of r ≤ rank_of r) × ((turn_of r ≡ rank_of r) ⊎ (turn_of r ≡ 2))
 turn_within (row.Count c l) = (omega arith, omega arith, inl refl)
 turn_within (row.Reply s n r) = (omega arith, omega arith, inl refl)
 turn_within (row.Token t) = (omega arith, omega arith, inr refl)
@@ -64,8 +64,8 @@ turn_within (row.Session s) = (omega arith, omega arith, inr refl)
 turn_within (row.Cdr c) = (omega arith, omega arith, inr refl)
 turn_within (row.Command n c) = (omega arith, omega arith, inr refl)
 
--- rows that rise by order come in turn
-pub turn_rises : (r q : Row) → order_of r ≤ order_of q → turn_of r ≤ turn_of q
+-- rows that rise by rank come in turn
+pub turn_rises : (r q : Row) → rank_of r ≤ rank_of q → turn_of r ≤ turn_of q
 turn_rises r q up =
     let of_r = turn_within r in
     elim (turn_within q).2 [

@@ -9,8 +9,8 @@ turn_of (row.Count c last) = 0
 turn_of (row.Reply sender number reply) = 1
 turn_of r = 2
 
--- the order of a row among those that are put: by its turn, and pushes and commands, which have the last turn, by number
-abbrev pub order_of : Row → ℕ
-order_of (row.Push number to push) = 2 + number
-order_of (row.Command number command) = 2 + number
-order_of r = turn_of r
+-- the rank of a row among those that are put: by its turn, and pushes and commands, which have the last turn, by number
+abbrev pub rank_of : Row → ℕ
+rank_of (row.Push number to push) = 2 + number
+rank_of (row.Command number command) = 2 + number
+rank_of r = turn_of r

@@ -5,7 +5,7 @@
 //! - The number of which a party made an id is found, and none where it made it of no number. By `own_number`: `some`,
 //!   `none`.
 //! - Rows are put counters first, then replies, then all others, of which pushes and commands rise by number. By
-//!   `in_turn`: `same`, `order`, `by_number`.
+//!   `in_turn`: `same`, `order`, `by_rank`.
 #![tactic(auto)]
 
 mod fault;

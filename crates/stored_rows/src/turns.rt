@@ -2,13 +2,13 @@
 
 ghost use Rattle.std.specs.Prelude.{◌≡◌};
 ghost use Rattle.std.specs.List.Sorted.{IsNonDecreasingBy, IsPermutation};
-ghost use Rattle.stored_rows.specs.Turns.{order_of, turn_of};
+ghost use Rattle.stored_rows.specs.Turns.{rank_of, turn_of};
 
 use ocpi_types::Row;
 
-/// The order of a row among those that are put: what is less is put first.
-fn order_of(row: &Row) -> u64
-    ensures { result ≡ order_of row.now }
+/// The rank of a row among those that are put: what is less is put first.
+fn rank_of(row: &Row) -> u64
+    ensures { result ≡ rank_of row.now }
 {
     match row {
         Row::Count { .. } => 0,
@@ -31,9 +31,9 @@ fn order_of(row: &Row) -> u64
 pub fn in_turn(rows: Vec<Row>) -> Vec<Row>
     ensures same { IsPermutation rows.items result.items }
     ensures order { IsNonDecreasingBy turn_of result.items }
-    ensures by_number { IsNonDecreasingBy order_of result.items }
+    ensures by_rank { IsNonDecreasingBy rank_of result.items }
 {
     let mut sorted = rows;
-    sorted.sort_unstable_by_key(|row| order_of(row));
+    sorted.sort_unstable_by_key(|row| rank_of(row));
     sorted
 }

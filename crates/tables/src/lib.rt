@@ -23,7 +23,8 @@
 //!
 //! # Promises
 //!
-//! A `Table` and a `Lookup` are two finite maps, the values (`shown`) and the keys that have a value or room for one (`room`).
+//! A `Table` and a `Lookup` are two finite maps, the values (`shown`) and the keys that have a value or room for one
+//! (`room`).
 //!
 //! - Look-ups and visits are what the maps answer. By `get`, `contains`, `has_room`, `iter`, `range_from`. A `Lookup`
 //!   visits each entry once, in any order.

@@ -62,8 +62,8 @@ fn main(rt: HostRuntime) -> ExitCode {
     }
 }
 
-/// A run of the nodes of the input, of all nodes of its setup, of which all holds that the line of success says. (A runtime
-/// may wait in `main` alone, which hands that on.)
+/// A run of the nodes of the input, of all nodes of its setup, of which all holds that the line of success says. (A
+/// runtime may wait in `main` alone, which hands that on.)
 fn show_all<R: Threads + Wait + Sync + Input>(rt: &R, alloc: Global) -> Result<Shown, Failed>
     ensures { IfOk result (λ s. IsShown s.input.setup s.run) }
 {

@@ -55,8 +55,8 @@ fn histories_of(
     Ok(histories)
 }
 
-/// Refuses where the nodes have fewer than 20,000 entries (`FewEntries`), or a world of the setup plays their run otherwise
-/// (`NotPlayed`).
+/// Refuses where the nodes have fewer than 20,000 entries (`FewEntries`), or a world of the setup plays their run
+/// otherwise (`NotPlayed`).
 pub fn show(alloc: Global, setup: &Setup, run: &WovenRun) -> Result<(), Failed>
     requires { AreCellsOf setup.now run.now.cells.items }
     ensures many { OnOk result (20000 ≤ entries_of run.now.cells.items) }

@@ -173,12 +173,12 @@ fn done_of(tree: &Tree<'_>) -> Result<Option<DoneLine>, DoneFault>
 /// line of JSON, or no object with a member `done`. `scratch` is memory for reading, whatever it holds: one is kept and
 /// lent to each line.
 ///
-/// Such an object has one of seven words under `done`, a whole number under `line`, and the members of its word, each of
-/// the right kind: of `opened` a party and the whole numbers `rows` and `serial`, of `stepped` the whole number
+/// Such an object has one of seven words under `done`, a whole number under `line`, and the members of its word, each
+/// of the right kind: of `opened` a party and the whole numbers `rows` and `serial`, of `stepped` the whole number
 /// `packets`, of `malformed` and `refused` the text `name` and the whole number `number`, of `all` the whole number
-/// `events`. A `malformed` one may have the text `field`, and each the whole number `event`, the place of the event that
-/// it tells of. Further members are read past. Refused (`NoDone`) where it has not these, and (`Memory`) for want of
-/// memory.
+/// `events`. A `malformed` one may have the text `field`, and each the whole number `event`, the place of the event
+/// that it tells of. Further members are read past. Refused (`NoDone`) where it has not these, and (`Memory`) for want
+/// of memory.
 #[tactic(auto, unfolding(crate::specs::Dones::done_in))]
 pub fn read_done(
     alloc: Global,

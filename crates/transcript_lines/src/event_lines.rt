@@ -46,8 +46,8 @@ fn write_restart(node: &Party, out: &mut RecordWriter) -> Result<(), AllocError>
 }
 
 /// The line of the event that a packet comes to a node, which is named by its sender and its serial, as one of a run of
-/// all nodes has it: `{"at":"2025-01-01T10:00:00Z","event":"deliver","from":"BE/BEC","node":"NL/TNM","serial":7}`. Where
-/// it is no longer than a line may be, it is read as that event. It fails for want of memory alone.
+/// all nodes has it: `{"at":"2025-01-01T10:00:00Z","event":"deliver","from":"BE/BEC","node":"NL/TNM","serial":7}`.
+/// Where it is no longer than a line may be, it is read as that event. It fails for want of memory alone.
 #[tactic(auto, using(crate::proofs::EventLines::delivery_is, crate::proofs::EventLines::delivery_again))]
 pub fn delivery_line(
     alloc: Global,

@@ -1,5 +1,5 @@
-//! What event lines of one node are in a run of all nodes, and how faults are told. Each law is the contract of a function
-//! that does nothing.
+//! What event lines of one node are in a run of all nodes, and how faults are told. Each law is the contract of a
+//! function that does nothing.
 
 ghost use Rattle.std.specs.Prelude.{◌≡◌, Some, option_map};
 ghost use Rattle.json_text.specs.Fault as line;

@@ -73,8 +73,8 @@ fn counted(count: usize, changes: bool) -> usize
     }
 }
 
-/// Whether there are more ways than are followed behind a line that a stop left open: with it, where that changes a row,
-/// and without it. An error is want of memory.
+/// Whether there are more ways than are followed behind a line that a stop left open: with it, where that changes a
+/// row, and without it. An error is want of memory.
 pub(crate) fn are_too_many<'a>(
     alloc: Global,
     seed: HashSeed,

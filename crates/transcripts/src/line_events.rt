@@ -242,8 +242,8 @@ fn unless_starved<'a>(
     }
 }
 
-/// The events of a line, which has to hold one, or an array. Refused (`NotARun`) where it holds neither, and for want of
-/// memory.
+/// The events of a line, which has to hold one, or an array. Refused (`NotARun`) where it holds neither, and for want
+/// of memory.
 pub(crate) fn events_of<'a>(
     alloc: Global,
     scratch: &mut Scratch,

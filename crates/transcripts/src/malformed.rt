@@ -74,8 +74,8 @@ pub(crate) fn may_starve(
     }
 }
 
-/// Whether what is told of a line that was refused fits it as an event: it is refused so, or memory may have run out for
-/// it. An error is want of memory.
+/// Whether what is told of a line that was refused fits it as an event: it is refused so, or memory may have run out
+/// for it. An error is want of memory.
 pub(crate) fn fits_event(
     alloc: Global,
     scratch: &mut Scratch,

@@ -4,13 +4,7 @@ ghost use Rattle.std.specs.Prelude.{◌≡◌, ◌≢◌, ◌↔◌, Contains, I
 ghost use Rattle.ocpi_json.specs.SetupForms.{setup_in};
 ghost use Rattle.transcripts.specs.Accusing.{ComesToNone, EndsBy, EndsByLine, KeepsComing, KeepsLine, OpensNone};
 ghost use Rattle.transcripts.specs.Covering.{KeepsAll};
-ghost use Rattle.transcripts.specs.Following.{
-  ShowsEvent,
-  TakesLine,
-  TakesPart,
-  in_run,
-  is_open_behind,
-};
+ghost use Rattle.transcripts.specs.Following.{ShowsEvent, TakesLine, TakesPart, in_run, is_open_behind};
 ghost use Rattle.transcripts.specs.Ways.{TellsTooMany};
 ghost use Rattle.transcript_parts.specs.Beginnings.{Accuses};
 ghost use Rattle.transcript_parts.specs.LineReads.{GaveNothing};

@@ -108,17 +108,18 @@ fn read_parts<'a>(
     }
 }
 
-/// Reads a file as what the node of one party of that setup wrote since it was opened without rows, run by run: an echoed
-/// line, the packets that it gave, and what became of it. `earlier`: what was read of other files, of other parties.
+/// Reads a file as what the node of one party of that setup wrote since it was opened without rows, run by run: an
+/// echoed line, the packets that it gave, and what became of it. `earlier`: what was read of other files, of other
+/// parties.
 ///
 /// Each event that was carried out is entered, of a line of several in their order, and so is each later run, as a
 /// restart. The events of a line that a stop left without its answer are entered, all of them, where a packet or an
 /// answer of an event was written; else where the lines behind it fit that, and not that it was not carried out.
 ///
 /// Refused (`Wrong`) where a line is none of a transcript, of another setup, or of a party of another file; (`NotARun`)
-/// where the node would have answered an echoed line otherwise; (`TooManyWays`) where a stop leaves more than 64 ways in
-/// which all before may have happened; and (`Memory`) for want of memory. `scratch` is memory for reading, whatever it
-/// holds.
+/// where the node would have answered an echoed line otherwise; (`TooManyWays`) where a stop leaves more than 64 ways
+/// in which all before may have happened; and (`Memory`) for want of memory. `scratch` is memory for reading, whatever
+/// it holds.
 pub fn read_transcript<'a>(
     alloc: Global,
     seed: HashSeed,

@@ -17,8 +17,8 @@ fn either(one: bool, other: bool) -> bool
     one || other
 }
 
-/// The events of a line come to a node, one after another. Whether a row changed by any; none where one did not give what
-/// is told of it. An error is want of memory.
+/// The events of a line come to a node, one after another. Whether a row changed by any; none where one did not give
+/// what is told of it. An error is want of memory.
 pub(crate) fn come_in_turn<'a>(
     way: &mut Way<'a>,
     events: &[LineEvent<'a>],

@@ -152,8 +152,8 @@ fn changed_where(fits: bool, changed: bool) -> Option<bool>
     if fits { Some(changed) } else { None }
 }
 
-/// An event of an entry comes to another node, or that starts again as its node did. Whether it is entered there. An error
-/// is want of memory.
+/// An event of an entry comes to another node, or that starts again as its node did. Whether it is entered there. An
+/// error is want of memory.
 fn repeat(replay: &mut NodeReplay<'_>, entry: &Entry) -> Result<bool, AllocError>
     ensures { IfOk result (λ done. IsTrue done → Repeats (entry.now ∷ []) replay.old replay.new) }
 {
@@ -248,8 +248,8 @@ impl<'a> Way<'a> {
         }
     }
 
-    /// An event of a line comes to the node. Whether it changed a row; none where it did not give what is told of it. An
-    /// error is want of memory.
+    /// An event of a line comes to the node. Whether it changed a row; none where it did not give what is told of it.
+    /// An error is want of memory.
     pub(crate) fn take(
         &mut self,
         event: &LineEvent<'a>,
@@ -315,8 +315,8 @@ impl<'a> Way<'a> {
         Ok(Way { replay, sources })
     }
 
-    /// A way of another node, to which all that came to this one comes once more. None where that is refused there, or no
-    /// node is of that party. An error is want of memory.
+    /// A way of another node, to which all that came to this one comes once more. None where that is refused there, or
+    /// no node is of that party. An error is want of memory.
     pub(crate) fn repeated(
         &self,
         alloc: Global,

@@ -1,5 +1,5 @@
-//! What an interleaving is where what given parties sent is taken as it came. Each law is the contract of a function that
-//! does nothing.
+//! What an interleaving is where what given parties sent is taken as it came. Each law is the contract of a function
+//! that does nothing.
 
 ghost use Rattle.weave.specs.Given.{AnyGiven, NoneGiven};
 

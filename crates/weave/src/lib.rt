@@ -64,12 +64,13 @@ fn found_turns(
 }
 
 /// One order of all entries of the histories of some nodes, in which each delivery follows the sending of that packet.
-/// What the given parties sent, in whichever case they are spelled, is taken as it came: its delivery waits for nothing.
+/// What the given parties sent, in whichever case they are spelled, is taken as it came: its delivery waits for
+/// nothing.
 ///
 /// In the order of the histories each is advanced as far as it can go, round by round.
 ///
-/// - `NeverSent`, `Differs`: the first entry, in the order of the histories and of their entries, which delivers a packet
-///   that was not sent so; and of one that differs, by which entry.
+/// - `NeverSent`, `Differs`: the first entry, in the order of the histories and of their entries, which delivers a
+///   packet that was not sent so; and of one that differs, by which entry.
 /// - `NoOrder`: each packet that came was sent so. To these places each history is advanced, and each next entry waits
 ///   for what is sent behind them.
 /// - `Memory`: memory ran out.

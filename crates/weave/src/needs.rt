@@ -1,5 +1,5 @@
-//! What each entry waits for, and the first that waits for what was never sent. What given parties sent is waited for by
-//! none.
+//! What each entry waits for, and the first that waits for what was never sent. What given parties sent is waited for
+//! by none.
 
 ghost use Rattle.std.specs.Prelude.{◌≡◌, ◌<◌, IfErr, IfNone, IfOk, IfSome, IsTrue, Contains, false, length, Some as SomeOf, slice_get};
 ghost use Rattle.ocpi_text.specs.Text.{key};
@@ -20,7 +20,8 @@ use ocpi_types::{NodeEventKind, Packet};
 use packet_equality::is_equal_packet;
 use std::alloc::{AllocError, Global};
 
-/// What an entry waits for: that a history has sent the packet of a serial. Where the serial is 0, it waits for nothing.
+/// What an entry waits for: that a history has sent the packet of a serial. Where the serial is 0, it waits for
+/// nothing.
 #[derive(Clone, Copy)]
 pub struct Need {
     /// The number of the sender's history.

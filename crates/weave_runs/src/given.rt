@@ -66,8 +66,8 @@ fn given_party<'a>(
     Ok(*party)
 }
 
-/// The parties that words name, in their order, as the setup spells them; or why one of them is none whose packets can be
-/// taken as they came.
+/// The parties that words name, in their order, as the setup spells them; or why one of them is none whose packets can
+/// be taken as they came.
 pub(crate) fn given_parties<'a>(
     alloc: Global,
     nodes: &[Node],

@@ -100,10 +100,10 @@ fn write_refusal<'a, W: Write>(
 /// line with the refusal. No files give nothing. What the parties sent that `given` names, in whichever case, is taken
 /// as it came: they have no files. Where one of them is none of the setup, or has a file, nothing is written.
 ///
-/// The run is an interleaving of the histories of the files. Where nothing came from a given party, it is a legal run of
-/// their setup's world from its opening, which ends with each node as its history left it. So the nodes are safe, what
-/// is acknowledged is held, and answers agree. Where packets came that were never sent, or were sent otherwise, or there
-/// is no order, the line says so, and these histories have no interleaving.
+/// The run is an interleaving of the histories of the files. Where nothing came from a given party, it is a legal run
+/// of their setup's world from its opening, which ends with each node as its history left it. So the nodes are safe,
+/// what is acknowledged is held, and answers agree. Where packets came that were never sent, or were sent otherwise, or
+/// there is no order, the line says so, and these histories have no interleaving.
 ///
 /// All of it is made before anything is written. Where writing fails, a beginning of it is written. What is said beside
 /// a refusal, if anything, is added to `words`.

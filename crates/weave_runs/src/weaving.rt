@@ -69,8 +69,8 @@ fn histories_of<'a>(
     Ok(histories)
 }
 
-/// Weaves transcripts of nodes of the setup of a beginning. What the given parties sent is taken as it came. An error is
-/// want of memory.
+/// Weaves transcripts of nodes of the setup of a beginning. What the given parties sent is taken as it came. An error
+/// is want of memory.
 fn weave_given<'a>(
     alloc: Global,
     beginning: &Beginning<'_>,
