@@ -1,16 +1,25 @@
 #!/usr/bin/env python3
 """The command `rt` of the kit as a module, for the scripts beside this one; as a program it is that command: kit.py WORD..
 
-A crate's sum has those of the crates below it in it. Some kits take the sum of a crate once for each path that leads to it,
-which at the upper crates is tens of thousands of times. Here it is taken once for each question. The same holds of the crates
-below a crate, which do not change: they are found once.
+A crate's sum has those of the crates below it in it. Some kits take the sum of a crate once for each path that leads
+to it, which at the upper crates is tens of thousands of times. Here it is taken once for each question. The same holds
+of the crates below a crate, which do not change: they are found once.
+
+With RT_JOBS the kit runs so many tasks side by side, each with one job, whatever memory there is. (Without, it gives a
+check the processors that nothing waits for, but three jobs made `operator_core` no faster.) Here a task waits for its
+memory too. A check from nothing took less than half of what the kit guesses, so it gets half. A try of an edit gets the
+guess: a search that fails takes more.
 """
+import contextlib
 import importlib.machinery
 import importlib.util
 import os
 import shutil
 import sys
 import threading
+
+# How the key of a task goes on behind its crate, where it tries an edit.
+EDITS = ("edits",), ("again",)
 
 
 def load_rt():
@@ -21,7 +30,52 @@ def load_rt():
     loader.exec_module(made)
     made.rtlib.Crate.stamp = taken_once(made.rtlib.Crate.stamp)
     made.rtlib.Crate.below = found_once(made.rtlib.Crate.below)
+    made.in_lanes = in_memory(made.in_lanes, made.free)
     return made
+
+
+class Memory:
+    """The memory of the tasks that run."""
+
+    def __init__(self, most):
+        self.left, self.running, self.changed = most, 0, threading.Condition()
+
+    @contextlib.contextmanager
+    def part(self, much):
+        """So much of it, once it is there or nothing else runs."""
+        with self.changed:
+            self.changed.wait_for(lambda: much <= self.left or not self.running)
+            self.left, self.running = self.left - much, self.running + 1
+        try:
+            yield
+        finally:
+            with self.changed:
+                self.left, self.running = self.left + much, self.running - 1
+                self.changed.notify_all()
+
+
+def in_memory(in_lanes, free):
+    """How tasks are run side by side, where each waits for its memory. The rest of the system gets what no task may take."""
+
+    def of(tasks):
+        memory = Memory(0.85 * free())
+
+        def in_turn(key, work, guess, call):
+            if key[1:2] == ("tests",) and not work:
+                # (the crate has none)
+                return call
+
+            def called(given, jobs):
+                with memory.part(guess if key[1:2] in EDITS else guess / 2):
+                    return call(given, jobs)
+
+            return called
+
+        return in_lanes({
+            key: (waits, work, guess, in_turn(key, work, guess, call))
+            for key, (waits, work, guess, call) in tasks.items()})
+
+    return of
 
 
 def found_once(below):

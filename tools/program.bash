@@ -154,14 +154,3 @@ wait_for_turn() {
     say "another process builds the program: waiting for it"
     flock 9
 }
-
-# How many checks run side by side, each with one job: as many as there are processors, and as memory holds at 6 GB each, but two
-# where there are two processors. (`rt` by itself gives a check the processors that nothing waits for, but a second job saves a tenth
-# of the time and costs a third.)
-count_lanes() {
-    local processors lanes
-    processors=$(nproc)
-    lanes=$(awk '/^MemAvailable:/ { print int($2 / 6000000) }' /proc/meminfo)
-    ((lanes >= 2)) || lanes=2
-    printf '%s\n' "$((lanes < processors ? lanes : processors))"
-}
