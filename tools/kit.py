@@ -6,9 +6,10 @@ to it, which at the upper crates is tens of thousands of times. Here it is taken
 of the crates below a crate, which do not change: they are found once.
 
 With RT_JOBS the kit runs so many tasks side by side, each with one job, whatever memory there is. (Without, it gives a
-check the processors that nothing waits for, but three jobs made `operator_core` no faster.) Here a task waits for its
-memory too. A check from nothing took less than half of what the kit guesses, so it gets half. A try of an edit gets the
-guess: a search that fails takes more.
+check more jobs where processors are idle, which takes up to a third more processor time.) Here a task waits for its
+memory too. Of 39 checks from nothing 37 took less than half of what the kit guesses, so one gets half. (`node_store`
+took 0.64 of it, `node_keepers` 0.83.)
+A try of an edit gets the guess: a search that fails takes more.
 """
 import contextlib
 import importlib.machinery
