@@ -29,8 +29,6 @@ mod output_lines;
 mod shapes;
 mod showing;
 mod tables;
-#[cfg(test)]
-mod tests;
 mod text_faults;
 mod watch;
 mod watched;

@@ -46,11 +46,13 @@ impl<K: Keep + Drop> Drop for NodeCell<K> {
         let NodeCell {
             alloc: _,
             party: _,
-            stored: _,
-            history: _,
+            stored,
+            history,
             is_fresh: _,
             first: _,
         } = self;
+        drop(stored);
+        drop(history);
     }
 }
 

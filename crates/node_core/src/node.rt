@@ -12,10 +12,19 @@ use provider_core::Provider;
 use std::alloc::AllocError;
 
 /// A node of either role.
-#[derive(Drop)]
 pub enum Node {
     Operator(Operator),
     Provider(Provider),
+}
+
+/// What a derive would do, in a function of its own: so it is proved once, and not in each function that drops one.
+impl Drop for Node {
+    fn drop(self) {
+        match self {
+            Node::Operator(operator) => drop(operator),
+            Node::Provider(provider) => drop(provider),
+        }
+    }
 }
 
 /// What holds of every provider at any time, which its type keeps.

@@ -30,7 +30,8 @@ pub(crate) struct Locked<J: Naming, K: Keep> {
 /// What a derive would do, in a function of its own: so it is proved once, and not in each function that drops one.
 impl<J: Naming, K: Keep + Drop> Drop for Locked<J, K> {
     fn drop(self) {
-        let Locked { cell: _, made: _ } = self;
+        let Locked { cell, made: _ } = self;
+        drop(cell);
     }
 }
 

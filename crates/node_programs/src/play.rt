@@ -50,11 +50,10 @@ pub struct Played<K> {
 /// What a derive would do, in a function of its own: so it is proved once, and not in each function that drops a world.
 impl<K: Drop> Drop for Played<K> {
     fn drop(self) {
-        let Played {
-            setup: _,
-            world: _,
-            kept: _,
-        } = self;
+        let Played { setup, world, kept } = self;
+        drop(setup);
+        drop(world);
+        drop(kept);
     }
 }
 

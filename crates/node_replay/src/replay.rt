@@ -42,9 +42,11 @@ impl<'a> Drop for NodeReplay<'a> {
             seed: _,
             nodes: _,
             member: _,
-            node: _,
-            entries: _,
+            node,
+            entries,
         } = self;
+        drop(node);
+        drop(entries);
     }
 }
 
@@ -141,7 +143,9 @@ impl<'a> NodeReplay<'a> {
         ensures { IfOk result (λ n. (rows : List RowOf) × AreNodeRows rows self.now.state × (n ≡ length rows)) }
     {
         let rows = self.node.stored()?;
-        Ok(rows.len())
+        let number = rows.len();
+        drop(rows);
+        Ok(number)
     }
 
     /// The serial of the last packet that it sent, 0 where it sent none. It takes no memory.
@@ -193,7 +197,13 @@ impl<'a> NodeReplay<'a> {
         restarts_can_start_again();
         nodes_keep_openings();
         let node = made_again(self.alloc, self.seed, self.nodes, self.member, &self.node)?;
-        let entries = restarted_copies(self.alloc, self.entries.as_slice())?;
+        let entries = match restarted_copies(self.alloc, self.entries.as_slice()) {
+            Ok(entries) => entries,
+            Err(_) => {
+                drop(node);
+                return Err(AllocError);
+            }
+        };
         Ok(NodeReplay {
             alloc: self.alloc,
             seed: self.seed,

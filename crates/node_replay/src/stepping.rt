@@ -38,7 +38,10 @@ fn carry_out(node: &mut Node, work: NodeWork) -> Result<Done, AllocError>
 {
     match node.make_room(&work) {
         Ok(()) => {}
-        Err(_) => return Err(AllocError),
+        Err(_) => {
+            drop(work);
+            return Err(AllocError);
+        }
     }
     let changed = changes_rows(&work);
     Ok(Done {
@@ -97,16 +100,25 @@ pub(crate) fn enter(
 {
     match entries.reserve(1) {
         Ok(()) => {}
-        Err(_) => return Err(ReplayFault::Memory),
+        Err(_) => {
+            drop(event);
+            return Err(ReplayFault::Memory);
+        }
     }
     match step(alloc, node, &event) {
-        Ok(None) => Ok(Replayed::Skipped),
+        Ok(None) => {
+            drop(event);
+            Ok(Replayed::Skipped)
+        }
         Ok(Some(done)) => {
             let Done { packets, changed } = done;
             push_entry(entries, event, packets);
             Ok(Replayed::Stepped { changed })
         }
-        Err(fault) => Err(fault),
+        Err(fault) => {
+            drop(event);
+            Err(fault)
+        }
     }
 }
 
@@ -120,7 +132,11 @@ pub(crate) fn foretell(node: &Node, event: &NodeEventKind) -> Result<bool, Alloc
     match node.plan(&input) {
         Ok(NodePlan::Skipped) => Ok(false),
         Ok(NodePlan::Refused(_)) => Ok(false),
-        Ok(NodePlan::Acts(work)) => Ok(changes_rows(&work)),
+        Ok(NodePlan::Acts(work)) => {
+            let changes = changes_rows(&work);
+            drop(work);
+            Ok(changes)
+        }
         Err(_) => Err(AllocError),
     }
 }
@@ -130,9 +146,16 @@ fn push_copy(copies: &mut Vec<Entry>, entry: &Entry) -> Result<(), AllocError>
     ensures { OnOk result (copies.new.items ≡ copies.old.items ++ entry.now ∷ []) }
 {
     let event = entry.event.copy()?;
-    let packets = entry.packets.copy()?;
-    copies.push(Entry { event, packets })?;
-    Ok(())
+    match entry.packets.copy() {
+        Ok(packets) => {
+            copies.push(Entry { event, packets })?;
+            Ok(())
+        }
+        Err(_) => {
+            drop(event);
+            Err(AllocError)
+        }
+    }
 }
 
 /// Equal entries, in order, and behind them that the node starts again. An error is want of memory.

@@ -87,27 +87,23 @@ fn weave_texts<'a>(
         }
     }
     match BufWriter::with_capacity(rt.alloc(), BUFFER_BYTES, io::writer(rt)) {
-        Ok(mut writer) => weave_to(
-            rt,
-            seed,
-            files.as_slice(),
-            words.given.as_slice(),
-            &mut writer,
-        ),
+        Ok(writer) => weave_to(rt, seed, files.as_slice(), words.given.as_slice(), writer),
         Err(_) => refuse_memory(rt),
     }
 }
 
 /// Weaves files to a writer, and says what goes with a refusal.
-fn weave_to<'a, W: Write>(
+fn weave_to<'a, W: Write + Drop>(
     rt: &HostRuntime,
     seed: HashSeed,
     files: &[TranscriptFile<'_>],
     given: &[&'a str],
-    writer: &mut W,
+    writer: W,
 ) -> Result<Ran, WeaveStop<'a>> {
+    let mut writer = writer;
     let mut words = String::new(rt.alloc());
-    let ran = run_weave(rt.alloc(), seed, files, given, writer, &mut words);
+    let ran = run_weave(rt.alloc(), seed, files, given, &mut writer, &mut words);
+    drop(writer);
     if ran.is_ok() && !words.is_empty() {
         let _ = eprintln!(rt; "{}", words.as_str());
     }

@@ -17,10 +17,17 @@ use tables::HashSeed;
 /// taken (`make_room`), and then it is carried out (`apply`, which cannot fail). What a plan ensures is what `apply`
 /// requires, as long as nothing is carried out in between. A keeper that stores the rows does so between the last two.
 /// `on_packet` and its kin are all three.
-#[derive(Drop)]
 pub struct Operator {
     pub(crate) alloc: Global,
     pub(crate) books: Books,
+}
+
+/// What a derive would do, in a function of its own: so it is proved once, and not in each function that drops one.
+impl Drop for Operator {
+    fn drop(self) {
+        let Operator { alloc: _, books } = self;
+        drop(books);
+    }
 }
 
 impl Model for Operator {

@@ -18,10 +18,17 @@ use tables::HashSeed;
 /// What happens to it is first planned (`plan_packet` and its kin, which change nothing), then the memory for it is
 /// taken (`make_room`), and then it is carried out (`apply`, which cannot fail). A keeper that stores the rows does so
 /// between the last two. `on_packet` and its kin are all three.
-#[derive(Drop)]
 pub struct Provider {
     pub(crate) alloc: Global,
     pub(crate) books: Books,
+}
+
+/// What a derive would do, in a function of its own: so it is proved once, and not in each function that drops one.
+impl Drop for Provider {
+    fn drop(self) {
+        let Provider { alloc: _, books } = self;
+        drop(books);
+    }
 }
 
 impl Model for Provider {

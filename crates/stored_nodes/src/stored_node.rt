@@ -54,9 +54,11 @@ impl<K: Keep + Drop> Drop for StoredNode<K> {
     fn drop(self) {
         let StoredNode {
             alloc: _,
-            node: _,
-            keep: _,
+            node: ended,
+            keep,
         } = self;
+        drop(ended);
+        drop(keep);
     }
 }
 
@@ -168,14 +170,20 @@ fn carry_out<K: Keep>(node: &mut Node, keep: &mut K, work: NodeWork) -> Result<A
 {
     match node.make_room(&work) {
         Ok(()) => {}
-        Err(_) => return Err(ApplyFault::Memory),
+        Err(_) => {
+            drop(work);
+            return Err(ApplyFault::Memory);
+        }
     }
     match commit(keep, work.changes()) {
         Ok(changed) => {
             let packets = node.apply(work);
             Ok(Applied::Stepped { packets, changed })
         }
-        Err(fault) => Err(ApplyFault::Store(fault)),
+        Err(fault) => {
+            drop(work);
+            Err(ApplyFault::Store(fault))
+        }
     }
 }
 

@@ -35,10 +35,13 @@ impl<K: Keep + Drop> Drop for Transaction<K> {
     fn drop(self) {
         let Transaction {
             alloc: _,
-            node: _,
-            keep: _,
-            changes: _,
+            node,
+            keep,
+            changes,
         } = self;
+        drop(node);
+        drop(keep);
+        drop(changes);
     }
 }
 
@@ -73,7 +76,11 @@ fn gather(alloc: Global, changes: &mut Vec<Change>, more: &[Change]) -> Result<(
     ensures same { OnErr result (changes.new.items ≡ changes.old.items) }
 {
     match copies(alloc, more) {
-        Ok(mut copied) => changes.append(&mut copied),
+        Ok(mut copied) => {
+            let added = changes.append(&mut copied);
+            drop(copied);
+            added
+        }
         Err(_) => Err(AllocError),
     }
 }
@@ -93,7 +100,10 @@ fn carry_out(
 {
     match node.make_room(&work) {
         Ok(()) => {}
-        Err(_) => return Err(AllocError),
+        Err(_) => {
+            drop(work);
+            return Err(AllocError);
+        }
     }
     match gather(alloc, changes, work.changes()) {
         Ok(()) => {
@@ -101,7 +111,10 @@ fn carry_out(
             let packets = node.apply(work);
             Ok(Applied::Stepped { packets, changed })
         }
-        Err(_) => Err(AllocError),
+        Err(_) => {
+            drop(work);
+            Err(AllocError)
+        }
     }
 }
 

@@ -40,10 +40,13 @@ impl Drop for World {
         let World {
             alloc: _,
             seed: _,
-            places: _,
-            changes: _,
-            sending: _,
+            places,
+            changes,
+            sending,
         } = self;
+        drop(places);
+        drop(changes);
+        drop(sending);
     }
 }
 

@@ -18,5 +18,5 @@ pub returns-in-Ok-Acts : goal.returns-in-Ok-Acts
 returns-in-Ok-Acts c =
     let is_work = subst (λ (p : NodePlan). IsPlanned (state_of c.args.node.now) c.in-Some.input p) c.in-Ok-Acts.field-0-is c.in-Ok-Acts.ensures in
     replayed.Foretells.Carried (packets_by c.in-Ok-Acts.work) (node_after c.in-Ok-Acts.work (state_of c.args.node.now))
-    (leads (state_of c.args.node.now) (node_after c.in-Ok-Acts.work (state_of c.args.node.now)) c.args.event.now c.in-Some.input c.in-Ok-Acts.work (packets_by c.in-Ok-Acts.work) c.changes_rows.result
-    c.in-Some.ensures.some is_work refl c.changes_rows.ensures refl)
+    (leads (state_of c.args.node.now) (node_after c.in-Ok-Acts.work (state_of c.args.node.now)) c.args.event.now c.in-Some.input c.in-Ok-Acts.work (packets_by c.in-Ok-Acts.work) c.changes_rows-changes.result
+    c.in-Some.ensures.some is_work refl c.changes_rows-changes.ensures refl)

@@ -1,6 +1,6 @@
 //! Explanations of whole runs.
 
-use crate::{
+use explanations::{
     LineText, Place, Program, Shape, Telling, Watch, WatchedReader, WatchedWriter,
     explain_malformed,
 };

@@ -1,0 +1,157 @@
+//! One node is run on the standard input.
+
+use crate::endings::{and_node_closed, let_go, report_node};
+use crate::watching::{Lines, lines_of, status_with, watch_in};
+use crate::{BUFFER_BYTES, tell_wait};
+use command_line::NodeWords;
+use explanations::{Program, WatchedReader, WatchedWriter};
+use line_runs::{LineReader, Ran, RunFault};
+use node_keepers::{Keeps, ListKeeps, StoreFile};
+use node_runs::{NodeRunFault, run_node};
+use node_store::StoreFault;
+use sqlite::{Start, Unknown};
+use std::alloc::Global;
+use std::io::{self, BufRead, BufReader, Write};
+use tables::HashSeed;
+
+/// Runs one node, says what stopped it, and answers the exit status.
+pub fn run_node_word(rt: &HostRuntime, seed: HashSeed, words: &NodeWords<'_>) -> u8 {
+    let telling = words.telling;
+    let mut besides = None;
+    let lines = lines_of(rt, Program::Node(words.party), telling, words.echo);
+    let ran = run_one_node(rt, seed, words, watch_in(&lines, telling), &mut besides);
+    status_with(report_node(rt, ran, besides, words), telling, lines)
+}
+
+/// Runs a node with its rows in a file, or in memory where none was named. `besides` gets what the closing refused,
+/// where the run had failed before.
+fn run_one_node(
+    rt: &HostRuntime,
+    seed: HashSeed,
+    words: &NodeWords<'_>,
+    watch: Option<&Lines<'_>>,
+    besides: &mut Option<StoreFault>,
+) -> Result<Ran, NodeRunFault> {
+    match words.store {
+        Some(path) => run_in_file(rt, seed, words, watch, path, Unknown, besides),
+        None => run_over(rt, seed, words, watch, ListKeeps::new(rt.alloc()), besides),
+    }
+}
+
+/// Runs a node with its rows in the file at that path, which must stand where the command line says so. `start` stands
+/// for what the file holds.
+fn run_in_file<S: Start>(
+    rt: &HostRuntime,
+    seed: HashSeed,
+    words: &NodeWords<'_>,
+    watch: Option<&Lines<'_>>,
+    path: &str,
+    start: S,
+    besides: &mut Option<StoreFault>,
+) -> Result<Ran, NodeRunFault> {
+    if words.existing {
+        run_over(
+            rt,
+            seed,
+            words,
+            watch,
+            StoreFile::existing(rt, path, start),
+            besides,
+        )
+    } else {
+        run_over(
+            rt,
+            seed,
+            words,
+            watch,
+            StoreFile::new(rt, path, start),
+            besides,
+        )
+    }
+}
+
+/// Runs a node on the standard input with a keeper of its rows, and closes that. With no buffer, what a line gives is
+/// written before the next is carried out.
+fn run_over<S: Keeps + Drop>(
+    rt: &HostRuntime,
+    seed: HashSeed,
+    words: &NodeWords<'_>,
+    watch: Option<&Lines<'_>>,
+    keeps: S,
+    besides: &mut Option<StoreFault>,
+) -> Result<Ran, NodeRunFault> {
+    tell_wait(
+        rt,
+        "the setup, then events. `ocpi_nodes help node` says more",
+    );
+    match BufReader::with_capacity(rt.alloc(), BUFFER_BYTES, rt.reader()) {
+        Ok(reader) => run_from(
+            rt,
+            seed,
+            words,
+            watch,
+            WatchedReader::new(reader, watch),
+            keeps,
+            besides,
+        ),
+        Err(_) => {
+            drop(keeps);
+            Err(NodeRunFault::Run(RunFault::ReadFailed))
+        }
+    }
+}
+
+/// Runs a node on what a reader gives.
+fn run_from<R: BufRead + Drop, S: Keeps + Drop>(
+    rt: &HostRuntime,
+    seed: HashSeed,
+    words: &NodeWords<'_>,
+    watch: Option<&Lines<'_>>,
+    reader: R,
+    keeps: S,
+    besides: &mut Option<StoreFault>,
+) -> Result<Ran, NodeRunFault> {
+    let mut writer = WatchedWriter::new(io::writer(rt), watch);
+    let ran = run_to(rt.alloc(), seed, words, reader, &mut writer, keeps, besides);
+    drop(writer);
+    ran
+}
+
+/// Runs a node on what a reader gives to a writer, and closes the keeper of its rows.
+fn run_to<R: BufRead + Drop, W: Write, S: Keeps + Drop>(
+    alloc: Global,
+    seed: HashSeed,
+    words: &NodeWords<'_>,
+    reader: R,
+    writer: &mut W,
+    keeps: S,
+    besides: &mut Option<StoreFault>,
+) -> Result<Ran, NodeRunFault> {
+    let mut input = LineReader::new(reader);
+    let mut kept = None;
+    let mut keeps = keeps;
+    let ran = run_node(
+        alloc,
+        seed,
+        &mut input,
+        writer,
+        words.party,
+        words.echo,
+        &mut keeps,
+        &mut kept,
+    );
+    drop(input);
+    let closed = close_one(&mut keeps, kept);
+    drop(keeps);
+    let (ran, refusal) = and_node_closed(ran, closed);
+    *besides = refusal;
+    ran
+}
+
+/// Closes the keeper of the node, where it was opened.
+fn close_one<S: Keeps>(keeps: &mut S, kept: Option<S::Kept>) -> Result<(), StoreFault> {
+    match kept {
+        Some(keep) => let_go(keeps.close(1, keep)),
+        None => Ok(()),
+    }
+}

@@ -1,0 +1,78 @@
+//! What is owed by the rows of a file is written to the standard output.
+
+use crate::BUFFER_BYTES;
+use crate::endings::{Told, and_closed, let_go, report};
+use line_runs::{Ran, RunFault};
+use node_keepers::{Found, rows_in};
+use node_programs::{PlayFault, run_settle};
+use node_store::StoreFault;
+use ocpi_types::Row;
+use sqlite::Unknown;
+use std::io::{self, BufWriter, Write};
+
+/// Runs `settle`, says what stopped it, and answers the exit status.
+pub fn run_settle_word(rt: &HostRuntime, file: &str) -> u8 {
+    let mut told = Told::new(rt.alloc());
+    let ran = settle_buffered(rt, file, &mut told);
+    report(rt, ran, &told)
+}
+
+/// Writes what is owed by the rows of a file to the standard output.
+fn settle_buffered(rt: &HostRuntime, file: &str, told: &mut Told) -> Result<Ran, PlayFault> {
+    match BufWriter::with_capacity(rt.alloc(), BUFFER_BYTES, io::writer(rt)) {
+        Ok(writer) => settle_to(rt, writer, file, told),
+        Err(_) => Err(PlayFault::Run(RunFault::WriteFailed)),
+    }
+}
+
+/// Writes what is owed by the rows of a file to a writer.
+fn settle_to<W: Write + Drop>(
+    rt: &HostRuntime,
+    writer: W,
+    file: &str,
+    told: &mut Told,
+) -> Result<Ran, PlayFault> {
+    let mut writer = writer;
+    let ran = settle_file(rt, &mut writer, file, told);
+    drop(writer);
+    ran
+}
+
+/// Writes what is owed by the rows of a file, and notes what is told of it.
+fn settle_file<W: Write>(
+    rt: &HostRuntime,
+    writer: &mut W,
+    file: &str,
+    told: &mut Told,
+) -> Result<Ran, PlayFault> {
+    let _ = told.place.push_str(file);
+    let _ = told.unclosed.push_str(file);
+    settle_found(rt, writer, rows_in(rt, file, Unknown), told)
+}
+
+/// Writes what is owed by what was found in a file, which is let go first.
+fn settle_found<W: Write, C: Drop>(
+    rt: &HostRuntime,
+    writer: &mut W,
+    found: Result<Found<C>, StoreFault>,
+    told: &mut Told,
+) -> Result<Ran, PlayFault> {
+    let Found { rows, closed } = match found {
+        Ok(found) => found,
+        Err(fault) => return Err(PlayFault::Store(fault)),
+    };
+    let closed = let_go(closed);
+    let ran = match rows {
+        Ok(rows) => settle_rows(rt, writer, rows.as_slice()),
+        Err(fault) => Err(PlayFault::Store(fault)),
+    };
+    let (ran, besides) = and_closed(ran, closed);
+    told.besides = besides;
+    ran
+}
+
+/// Writes what is owed by rows.
+fn settle_rows<W: Write>(rt: &HostRuntime, writer: &mut W, rows: &[Row]) -> Result<Ran, PlayFault> {
+    run_settle(rt.alloc(), rows, writer)?;
+    Ok(Ran::Whole)
+}
