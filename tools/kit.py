@@ -7,9 +7,9 @@ of the crates below a crate, which do not change: they are found once.
 
 With RT_JOBS the kit runs so many tasks side by side, each with one job, whatever memory there is. (Without, it gives a
 check more jobs where processors are idle, which takes up to a third more processor time.) Here a task waits for its
-memory too. Of 39 checks from nothing 37 took less than half of what the kit guesses, so one gets half. (`node_store`
-took 0.64 of it, `node_keepers` 0.83.)
-A try of an edit gets the guess: a search that fails takes more.
+memory too. Of the libraries' checks from nothing most took less than half of what the kit guesses, so one gets half.
+(`node_store` took 0.64 of it, `node_keepers` 0.83.) That of a program gets the guess: `ocpi_nodes` took 8.4 GB of 8.8.
+So does a try of an edit, since a search that fails takes more.
 """
 import contextlib
 import importlib.machinery
@@ -65,9 +65,10 @@ def in_memory(in_lanes, free):
             if key[1:2] == ("tests",) and not work:
                 # (the crate has none)
                 return call
+            is_whole = key[1:2] in EDITS or os.path.isfile(f"crates/{key[0]}/src/main.rt")
 
             def called(given, jobs):
-                with memory.part(guess if key[1:2] in EDITS else guess / 2):
+                with memory.part(guess if is_whole else guess / 2):
                     return call(given, jobs)
 
             return called

@@ -22,6 +22,8 @@ FLAGS = ["--jobs", "1"]
 SIGNATURE = re.compile(r"\s*(?:pub(?:\([^)]*\))? )?(?:const )?(?:unsafe )?fn (\w+)")
 # Lines that belong to no body, though they may stand inside one's braces.
 CLAUSE = re.compile(r"\s*(requires|ensures|ghost|pub |impl|fn |use |const |static |#)")
+# A drop without a clause, as `promises_of` lays it out.
+DROP = re.compile(r"impl\b(?:(?!\bimpl\b)[^{}])* Drop for [^{}]*\{ fn drop \( self \) \{ \} \}")
 LITERAL = re.compile(r"""b?"(?:\\.|[^"\\])*"|b?'(?:\\.|[^'\\])'|//.*""")
 VERDICT = re.compile(r"^fn (\S+): (.*)$", re.M)
 # What is said of a proof file, with the line behind it, and such words of a name that is gone.
@@ -64,14 +66,16 @@ def functions_of(text):
 
 
 def promises_of(text):
-    """What a source promises: all but bodies, comments, attributes and imports for code, however it is laid out."""
+    """What a source promises: all but bodies, comments, attributes, imports for code, the module of tests, and drops
+    without a clause, however it is laid out."""
     lines = text.split("\n")
     for _, last, _, body in functions_of(text):
         lines[body + 1:last] = [""] * (last - body - 1)
     rest = "\n".join(re.sub(r"(^|\s)//.*", "", it) for it in lines)
-    for left_out in (r"^\s*#!?\[.*\]$", r"^(pub(\([^)]*\))? )?use [^;]*;", r",(?=\s*[}\])])"):
+    for left_out in (r"^\s*#!?\[.*\]$", r"^(pub(\([^)]*\))? )?use [^;]*;", r"^mod tests;", r",(?=\s*[}\])])"):
         rest = re.sub(left_out, "", rest, flags=re.M)
-    return " ".join(re.sub(r"([{}(),;])", r" \1 ", rest).split())
+    rest = " ".join(re.sub(r"([{}(),;])", r" \1 ", rest).split())
+    return " ".join(DROP.sub("", rest).split())
 
 
 def module_of(path):
