@@ -8,8 +8,8 @@ of the crates below a crate, which do not change: they are found once.
 With RT_JOBS the kit runs so many tasks side by side, each with one job, whatever memory there is. (Without, it gives a
 check more jobs where processors are idle, which takes up to a third more processor time.) Here a task waits for its
 memory too. Of the libraries' checks from nothing most took less than half of what the kit guesses, so one gets half.
-(`node_store` took 0.64 of it, `node_keepers` 0.83.) That of a program gets the guess: `ocpi_nodes` took 8.4 GB of 8.8.
-So does a try of an edit, since a search that fails takes more.
+(`node_store` took 0.64 of it, `node_keepers` 0.83.) That of a program gets six tenths, as does a try of an edit, since a
+search that fails takes more: `ocpi_nodes` took some 6 GB of 9 and the edit of `node_harness` 4.2 of 7.8.
 """
 import contextlib
 import importlib.machinery
@@ -65,10 +65,10 @@ def in_memory(in_lanes, free):
             if key[1:2] == ("tests",) and not work:
                 # (the crate has none)
                 return call
-            is_whole = key[1:2] in EDITS or os.path.isfile(f"crates/{key[0]}/src/main.rt")
+            is_dear = key[1:2] in EDITS or os.path.isfile(f"crates/{key[0]}/src/main.rt")
 
             def called(given, jobs):
-                with memory.part(guess if is_whole else guess / 2):
+                with memory.part(guess * (0.6 if is_dear else 0.5)):
                     return call(given, jobs)
 
             return called
