@@ -65,8 +65,15 @@ impl Packets {
 }
 
 /// What happened at a node, and the packets that it sent then.
-#[derive(Drop)]
 pub struct Entry {
     pub event: NodeEventKind,
     pub packets: Packets,
+}
+
+impl Drop for Entry {
+    fn drop(self) {
+        let Entry { event, packets } = self;
+        drop(event);
+        drop(packets);
+    }
 }

@@ -30,10 +30,16 @@ pub enum DeskFault {
 }
 
 /// An event that was not entered, and why.
-#[derive(Drop)]
 pub struct Refusal {
     pub event: NodeEventKind,
     pub fault: DeskFault,
+}
+
+impl Drop for Refusal {
+    fn drop(self) {
+        let Refusal { event, fault: _ } = self;
+        drop(event);
+    }
 }
 
 /// What a cell's fault is to the caller of its desk.

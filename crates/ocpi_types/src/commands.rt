@@ -133,13 +133,25 @@ impl UnlockConnector {
 }
 
 /// A command of a provider (OCPI 2.2.1, Commands). What is large is on the heap.
-#[derive(PartialEq, Drop)]
+#[derive(PartialEq)]
 pub enum Command {
     StartSession(Boxed<StartSession>),
     StopSession(StopSession),
     ReserveNow(Boxed<ReserveNow>),
     CancelReservation(CancelReservation),
     UnlockConnector(UnlockConnector),
+}
+
+impl Drop for Command {
+    fn drop(self) {
+        match self {
+            Command::StartSession(command) => drop(command),
+            Command::StopSession(command) => drop(command),
+            Command::ReserveNow(command) => drop(command),
+            Command::CancelReservation(command) => drop(command),
+            Command::UnlockConnector(command) => drop(command),
+        }
+    }
 }
 
 impl Command {

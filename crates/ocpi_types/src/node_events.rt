@@ -9,7 +9,7 @@ use ocpi_text::{CiText, Moment, Party};
 use std::alloc::AllocError;
 
 /// What happens at a node: as [`EventKind`](crate::EventKind), but a delivery holds the packet that arrives.
-#[derive(PartialEq, Drop)]
+#[derive(PartialEq)]
 pub enum NodeEventKind {
     /// A provider orders a command of an operator.
     Submit {
@@ -50,6 +50,32 @@ pub enum NodeEventKind {
     Restart,
     /// An event whose storing was refused: it changes nothing and sends nothing.
     Refused,
+}
+
+impl Drop for NodeEventKind {
+    fn drop(self) {
+        match self {
+            NodeEventKind::Deliver { at: _, packet } => drop(packet),
+            NodeEventKind::Submit {
+                at: _,
+                operator: _,
+                order: _,
+            } => {}
+            NodeEventKind::Token { at: _, token: _ } => {}
+            NodeEventKind::Service {
+                evse_uid: _,
+                in_service: _,
+            } => {}
+            NodeEventKind::Charger { at: _, event: _ } => {}
+            NodeEventKind::Credit {
+                at: _,
+                session_id: _,
+            } => {}
+            NodeEventKind::Tick { at: _ } => {}
+            NodeEventKind::Restart => {}
+            NodeEventKind::Refused => {}
+        }
+    }
 }
 
 impl NodeEventKind {

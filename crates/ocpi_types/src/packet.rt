@@ -16,7 +16,7 @@ use ocpi_text::{Party, Whole};
 use std::alloc::AllocError;
 
 /// What a packet carries. What is large is on the heap, so that packets are small.
-#[derive(PartialEq, Drop)]
+#[derive(PartialEq)]
 pub enum Body {
     /// Of a provider. Each command has a kind of packet of its own.
     Command(Command),
@@ -28,6 +28,22 @@ pub enum Body {
     PutSession(Boxed<Session>),
     PostCdr(Boxed<Cdr>),
     Ack(Ack),
+}
+
+impl Drop for Body {
+    fn drop(self) {
+        match self {
+            Body::Command(body) => drop(body),
+            Body::CommandResponse(_) => {}
+            Body::CommandResult(body) => drop(body),
+            Body::PutToken(body) => drop(body),
+            Body::Authorize(body) => drop(body),
+            Body::Authorization(body) => drop(body),
+            Body::PutSession(body) => drop(body),
+            Body::PostCdr(body) => drop(body),
+            Body::Ack(_) => {}
+        }
+    }
 }
 
 impl Body {
@@ -68,7 +84,7 @@ impl Body {
 }
 
 /// A message of one node to another.
-#[derive(PartialEq, Drop)]
+#[derive(PartialEq)]
 pub struct Packet {
     pub from: Party,
     pub to: Party,
@@ -77,6 +93,19 @@ pub struct Packet {
     /// The number of the request, which a reply repeats.
     pub request: Whole,
     pub body: Body,
+}
+
+impl Drop for Packet {
+    fn drop(self) {
+        let Packet {
+            from: _,
+            to: _,
+            serial: _,
+            request: _,
+            body,
+        } = self;
+        drop(body);
+    }
 }
 
 impl Packet {

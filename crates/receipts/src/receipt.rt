@@ -8,12 +8,23 @@ use ocpi_types::NodeEventKind;
 use packet_equality::{is_equal_node_event_kind, is_equal_packets};
 
 /// An event that was entered: its place in the history, and the packets that the node sent.
-#[derive(Drop)]
 pub struct Receipt {
     /// From 0.
     pub place: usize,
     pub event: NodeEventKind,
     pub packets: Packets,
+}
+
+impl Drop for Receipt {
+    fn drop(self) {
+        let Receipt {
+            place: _,
+            event,
+            packets,
+        } = self;
+        drop(event);
+        drop(packets);
+    }
 }
 
 impl Receipt {

@@ -157,21 +157,21 @@ fn changed_where(fits: bool, changed: bool) -> Option<bool>
 fn repeat(replay: &mut NodeReplay<'_>, entry: &Entry) -> Result<bool, AllocError>
     ensures { IfOk result (λ done. IsTrue done → Repeats (entry.now ∷ []) replay.old replay.new) }
 {
+    if let NodeEventKind::Restart = &entry.event {
+        return match replay.restart() {
+            Ok(()) => Ok(true),
+            Err(_) => Err(AllocError),
+        };
+    }
     let event = match entry.event.copy() {
         Ok(event) => event,
         Err(_) => return Err(AllocError),
     };
-    match event {
-        NodeEventKind::Restart => match replay.restart() {
-            Ok(()) => Ok(true),
-            Err(_) => Err(AllocError),
-        },
-        other => match replay.apply(other) {
-            Ok(Replayed::Stepped { .. }) => Ok(true),
-            Ok(Replayed::Skipped) => Ok(false),
-            Err(ReplayFault::Core(_)) => Ok(false),
-            Err(ReplayFault::Memory) => Err(AllocError),
-        },
+    match replay.apply(event) {
+        Ok(Replayed::Stepped { .. }) => Ok(true),
+        Ok(Replayed::Skipped) => Ok(false),
+        Err(ReplayFault::Core(_)) => Ok(false),
+        Err(ReplayFault::Memory) => Err(AllocError),
     }
 }
 
