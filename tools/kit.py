@@ -1,26 +1,36 @@
 #!/usr/bin/env python3
 """The command `rt` of the kit as a module, for the scripts beside this one; as a program it is that command: kit.py WORD..
 
-A crate's sum has those of the crates below it in it. Some kits take the sum of a crate once for each path that leads
-to it, which at the upper crates is tens of thousands of times. Here it is taken once for each question. The same holds
-of the crates below a crate, which do not change: they are found once.
+It does the same, but for this:
 
-With RT_JOBS the kit runs so many tasks side by side, each with one job, whatever memory there is. (Without, it gives a
-check more jobs where processors are idle, which takes up to a third more processor time.) Here a task waits for its
-memory too. Of the libraries' checks from nothing most took less than half of what the kit guesses, so one gets half.
-(`node_store` took 0.64 of it, `node_keepers` 0.83.) That of a program gets six tenths, as does a try of an edit, since a
-search that fails takes more: `ocpi_nodes` took some 6 GB of 9 and the edit of `node_harness` 4.2 of 7.8.
+- A crate's sum has those of the crates below it in it. Some kits take the sum of a crate once for each path that leads
+  to it, which at the upper crates is tens of thousands of times. Here it is taken once for each question. The same
+  holds of the crates below a crate, which do not change: they are found once.
+- Tasks run side by side as tools/lanes.py says: RT_JOBS of them, or one a processor, each with one job (with more jobs
+  a check takes up to a third more processor time). Of the libraries' checks from nothing most took less than half of
+  the memory that the kit guesses, so one counts half. (`node_store` took 0.64 of it, `node_keepers` 0.83.) That of a
+  program counts six tenths, as does a try of edits, since a search that fails takes more: `ocpi_nodes` took some 6 GB
+  of 9 and the edit of `node_harness` 4.2 of 7.8.
+- `kit.py ci` tries the edits of a crate in one check of the functions that they change (tools/wrong_together.py), once
+  the crate is proved. Those that get no verdict so are tried as the kit does, each by a check from nothing.
+- The two compilations of a program run side by side, where there is memory for both.
+- At the end of the tasks of `kit.py ci` it prints what each took, behind the word `took:`.
 """
 import contextlib
 import importlib.machinery
 import importlib.util
 import os
 import shutil
+import subprocess
 import sys
 import threading
 
-# How the key of a task goes on behind its crate, where it tries an edit.
-EDITS = ("edits",), ("again",)
+import lanes
+
+# The task whose time is the unit of the table: its crate is small, and stands low.
+UNIT = "session_state", "proof"
+# What the two compilations of a program take beside each other, in bytes.
+TWO_COMPILATIONS = 9_000_000_000
 
 
 def load_rt():
@@ -31,51 +41,115 @@ def load_rt():
     loader.exec_module(made)
     made.rtlib.Crate.stamp = taken_once(made.rtlib.Crate.stamp)
     made.rtlib.Crate.below = found_once(made.rtlib.Crate.below)
-    made.in_lanes = in_memory(made.in_lanes, made.free)
+    made.Crate.compile_by = side_by_side(made, made.Crate.compile_by)
+    made.add_edits = in_one_check(made, made.add_edits)
+    made.in_lanes = in_lanes_of(made)
+    subprocess.Popen = lanes.Timed
+    made.rtlib.ThreadPoolExecutor = lanes.Threads
     return made
 
 
-class Memory:
-    """The memory of the tasks that run."""
+def in_lanes_of(rt, tells=False):
+    """How tasks are run side by side. The rest of the system gets what no task may take."""
 
-    def __init__(self, most):
-        self.left, self.running, self.changed = most, 0, threading.Condition()
-
-    @contextlib.contextmanager
-    def part(self, much):
-        """So much of it, once it is there or nothing else runs."""
-        with self.changed:
-            self.changed.wait_for(lambda: much <= self.left or not self.running)
-            self.left, self.running = self.left - much, self.running + 1
-        try:
-            yield
-        finally:
-            with self.changed:
-                self.left, self.running = self.left + much, self.running - 1
-                self.changed.notify_all()
-
-
-def in_memory(in_lanes, free):
-    """How tasks are run side by side, where each waits for its memory. The rest of the system gets what no task may take."""
+    def part(key):
+        crate, what = lanes.parts_of(key)
+        return 0.6 if what == "edits" or os.path.isfile(f"crates/{crate}/src/main.rt") else 0.5
 
     def of(tasks):
-        memory = Memory(0.85 * free())
+        counted = {
+            # (a crate without tests has a task for them, which does nothing)
+            key: (waits, work, 0 if lanes.parts_of(key)[1] == "tests" and not work else part(key) * needs, call)
+            for key, (waits, work, needs, call) in tasks.items()}
+        number = os.environ.get("RT_JOBS", "")
+        with rt.ending():
+            given, took = lanes.in_lanes(counted, int(number) if number.isdigit() else rt.processors(), 0.85 * rt.free())
+        if tells:
+            for line in lanes.table_of(counted, took, UNIT):
+                print(f"took: {line}", flush=True)
+        return given
 
-        def in_turn(key, work, guess, call):
-            if key[1:2] == ("tests",) and not work:
-                # (the crate has none)
-                return call
-            is_dear = key[1:2] in EDITS or os.path.isfile(f"crates/{key[0]}/src/main.rt")
+    return of
 
-            def called(given, jobs):
-                with memory.part(guess * (0.6 if is_dear else 0.5)):
-                    return call(given, jobs)
 
-            return called
+def in_one_check(rt, one_by_one):
+    """How a crate's edits are tried by `rt ci`: in one check of the functions that they change."""
 
-        return in_lanes({
-            key: (waits, work, guess, in_turn(key, work, guess, call))
-            for key, (waits, work, guess, call) in tasks.items()})
+    def add_edits(tasks, crate, edits, first, waits, is_well, kept, start=None, in_ci=True):
+        if not in_ci or not edits:
+            return one_by_one(tasks, crate, edits, first, waits, is_well, kept, start, in_ci)
+        tries = Tries(rt, crate, edits, kept)
+
+        def call(given, jobs):
+            return tries.all() if is_well(given, len(edits) - len(tries.known())) else None
+
+        tasks[crate.name, "edits"] = ([*waits, *first], crate.count(rb"\n"), rt.need(crate), call)
+        return lambda given: given[crate.name, "edits"], tries.known
+
+    return add_edits
+
+
+class Tries:
+    """The edits of a crate that is proved, and what earlier runs on this machine came to with them."""
+
+    def __init__(self, rt, crate, edits, kept):
+        self.rt, self.crate, self.edits, self.kept = rt, crate, edits, kept
+        self.names = self.earlier = None
+        self.files = [self.state_of(it) for it in edits]
+
+    @staticmethod
+    def state_of(edit):
+        found = os.stat(edit)
+        return found.st_ino, found.st_size, found.st_mtime_ns, found.st_ctime_ns
+
+    def known(self):
+        """What earlier runs came to, and what was said, by the edits' numbers. It is asked for once the libraries below stand."""
+        if self.earlier is None:
+            made = self.kept.key(self.crate)
+            self.names = [self.kept.of_edit(it, made) for it in self.edits]
+            told = {number: self.kept.tried(name) for number, name in enumerate(self.names)}
+            self.earlier = {number: it for number, it in told.items() if it}
+        return self.earlier
+
+    def all(self):
+        """What each edit comes to, and what to say of it."""
+        # (what this imports imports this)
+        from wrong_together import tried_together
+
+        known = self.known()
+        left = [it for number, it in enumerate(self.edits) if number not in known]
+        refused = tried_together(self.rt, self.crate, left) if left else {}
+        return [known.get(number) or self.one(number, edit, refused) for number, edit in enumerate(self.edits)]
+
+    def one(self, number, edit, refused):
+        """What an edit comes to that no earlier run has tried. It is kept where no file that it stands on was touched."""
+        if edit in refused:
+            of, is_gone = refused[edit]
+            why = " (only because a proof file names what the edit took away)" if is_gone else ""
+            said = f"must-fail {self.crate.name}/{os.path.basename(edit)}: refused, as it must be, of {of} at once{why}"
+            tried = self.rt.REFUSED, said
+        else:
+            tried = self.rt.must_fail(self.crate, edit, ["--jobs", "1"])
+        if tried[0] in self.rt.SETTLED and self.kept.is_untouched(self.crate):
+            with contextlib.suppress(OSError):
+                if self.state_of(edit) == self.files[number]:
+                    self.kept.keep_tried(self.names[number], *tried)
+        return tried
+
+
+def side_by_side(rt, compile_by):
+    """How a proved program is compiled: by both compilers at once, where there is memory for that."""
+    second = {}
+
+    def of(crate, backend, words, to):
+        if backend == "rattle" and crate.folder in second:
+            return second.pop(crate.folder).result()
+        if backend != "llvm" or rt.free() < TWO_COMPILATIONS:
+            return compile_by(crate, backend, words, to)
+        # (both have ended before either result is looked at)
+        with lanes.Threads(1) as pool:
+            second[crate.folder] = pool.submit(compile_by, crate, "rattle", words, to)
+            return compile_by(crate, backend, words, to)
 
     return of
 
@@ -111,6 +185,12 @@ def taken_once(stamp):
     return taken
 
 
+def main(words):
+    rt = load_rt()
+    rt.in_lanes = in_lanes_of(rt, tells=words[:1] == ["ci"])
+    return rt.main(words)
+
+
 if __name__ == "__main__":
     sys.dont_write_bytecode = True
-    sys.exit(load_rt().main(sys.argv[1:]))
+    sys.exit(main(sys.argv[1:]))
