@@ -6,10 +6,9 @@ use Rattle.histories.specs.declared.entry.Entry.{Entry}
 use Rattle.history_laws.specs.Replays as entries
 use Rattle.history_laws.specs.Replays.{EntryStep, Replays}
 use Rattle.node_laws.proofs.Runs.{run_join}
-use Rattle.node_rows.specs.Laws.{NodesKeepOpenings, RestartsCanStartAgain}
 use Rattle.operator_steps.specs.Events as operator
 use Rattle.provider_steps.specs.Events as provider
-use Rattle.stored_laws.specs.Nodes.{CanStartAgain, IsOfOpening, NodesCanStartAgain, restarted}
+use Rattle.stored_laws.specs.Nodes.{CanStartAgain, IsOfOpening, NodesCanStartAgain, NodesKeepOpenings, RestartsCanStartAgain, restarted}
 use Rattle.world_steps.specs.Steps as steps
 use Rattle.world_steps.specs.Steps.{AtOperator, AtProvider}
 use Rattle.world_steps.specs.World.{NodeState, Operates, Provides, opening_of}

@@ -13,12 +13,13 @@ use crate::outcome::{ReplayFault, Replayed};
 use crate::stepping::{enter, enter_restart, foretell, restarted_copies};
 use histories::Entry;
 use node_core::Node;
-use node_rows::laws::{nodes_keep_openings, restarts_can_start_again};
 use ocpi_text::{Party, Whole};
 use ocpi_types::{Node as SetupNode, NodeEventKind};
 use std::alloc::{AllocError, Global};
 use std::marker::Model;
-use stored_laws::laws::{nodes_can_start_again, openings_can_start_again};
+use stored_laws::laws::{
+    nodes_can_start_again, nodes_keep_openings, openings_can_start_again, restarts_can_start_again,
+};
 use stored_rows::RowsFault;
 use tables::HashSeed;
 

@@ -49,16 +49,6 @@ pub record AreClasses : Type 0 where
   pub back : (n m : NodeState) → StoresAlike n m → StoresAlike m n
   pub through : (n m k : NodeState) → StoresAlike n m → StoresAlike m k → StoresAlike n k
 
--- a node that can start again still can once it has
-abbrev pub RestartsCanStartAgain : Type 0
-RestartsCanStartAgain = (n : NodeState) → CanStartAgain n → CanStartAgain (restarted n)
-
--- a node is of its opening from there on
-pub record NodesKeepOpenings : Type 0 where
-  pub at_first : (setup : List Node) (n : Node) → IsOfOpening (opening_of setup n) (opening_of setup n)
-  pub by_steps : (first n m : NodeState) (x : NodeEvent) → IsOfOpening first n → NodeStep n x m → IsOfOpening first m
-  pub by_restarts : (first n : NodeState) → IsOfOpening first n → IsOfOpening first (restarted n)
-
 -- of one opening, rows are those of one node, as it starts again
 abbrev pub RowsAreOfOne : Type 0
 RowsAreOfOne = (first n m : NodeState) (c : Content) → IsOfOpening first n → IsOfOpening first m → IsSound n → IsSound m → HoldsRows c n → HoldsRows c m → StoresAlike n m

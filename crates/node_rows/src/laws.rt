@@ -5,10 +5,8 @@ ghost use Rattle.node_rows.specs.Laws.{
   ChangesAreHeld,
   EmptyIsHeld,
   HeldRowsStartAgain,
-  NodesKeepOpenings,
   PlansAreHeld,
   RestartsAreHeld,
-  RestartsCanStartAgain,
   RowsAreOfOne,
   SerialsAreInOrder,
 };
@@ -37,16 +35,6 @@ pub fn restarts_are_held()
 /// Nodes that store alike are classes.
 pub fn alike_are_classes()
     ensures { AreClasses }
-{}
-
-/// A node that can start again still can once it has.
-pub fn restarts_can_start_again()
-    ensures { RestartsCanStartAgain }
-{}
-
-/// A node is of its opening from there on.
-pub fn nodes_keep_openings()
-    ensures { NodesKeepOpenings }
 {}
 
 /// Of one opening, rows are those of one node, as it starts again.

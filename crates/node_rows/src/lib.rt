@@ -14,7 +14,7 @@
 //! - Nodes that start again as one node store alike, and a content holds the rows of both or of neither. A node does so
 //!   as it starts again, and after a step that changes no row. By laws `restarts_are_held`, `alike_are_classes`.
 //! - Of one opening, rows are those of one node, as it starts again, and of them it is made again, if it can start
-//!   again. By laws `rows_are_of_one`, `held_rows_start_again`, `nodes_keep_openings`, `restarts_can_start_again`.
+//!   again. By laws `rows_are_of_one`, `held_rows_start_again`.
 //! - The packets of a step have the serials that follow the last one, in order. By law `serials_are_in_order`.
 //!
 //! # How it is built

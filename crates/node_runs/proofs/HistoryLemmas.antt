@@ -21,9 +21,8 @@ use Rattle.stored_nodes.specs.Keepers.{Keeper}
 use Rattle.stored_nodes.specs.Stored.{HoldsOneMore, IsStored, Stored}
 use Rattle.node_core.specs.Members.{IsMadeOfRows}
 use Rattle.node_rows.specs.Holds.{HoldsRows}
-use Rattle.node_rows.specs.Laws.{NodesKeepOpenings}
 use Rattle.node_store.specs.declared.fault.StoreFault.{StoreFault}
-use Rattle.stored_laws.specs.Nodes.{CanStartAgain, IsOfOpening, restarted}
+use Rattle.stored_laws.specs.Nodes.{CanStartAgain, IsOfOpening, NodesKeepOpenings, restarted}
 use Rattle.node_runs.specs.ListTurns.{AreDone, LosesLine, PlacedTurn}
 use Rattle.node_runs.specs.ListTurns as lists
 use Rattle.node_runs.specs.NodeAnswers.{Ends, GoesOn, LineTurn, NodeLineGives, NodeTurn}

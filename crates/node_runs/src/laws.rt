@@ -5,8 +5,8 @@ ghost use Rattle.node_keepers.specs.Opening.{source_of};
 ghost use Rattle.node_runs.specs.NodeHistories.{LostLinesGoOn, LostLinesKeepRows, RunsAreHistories, StopsGoOn, TwoRunsAreOne};
 
 use node_keepers::Keeps;
-use node_rows::laws::nodes_keep_openings;
 use node_store::Keep;
+use stored_laws::laws::nodes_keep_openings;
 use stored_nodes::laws::refused_commits_leave_all_or_nothing;
 
 /// A run is a chain of steps of its node from what that was opened with, whatever the lines are. A line of several

@@ -8,8 +8,8 @@ use Rattle.line_runs.specs.declared.run.Turn.{Turn}
 use Rattle.line_runs.specs.declared.run.Turn.TheVariants.{Ended, Refused, Taken}
 use Rattle.node_keepers.specs.Opening.{Source}
 use Rattle.stored_nodes.specs.Keepers.{Keeper}
-use Rattle.node_rows.specs.Laws.{EmptyIsHeld, NodesKeepOpenings}
-use Rattle.stored_laws.specs.Nodes.{OpeningsCanStartAgain}
+use Rattle.node_rows.specs.Laws.{EmptyIsHeld}
+use Rattle.stored_laws.specs.Nodes.{NodesKeepOpenings, OpeningsCanStartAgain}
 use Rattle.node_runs.specs.NodeAnswers.{LineTurn, NodeLineGives, NodeTurn}
 use Rattle.node_runs.specs.NodeAnswers as answers
 use Rattle.node_runs.specs.NodeTurns.{EventTurn, Running, Stage, opening}

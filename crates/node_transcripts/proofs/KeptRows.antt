@@ -15,10 +15,10 @@ use Rattle.ocpi_json.specs.SetupForms.{setup_in}
 use Rattle.world_laws.specs.Laws.{IsSetup}
 use Rattle.world_steps.specs.Steps.{NodeEvent, NodeStep, changes_of}
 use Rattle.world_steps.specs.World.{NodeState, opening_of}
-use Rattle.stored_laws.specs.Nodes.{CanStartAgain, IsOfOpening, NodesCanStartAgain, restarted}
+use Rattle.stored_laws.specs.Nodes.{CanStartAgain, IsOfOpening, NodesCanStartAgain, NodesKeepOpenings, RestartsCanStartAgain, restarted}
 use Rattle.node_store.specs.Contents.{Content, IsReadAgain, changed, changed_all}
 use Rattle.node_rows.specs.Holds.{HoldsRows}
-use Rattle.node_rows.specs.Laws.{ChangesAreHeld, NodesKeepOpenings, RestartsAreHeld, RestartsCanStartAgain}
+use Rattle.node_rows.specs.Laws.{ChangesAreHeld, RestartsAreHeld}
 use Rattle.line_runs.specs.Numbered.{AreNumbered, empty_line, none_numbered, refused_line, taken_line}
 use Rattle.line_runs.specs.declared.outcome.Ran.{Ran}
 use Rattle.line_runs.specs.declared.run.Turn.{Turn}

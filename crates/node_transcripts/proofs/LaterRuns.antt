@@ -9,10 +9,10 @@ use Rattle.ocpi_types.specs.declared.setup.Node.{Node}
 use Rattle.ocpi_json.specs.SetupForms.{setup_in}
 use Rattle.world_laws.specs.Laws.{IsSetup}
 use Rattle.world_steps.specs.World.{NodeState, opening_of}
-use Rattle.stored_laws.specs.Nodes.{AreNodeRows, NodesCanStartAgain, OpeningsCanStartAgain, last_serial}
+use Rattle.stored_laws.specs.Nodes.{AreNodeRows, NodesCanStartAgain, NodesKeepOpenings, OpeningsCanStartAgain, RestartsCanStartAgain, last_serial}
 use Rattle.node_store.specs.Contents.{Content}
 use Rattle.node_rows.specs.Holds.{HoldsRows}
-use Rattle.node_rows.specs.Laws.{ChangesAreHeld, EmptyIsHeld, NodesKeepOpenings, RestartsAreHeld, RestartsCanStartAgain}
+use Rattle.node_rows.specs.Laws.{ChangesAreHeld, EmptyIsHeld, RestartsAreHeld}
 use Rattle.line_runs.specs.Numbered.{echo_of}
 use Rattle.line_runs.specs.declared.run.Turn.{Turn}
 use Rattle.line_runs.specs.declared.run.Turn.TheVariants.{Ended, Refused, Taken}

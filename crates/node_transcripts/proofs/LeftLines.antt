@@ -12,10 +12,10 @@ use Rattle.ocpi_types.specs.declared.setup.Node.{Node}
 use Rattle.history_laws.specs.Replays as replays
 use Rattle.world_steps.specs.Steps.{NodeEvent as Deed, changes_of, packets_of}
 use Rattle.world_steps.specs.World.{NodeState, opening_of}
-use Rattle.stored_laws.specs.Nodes.{IsOfOpening, NodesCanStartAgain, restarted}
+use Rattle.stored_laws.specs.Nodes.{IsOfOpening, NodesCanStartAgain, NodesKeepOpenings, restarted}
 use Rattle.node_store.specs.Contents.{Content, IsReadAgain, changed_all}
 use Rattle.node_rows.specs.Holds.{HoldsRows}
-use Rattle.node_rows.specs.Laws.{ChangesAreHeld, NodesKeepOpenings}
+use Rattle.node_rows.specs.Laws.{ChangesAreHeld}
 use Rattle.node_lines.specs.NodeLines.{node_line_in}
 use Rattle.node_lines.specs.declared.node_line.NodeLine.{NodeLine}
 use Rattle.node_lines.specs.declared.node_line.NodeLine.TheVariants.{One, Several}

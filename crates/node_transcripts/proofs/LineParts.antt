@@ -8,7 +8,7 @@ use Rattle.ocpi_types.specs.declared.packet.Packet.{Packet}
 use Rattle.ocpi_types.specs.declared.setup.Node.{Node}
 use Rattle.stored_nodes.specs.Keepers.{Keeper}
 use Rattle.stored_nodes.specs.Stored.{Does}
-use Rattle.node_rows.specs.Laws.{NodesKeepOpenings}
+use Rattle.stored_laws.specs.Nodes.{NodesKeepOpenings}
 use Rattle.world_steps.specs.Steps.{NodeStep}
 use Rattle.world_steps.specs.World.{NodeState, opening_of}
 use Rattle.ocpi_types.specs.declared.node_events.NodeEventKind.{NodeEventKind}

@@ -10,7 +10,7 @@ use Rattle.ocpi_types.specs.declared.packet.Packet.{Packet}
 use Rattle.ocpi_types.specs.declared.setup.Node.{Node}
 use Rattle.world_steps.specs.Steps.{NodeEvent as Deed}
 use Rattle.world_steps.specs.World.{NodeState}
-use Rattle.node_rows.specs.Laws.{NodesKeepOpenings}
+use Rattle.stored_laws.specs.Nodes.{NodesKeepOpenings}
 use Rattle.line_runs.specs.declared.run.Turn.{Turn}
 use Rattle.stored_nodes.specs.Keepers.{Keeper}
 use Rattle.node_runs.specs.ListTurns.{AreDone, ListTurn}

@@ -14,8 +14,7 @@ use Rattle.ocpi_types.specs.declared.setup.Node.{Node}
 use Rattle.history_laws.specs.Replays as replays
 use Rattle.world_steps.specs.Steps.{NodeEvent as Deed, packets_of}
 use Rattle.world_steps.specs.World.{NodeState, opening_of}
-use Rattle.stored_laws.specs.Nodes.{IsOfOpening}
-use Rattle.node_rows.specs.Laws.{NodesKeepOpenings}
+use Rattle.stored_laws.specs.Nodes.{IsOfOpening, NodesKeepOpenings}
 use Rattle.node_lines.specs.NodeLines.{node_line_in}
 use Rattle.node_lines.proofs.NodeLineLemmas.{is_array}
 use Rattle.node_lines.specs.declared.node_line.NodeLine.TheVariants.{Several}

@@ -7,8 +7,8 @@ use Rattle.line_runs.specs.declared.outcome.Ran.{Ran}
 use Rattle.line_runs.specs.declared.run.Turn.TheVariants.{Ended}
 use Rattle.node_keepers.specs.Opening.{Source}
 use Rattle.stored_nodes.specs.Keepers.{Keeper}
-use Rattle.node_rows.specs.Laws.{EmptyIsHeld, NodesKeepOpenings}
-use Rattle.stored_laws.specs.Nodes.{OpeningsCanStartAgain}
+use Rattle.node_rows.specs.Laws.{EmptyIsHeld}
+use Rattle.stored_laws.specs.Nodes.{NodesKeepOpenings, OpeningsCanStartAgain}
 use Rattle.node_runs.specs.NodeAnswers.{NodeEnd}
 use Rattle.node_runs.specs.NodeTurns.{Running}
 use Rattle.done_laws.specs.Laws.{DoneLinesAreRead}

@@ -13,7 +13,7 @@ use Rattle.ocpi_json.specs.SetupForms.{setup_in}
 use Rattle.world_laws.specs.Laws.{IsSetup}
 use Rattle.world_steps.specs.World.{NodeState}
 use Rattle.node_store.specs.Contents.{Content}
-use Rattle.node_rows.specs.Laws.{NodesKeepOpenings}
+use Rattle.stored_laws.specs.Nodes.{NodesKeepOpenings}
 use Rattle.node_lines.specs.NodeLines.{node_line_in}
 use Rattle.line_runs.specs.Numbered.{echo_of}
 use Rattle.node_keepers.specs.Opening.{Source}

@@ -12,8 +12,8 @@ use Rattle.node_keepers.specs.Opening.{Source}
 use Rattle.stored_nodes.specs.Keepers.{Commits, Keeper}
 use Rattle.stored_nodes.specs.Keepers as keepers
 use Rattle.stored_nodes.specs.Stored.{Stored}
-use Rattle.node_rows.specs.Laws.{EmptyIsHeld, NodesKeepOpenings}
-use Rattle.stored_laws.specs.Nodes.{OpeningsCanStartAgain, last_serial}
+use Rattle.node_rows.specs.Laws.{EmptyIsHeld}
+use Rattle.stored_laws.specs.Nodes.{NodesKeepOpenings, OpeningsCanStartAgain, last_serial}
 use Rattle.ocpi_json.specs.SetupForms.{setup_in}
 use Rattle.node_runs.specs.DoneLines.{opened_line}
 use Rattle.node_runs.specs.NodeAnswers.{LineTurn, NodeLineGives, NodeTurn}

@@ -9,11 +9,10 @@ ghost use Rattle.node_transcripts.specs.RunKinds.{BegunRunsAreSuch, EarlyRunsAre
 
 use done_laws::laws::done_lines_are_read;
 use node_keepers::Keeps;
-use node_rows::laws::{
-    changes_are_held, empty_is_held, nodes_keep_openings, restarts_are_held,
-    restarts_can_start_again,
+use node_rows::laws::{changes_are_held, empty_is_held, restarts_are_held};
+use stored_laws::laws::{
+    nodes_can_start_again, nodes_keep_openings, openings_can_start_again, restarts_can_start_again,
 };
-use stored_laws::laws::{nodes_can_start_again, openings_can_start_again};
 
 /// What a run writes for its lines is a transcript of its node.
 pub fn runs_are_transcripts<S: Keeps>()

@@ -1,3 +1,4 @@
+pub mod Openings
 pub mod OperatorSteps
 pub mod Operators
 pub mod ProviderSteps

@@ -68,6 +68,16 @@ OpeningsCanStartAgain = (setup : List Node) → IsSetup setup → (n : Node) →
 abbrev pub NodesCanStartAgain : Type 0
 NodesCanStartAgain = (n m : NodeState) (x : NodeEvent) → CanStartAgain n → NodeStep n x m → CanStartAgain m
 
+-- a node that can start again still can once it has
+abbrev pub RestartsCanStartAgain : Type 0
+RestartsCanStartAgain = (n : NodeState) → CanStartAgain n → CanStartAgain (restarted n)
+
+-- a node is of its opening from there on
+pub record NodesKeepOpenings : Type 0 where
+  pub at_first : (setup : List Node) (n : Node) → IsOfOpening (opening_of setup n) (opening_of setup n)
+  pub by_steps : (first n m : NodeState) (x : NodeEvent) → IsOfOpening first n → NodeStep n x m → IsOfOpening first m
+  pub by_restarts : (first n : NodeState) → IsOfOpening first n → IsOfOpening first (restarted n)
+
 -- an operator that can start again has, of each COMPLETED session that no credit is of, a bill that may be taken back: its
 -- id is short enough, no record has that of its credit, and the session has no other bill
 abbrev pub BillsMayBeTakenBack : Type 0

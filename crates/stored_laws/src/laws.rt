@@ -1,7 +1,13 @@
 //! The laws of what the nodes of a world store.
 
 ghost use Rattle.stored_laws.specs.Laws.{OperatorsAreWhole, ProvidersAreWhole};
-ghost use Rattle.stored_laws.specs.Nodes.{BillsMayBeTakenBack, NodesCanStartAgain, OpeningsCanStartAgain};
+ghost use Rattle.stored_laws.specs.Nodes.{
+  BillsMayBeTakenBack,
+  NodesCanStartAgain,
+  NodesKeepOpenings,
+  OpeningsCanStartAgain,
+  RestartsCanStartAgain,
+};
 
 /// Each operator of each world of each legal run is whole: its sessions and its charge detail records have ids of its
 /// own, each session can go on from its newest version, and each session that is COMPLETED is billed once, and no
@@ -25,6 +31,16 @@ pub fn openings_can_start_again()
 /// And so can each node that did something, wherever it came from.
 pub fn nodes_can_start_again()
     ensures { NodesCanStartAgain }
+{}
+
+/// A node that can start again still can once it has.
+pub fn restarts_can_start_again()
+    ensures { RestartsCanStartAgain }
+{}
+
+/// A node is of its opening from there on.
+pub fn nodes_keep_openings()
+    ensures { NodesKeepOpenings }
 {}
 
 /// An operator that can start again has, of each COMPLETED session that no credit is of, a bill that may be taken back.
