@@ -7,8 +7,9 @@ use Rattle.node_core.specs.declared.input.NodeInput.{NodeInput}
 use Rattle.node_core.specs.declared.work.NodeWork.{NodeWork}
 use Rattle.node_core.proofs.Doing.{does}
 use Rattle.world_steps.specs.Steps.{NodeStep, changes_of, input_of}
+use Rattle.node_inputs.specs.Inputs.{SaysTheSame}
 use Rattle.stored_nodes.specs.Keepers.{Commits, Keeper}
-use Rattle.stored_nodes.specs.Stored.{SaysTheSame, Stored}
+use Rattle.stored_nodes.specs.Stored.{Stored}
 use Rattle.stored_nodes.specs.declared.fault.ApplyFault.{ApplyFault}
 use Rattle.node_cells.specs.Cells as cells
 use Rattle.node_cells.specs.Cells.{StoredStep}

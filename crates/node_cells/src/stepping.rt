@@ -10,10 +10,11 @@ ghost use Rattle.node_cells.specs.Cells.{Adds, IsNoRoom, IsNotDone, StoredStep, 
 use crate::fault::{CellFault, cell_fault};
 use histories::{Entry, Packets, copies};
 use node_core::{NodePlan, NodeWork};
+use node_inputs::input_of;
 use node_store::Keep;
 use ocpi_types::NodeEventKind;
 use std::alloc::Global;
-use stored_nodes::{Applied, ApplyFault, StoredNode, input_of};
+use stored_nodes::{Applied, ApplyFault, StoredNode};
 
 /// The most entries of a history.
 pub const MOST_ENTRIES: usize = 100_000;

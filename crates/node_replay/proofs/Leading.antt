@@ -10,7 +10,7 @@ use Rattle.node_core.specs.Works.{IsWork, changes_by, node_after, packets_by}
 use Rattle.node_core.specs.declared.input.NodeInput.{NodeInput}
 use Rattle.node_core.specs.declared.work.NodeWork.{NodeWork}
 use Rattle.node_core.proofs.Doing.{does}
-use Rattle.stored_nodes.specs.Stored.{SaysTheSame}
+use Rattle.node_inputs.specs.Inputs.{SaysTheSame}
 use Rattle.history_laws.specs.Replays as entries
 use Rattle.world_steps.specs.Steps.{NodeStep, input_of}
 use Rattle.world_steps.specs.World.{NodeState}

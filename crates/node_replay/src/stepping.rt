@@ -10,9 +10,9 @@ ghost use Rattle.stored_laws.specs.Nodes.{restarted};
 use crate::outcome::{ReplayFault, Replayed};
 use histories::{Entry, Packets};
 use node_core::{Node, NodePlan, NodeWork};
+use node_inputs::input_of;
 use ocpi_types::NodeEventKind;
 use std::alloc::{AllocError, Global};
-use stored_nodes::input_of;
 
 /// What a node did: what it sent, and whether rows changed.
 #[derive(Drop)]

@@ -11,9 +11,10 @@ use Rattle.node_rows.specs.Laws.{AreClasses, ChangesAreHeld, RestartsAreHeld}
 use Rattle.stored_laws.specs.Nodes.{NodesCanStartAgain}
 use Rattle.world_steps.specs.Steps.{NodeStep, changes_of, input_of}
 use Rattle.world_steps.specs.World.{NodeState}
+use Rattle.node_inputs.specs.Inputs.{SaysTheSame}
 use Rattle.stored_nodes.specs.Keepers.{Commits, Declines, Keeper}
 use Rattle.stored_nodes.specs.Stored as stored
-use Rattle.stored_nodes.specs.Stored.{Applies, Fails, IsCarriedOut, IsDeclined, IsNotCarriedOut, IsStored, Loses, SaysTheSame, Stored}
+use Rattle.stored_nodes.specs.Stored.{Applies, Fails, IsCarriedOut, IsDeclined, IsNotCarriedOut, IsStored, Loses, Stored}
 use Rattle.stored_nodes.specs.declared.fault.ApplyFault.{ApplyFault}
 use Rattle.stored_nodes.specs.declared.fault.ApplyFault.TheVariants as fault
 use Rattle.stored_nodes.specs.declared.stored_node.Applied.{Applied}

@@ -9,7 +9,7 @@ use Rattle.node_core.proofs.Doing.{does}
 use Rattle.world_steps.specs.Steps.{NodeStep, input_of}
 use Rattle.world_steps.specs.World.{NodeState}
 use Rattle.stored_nodes.specs.Keepers.{Keeper}
-use Rattle.stored_nodes.specs.Stored.{SaysTheSame}
+use Rattle.node_inputs.specs.Inputs.{SaysTheSame}
 use Rattle.stored_nodes.specs.Transactions.{AppliesInMemory, FailsInMemory, IsCarriedOutInMemory, IsPending, Pending}
 use Rattle.stored_nodes.specs.declared.fault.StepFault.{StepFault}
 use Rattle.stored_nodes.specs.declared.fault.StepFault.TheVariants.{Memory}

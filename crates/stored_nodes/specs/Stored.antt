@@ -16,8 +16,6 @@ use Rattle.stored_rows.specs.declared.fault.RowsFault.TheVariants as rows_fault
 use Rattle.node_store.specs.Contents.{Content, rows_of}
 use Rattle.node_store.specs.Faults.{IsCommitFault, counted_fault}
 use Rattle.node_rows.specs.Holds.{HoldsRows, StoresAlike}
-use Rattle.node_core.specs.Inputs.{Gets}
-use Rattle.node_core.specs.declared.input.NodeInput.{NodeInput}
 use Rattle.node_core.specs.Works.{changes_by, packets_by}
 use Rattle.node_core.specs.declared.work.NodeWork.{NodeWork}
 use Rattle.node_core.specs.Members.{IsBadFor, IsMadeOfRows}
@@ -36,14 +34,6 @@ use Rattle.node_store.specs.declared.fault.StoreFault.TheVariants as store
 pub record Stored (K : Type 0) : Type 0 where
   pub state : NodeState
   pub keep : K
-
--- ---- what an event asks for
-
--- what a node gets is what the event brings, and its storing was not refused
-pub record SaysTheSame (i : NodeInput) (k : NodeEventKind) : Type 0 where
-  pub taken : k ≢ event.Refused
-  pub brings : (n : NodeState) (x : Input) → Gets n i x → Brings n k x
-  pub gets : (n : NodeState) (x : Input) → Brings n k x → Gets n i x
 
 -- ---- what holds at any time
 

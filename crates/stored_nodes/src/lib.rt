@@ -40,7 +40,7 @@
 //!   told as its own. After the first two all is as before. After the third the node is, and what is kept; the keeper's
 //!   count of refusals rises as its fault says. By `StoredNode::apply`: `err` (`Fails`).
 //! - The same in two calls, for a caller that takes memory of its own between them: what comes of an event is told
-//!   before anything changes, and then carried out. By `input_of`, `StoredNode::plan`, `StoredNode::carry_out`.
+//!   before anything changes, and then carried out. By `StoredNode::plan`, `StoredNode::carry_out`.
 //! - A transaction does several events in memory, one after another. What is kept is meanwhile the rows of the node
 //!   before the first. The changes that it gathers are those of the events, in order, which led from that node to the
 //!   one it has. By `StoredNode::begin`; the type `Transaction`: `IsPending` (`specs/Transactions`);
@@ -72,5 +72,5 @@ mod stored_node;
 mod transaction;
 
 pub use fault::{ApplyFault, ReopenFault, StepFault};
-pub use stored_node::{Applied, Reopened, StoredNode, Unopened, input_of};
+pub use stored_node::{Applied, Reopened, StoredNode, Unopened};
 pub use transaction::{Transaction, Uncommitted};

@@ -1,6 +1,6 @@
 //! A node, and the keeper of its rows.
 
-ghost use Rattle.std.specs.Prelude.{◌≡◌, ◌↔◌, ◌≢◌, List, ℕ, Contains, IfErr, IfNone, IfOk, IfSome, IsTrue, OnErr, OnOk, []};
+ghost use Rattle.std.specs.Prelude.{◌≡◌, ◌↔◌, ◌≢◌, List, ℕ, Contains, IfErr, IfOk, IsTrue, OnErr, OnOk, []};
 ghost use Rattle.std.specs.FinMap.{empty};
 ghost use Rattle.stored_nodes.specs.Keepers.{Commits, Declines, IsSettled, KeepsOn, keeper_of};
 ghost use Rattle.stored_nodes.specs.Stored.{
@@ -13,7 +13,6 @@ ghost use Rattle.stored_nodes.specs.Stored.{
   IsReopenFault,
   IsStored,
   Reopens,
-  SaysTheSame,
   unloaded,
   unmade,
 };
@@ -22,7 +21,6 @@ ghost use Rattle.node_core.specs.Works.{IsPlanned, IsWork, MayDo, changes_by, no
 ghost use Rattle.node_core.specs.declared.input.NodeInput.{NodeInput as NodeInputOf};
 ghost use Rattle.node_rows.specs.Holds.{HoldsRows};
 ghost use Rattle.node_store.specs.Faults.{IsCommitFault, counted_fault};
-ghost use Rattle.ocpi_types.specs.declared.node_events.NodeEventKind.TheVariants as event;
 ghost use Rattle.stored_laws.specs.Nodes.{restarted};
 ghost use Rattle.world_laws.specs.Laws.{IsSetup};
 ghost use Rattle.world_steps.specs.World.{NodeState, opening_of};
@@ -30,6 +28,7 @@ ghost use Rattle.world_steps.specs.World.{NodeState, opening_of};
 use crate::fault::{ApplyFault, ReopenFault};
 use crate::transaction::Transaction;
 use node_core::{Node, NodeInput, NodePlan, NodeWork};
+use node_inputs::input_of;
 use node_rows::laws::{alike_are_classes, changes_are_held, restarts_are_held};
 use node_store::{Keep, StoreFault};
 use ocpi_types::{Change, Node as SetupNode, NodeEventKind, Packet};
@@ -107,41 +106,6 @@ pub struct Reopened<K: Keep> {
 pub struct Unopened<K> {
     pub keep: K,
     pub fault: ReopenFault,
-}
-
-/// What an event brings to a node, if anything: one whose storing was refused brings nothing.
-pub fn input_of(kind: &NodeEventKind) -> Option<NodeInput<'_>>
-    ensures some { IfSome result (λ i. SaysTheSame i kind.now) }
-    ensures none { IfNone result (kind.now ≡ event.Refused) }
-{
-    match kind {
-        NodeEventKind::Submit {
-            at,
-            operator,
-            order,
-        } => Some(NodeInput::Submit {
-            at: *at,
-            operator,
-            order,
-        }),
-        NodeEventKind::Token { at, token } => Some(NodeInput::Token { at: *at, token }),
-        NodeEventKind::Service {
-            evse_uid,
-            in_service,
-        } => Some(NodeInput::Service {
-            evse_uid: evse_uid.key(),
-            in_service: *in_service,
-        }),
-        NodeEventKind::Charger { at, event } => Some(NodeInput::Charger { at: *at, event }),
-        NodeEventKind::Credit { at, session_id } => Some(NodeInput::Credit {
-            at: *at,
-            session_id: session_id.key(),
-        }),
-        NodeEventKind::Deliver { at, packet } => Some(NodeInput::Arrives { at: *at, packet }),
-        NodeEventKind::Tick { at } => Some(NodeInput::Tick { at: *at }),
-        NodeEventKind::Restart => Some(NodeInput::Restart),
-        NodeEventKind::Refused => None,
-    }
 }
 
 /// Commits changes, where there are any, and says whether there are. A refusal changes nothing.

@@ -9,8 +9,9 @@ ghost use Rattle.node_core.specs.declared.input.NodeInput.{NodeInput as NodeInpu
 ghost use Rattle.node_store.specs.Faults.{IsCommitFault, counted_fault};
 
 use crate::fault::StepFault;
-use crate::stored_node::{Applied, StoredNode, commit, input_of};
+use crate::stored_node::{Applied, StoredNode, commit};
 use node_core::{Node, NodeInput, NodePlan, NodeWork};
+use node_inputs::input_of;
 use node_rows::laws::{alike_are_classes, changes_are_held, restarts_are_held};
 use node_steps::copies;
 use node_store::{Keep, StoreFault};
