@@ -26,6 +26,7 @@ import sys
 import threading
 
 import lanes
+from wrong_together import together
 
 # The task whose time is the unit of the table: its crate is small, and stands low.
 UNIT = "session_state", "proof"
@@ -113,21 +114,15 @@ class Tries:
 
     def all(self):
         """What each edit comes to, and what to say of it."""
-        # (what this imports imports this)
-        from wrong_together import tried_together
-
         known = self.known()
         left = [it for number, it in enumerate(self.edits) if number not in known]
-        refused = tried_together(self.rt, self.crate, left) if left else {}
+        refused = {edit: line for edit, _, line in together(self.rt, self.crate, left)} if left else {}
         return [known.get(number) or self.one(number, edit, refused) for number, edit in enumerate(self.edits)]
 
     def one(self, number, edit, refused):
         """What an edit comes to that no earlier run has tried. It is kept where no file that it stands on was touched."""
         if edit in refused:
-            of, is_gone = refused[edit]
-            why = " (only because a proof file names what the edit took away)" if is_gone else ""
-            said = f"must-fail {self.crate.name}/{os.path.basename(edit)}: refused, as it must be, of {of} at once{why}"
-            tried = self.rt.REFUSED, said
+            tried = self.rt.REFUSED, refused[edit]
         else:
             tried = self.rt.must_fail(self.crate, edit, ["--jobs", "1"])
         if tried[0] in self.rt.SETTLED and self.kept.is_untouched(self.crate):

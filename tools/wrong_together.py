@@ -14,7 +14,9 @@ import collections
 import functools
 import os
 import re
-from concurrent.futures import ThreadPoolExecutor, as_completed
+from concurrent.futures import as_completed
+
+from lanes import Threads
 
 # The most edits of a check.
 MOST = 12
@@ -272,7 +274,7 @@ def together(rt, crate, edits, checked=None, lanes=1):
     """Tries edits of a crate, several in one check. Gives, as they come, each edit that was refused, whether only for names
     that are gone, and the line that says so. Any other edit has no verdict. `checked` makes a check, as `rt.checked` does."""
     batches, changes, alone = batches_for(crate, edits)
-    with ThreadPoolExecutor(lanes) as pool:
+    with Threads(lanes) as pool:
         tried = {pool.submit(tried_in, rt, crate, it, changes, alone, checked or rt.checked): it for it in batches}
         for done in as_completed(tried):
             for edit, is_gone in done.result().items():
