@@ -1,6 +1,1 @@
-pub mod Requests
-pub mod Planned
-pub mod Bills
-pub mod Credits
-pub mod Happenings
-pub mod Answering
+pub mod Stepping

@@ -79,28 +79,17 @@
 //!
 //! # How it is built
 //!
-//! The gate tries wrong bodies of `node_steps`, `operator_tables` and `session_tables`, so that the dearest,
-//! `operator_rows`, `operator_stored` and `operator_core`, are proved once. That a session has a credit is told by
-//! `session_book`, and a body that never finds one is tried there. That alone makes no second credit, since the first
-//! one has its id. The body that makes one asks for neither; it is among those in `operator_core/wrong`.
+//! What is planned stands in `operator_planning`, over the books; an operator is its books, and where it takes its
+//! memory from. The gate tries wrong bodies of `node_steps`, `operator_tables` and `session_tables`, so that the
+//! dearest, `operator_rows`, `operator_stored` and `operator_planning`, are proved once.
 //!
 //! `on_packet` and its kin plan, make room and apply, and answer a copy of the row changes (`copies`). The contract
 //! of planning is that the plan is what a line of the definition asks for (`PlannedBy`); the contract of applying is
-//! that the plan is what stands (`after`); and that each plan may be carried out is one fact for all lines
-//! (`MayFollow`), by induction over acts: their changes are of different rows (`AreOrderly`), each fits the rows that
-//! the ones before left (`AreFit`), and what they send stands (`ActsAreSent`).
+//! that the plan is what stands (`after`).
 #![tactic(auto)]
 
-mod changes;
-mod command_ends;
-mod credits;
 mod from_rows;
 mod operator;
-mod packets;
-mod plans;
-mod reports;
-mod service;
-mod sessions;
-mod ticks;
+mod planning;
 
 pub use operator::Operator;

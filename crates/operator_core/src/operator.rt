@@ -55,7 +55,7 @@ impl Operator {
     ghost use Rattle.operator_steps.specs.Service.{ServiceStep};
     ghost use Rattle.operator_steps.specs.Steps.{OperatorStep};
     ghost use Rattle.operator_steps.specs.Tick.{TickLine, TickStep};
-    ghost use Rattle.operator_core.specs.Requests.{out_of};
+    ghost use Rattle.operator_core.specs.Stepping.{out_of};
 
     /// The operator of a site before its first event. An error is want of memory.
     pub fn new(alloc: Global, seed: HashSeed, line: SiteLine) -> Result<Operator, AllocError>

@@ -1,5 +1,0 @@
-use Rattle.operator_core.proofs.LateBeginnings.{BegunSoFar}
-use Rattle.operator_core.proofs.operator.Operator.beginnings.Given as goal
-
-abbrev pub invariant-loop-number : goal.invariant-loop-number
-invariant-loop-number l = BegunSoFar l.self.state l.at l.late l.number-index l.beginnings.items

@@ -1,6 +1,0 @@
-use Rattle.std.proofs.Common.{refl}
-use Rattle.operator_core.proofs.Taken.{taken}
-use Rattle.operator_core.proofs.packets.bodies.is_taken.Goals as goal
-
-pub returns-in-Command : goal.returns-in-Command
-returns-in-Command c = (λ _. taken c.args.body.now c.in-Command.is, λ _. refl)

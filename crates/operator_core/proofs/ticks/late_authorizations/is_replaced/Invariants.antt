@@ -1,6 +1,0 @@
-use Rattle.std.proofs.Common.{◌≡◌, drop}
-use Rattle.operator_core.specs.Happenings.{is_replaced}
-use Rattle.operator_core.proofs.ticks.late_authorizations.is_replaced.Given as goal
-
-abbrev pub invariant-loop-begun : goal.invariant-loop-begun
-invariant-loop-begun l = is_replaced (drop l.begun-index l.sessions) l.number ≡ is_replaced l.sessions l.number
