@@ -8,7 +8,8 @@ They are made where they do not stand, or where a file that they are made from h
 lines came and which went. The SHA-256 sum of each text stands in cases/SHA256SUMS: a text that differs from its sum is
 told by its name, and the status is 1. With --sums that file is written anew. What each part holds is told in
 `call_cases`, `packet_cases`, `book_cases`, `operator_cases`, `provider_cases`, `stored_cases`, `world_cases`,
-`kept_cases`, `store_cases`, `cell_cases`, `woven_cases` and `thread_cases`. To see where the program differs:
+`kept_cases`, `store_cases`, `cell_cases`, `woven_cases`, `thread_cases` and `long_run_cases`. To see where the program
+differs:
 
     tools/try_cases
 """
@@ -40,6 +41,7 @@ PARTS = {
     "cells": "cell_cases",
     "woven": "woven_cases",
     "threads": "thread_cases",
+    "long_runs": "long_run_cases",
 }
 # Some cases of these parts are in without_memory too.
 WITHOUT_MEMORY = ("operator", "provider", "nodes", "kept_nodes", "cells", "woven", "threads", "stores")

@@ -2,9 +2,10 @@
 use Rattle.std.proofs.Common.{◌≡◌, ◌∙◌, ℕ, List, length, sym, ap, subst}
 use Rattle.std.proofs.lemmas.List.Elements.{All-contains}
 use Rattle.std.specs.Prelude.{All, Contains, Some, slice_get}
+use Rattle.cell_openings.specs.Opened.{IsOfSetup, IsOpenedAs}
 use Rattle.histories.proofs.Lists.{got_within, is_in, place_in, some_same}
 use Rattle.node_desk.specs.Logs.{GoesOn, Log, log_of}
-use Rattle.node_harness.specs.Opened.{AreOpened, IsOfSetup, IsOpenedAs, RanOf}
+use Rattle.node_harness.specs.Opened.{AreOpened, RanOf}
 use Rattle.node_harness.specs.Settled.{AreSettled}
 use Rattle.node_harness.specs.declared.settling.NodeRan.{NodeRan}
 use Rattle.node_cells.specs.Cells.{Cell}
@@ -14,23 +15,25 @@ use Rattle.ocpi_types.specs.declared.node_events.NodeEventKind.{NodeEventKind}
 use Rattle.ocpi_types.specs.declared.setup.Node.{Node}
 use Rattle.world_laws.proofs.Setups.{one_node}
 use Rattle.world_laws.specs.Laws.{IsSetup}
-use Rattle.world_steps.specs.World.{opening_of}
-
--- a cell that was just opened
-pub opened_there : {K : Type 0} (setup : List Node) (member : Node) (c : Cell K) → Contains setup member → c.party ≡ party_of member → c.first ≡ opening_of setup member → IsOfSetup setup c
-opened_there setup member c among party first = record { member = member; among = among; opened = record { party = party; first = first } }
 
 -- the cell of a setup's node is so after more entries
 pub still : {K : Type 0} (setup : List Node) (c d : Cell K) → IsOfSetup setup c → d.party ≡ c.party → d.first ≡ c.first → IsOfSetup setup d
 still setup c d of party first =
     record { member = of.member; among = of.among; opened = record { party = party ∙ of.opened.party; first = first ∙ of.opened.first } }
 
--- the cell of a desk is of the node that it was of, and began as that did
-pub same_party : {K : Type 0} (before : Log) (old new : Cell K) (number : ℕ) → log_of old ≡ before → GoesOn before (log_of new) number → new.party ≡ old.party
-same_party before old new number is goes = goes.party ∙ ap (λ (l : Log). l.party) (sym is)
+-- the cell of a desk that is closed is of the node that it was of, and began as that did
+pub goes_party : {K : Type 0} (before : Log) (new : Cell K) (number : ℕ) → GoesOn before (log_of new) number → new.party ≡ before.party
+goes_party before new number goes = goes.party
 
-pub same_first : {K : Type 0} (before : Log) (old new : Cell K) (number : ℕ) → log_of old ≡ before → GoesOn before (log_of new) number → new.first ≡ old.first
-same_first before old new number is goes = goes.first ∙ ap (λ (l : Log). l.first) (sym is)
+pub goes_first : {K : Type 0} (before : Log) (new : Cell K) (number : ℕ) → GoesOn before (log_of new) number → new.first ≡ before.first
+goes_first before new number goes = goes.first
+
+-- which is the node of the cell that it was made of
+pub same_party : {K : Type 0} (before : Log) (old new : Cell K) → log_of old ≡ before → new.party ≡ before.party → new.party ≡ old.party
+same_party before old new is goes = goes ∙ ap (λ (l : Log). l.party) (sym is)
+
+pub same_first : {K : Type 0} (before : Log) (old new : Cell K) → log_of old ≡ before → new.first ≡ before.first → new.first ≡ old.first
+same_first before old new is goes = goes ∙ ap (λ (l : Log). l.first) (sym is)
 
 module _ (setup : List Node) (is_setup : IsSetup setup) (script : ℕ → List NodeEventKind) (nodes : List NodeRan) (settled : AreSettled setup script nodes (length setup)) (all : All (RanOf setup) nodes) where
   -- the cell at a place is of that node which stands there: of the setup there is but one of its party

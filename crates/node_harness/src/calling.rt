@@ -55,7 +55,9 @@ fn call<J: Naming, G: Gate + Drop, R: Wait>(
     match desk.call(rt, &mut worked.pass, event) {
         Ok(receipt) => Ok(Some(receipt)),
         Err(refusal) => {
-            passed_over(refusal.fault)?;
+            let fault = refusal.fault;
+            drop(refusal);
+            passed_over(fault)?;
             Ok(None)
         }
     }
@@ -74,6 +76,37 @@ fn send<R: Wait>(rt: &R, outs: &[Out], packet: &Packet) -> Result<(), RunFault> 
     Ok(())
 }
 
+/// Sends packets, each on the link to its addressee.
+fn send_all<R: Wait>(rt: &R, outs: &[Out], packets: &[Packet]) -> Result<(), RunFault> {
+    for packet in packets {
+        send(rt, outs, packet)?;
+    }
+    Ok(())
+}
+
+/// Calls the desk with the node's own event, and sends what the node then sends.
+fn bring<J: Naming, G: Gate + Drop, R: Wait>(
+    rt: &R,
+    desk: &Desk<J, ListKeep, G>,
+    worked: &mut Worked<J>,
+    event: NodeEventKind,
+    outs: &[Out],
+) -> Result<(), RunFault> {
+    let Some(receipt) = call(rt, desk, worked, event)? else {
+        return Ok(());
+    };
+    match send_all(rt, outs, receipt.packets.as_slice()) {
+        Ok(()) => {
+            worked.receipts.push(receipt)?;
+            Ok(())
+        }
+        Err(fault) => {
+            drop(receipt);
+            Err(fault)
+        }
+    }
+}
+
 /// The node's own event, whose packets go out at once.
 pub(crate) fn work_own<J: Naming, G: Gate + Drop, R: Wait>(
     rt: &R,
@@ -84,16 +117,26 @@ pub(crate) fn work_own<J: Naming, G: Gate + Drop, R: Wait>(
     outs: Vec<Out>,
 ) -> Result<Worked<J>, RunFault> {
     let mut worked = begin(alloc, pass);
-    let Some(event) = event else {
-        return Ok(worked);
+    let done = match event {
+        Some(event) => bring(rt, desk, &mut worked, event, outs.as_slice()),
+        None => Ok(()),
     };
-    if let Some(receipt) = call(rt, desk, &mut worked, event)? {
-        for packet in receipt.packets.as_slice() {
-            send(rt, outs.as_slice(), packet)?;
+    drop(outs);
+    match done {
+        Ok(()) => Ok(worked),
+        Err(fault) => {
+            drop(worked);
+            Err(fault)
         }
-        worked.receipts.push(receipt)?;
     }
-    Ok(worked)
+}
+
+/// Copies of packets, behind those that were given.
+fn give(given: &mut Vec<Packet>, packets: &[Packet]) -> Result<(), RunFault> {
+    for packet in packets {
+        given.push(packet.copy()?)?;
+    }
+    Ok(())
 }
 
 /// Delivers a packet. What the node sends then waits for the next round.
@@ -105,13 +148,51 @@ fn deliver<J: Naming, G: Gate + Drop, R: Wait>(
     packet: Packet,
 ) -> Result<(), RunFault> {
     let event = NodeEventKind::Deliver { at, packet };
-    if let Some(receipt) = call(rt, desk, worked, event)? {
-        for packet in receipt.packets.as_slice() {
-            worked.given.push(packet.copy()?)?;
+    let Some(receipt) = call(rt, desk, worked, event)? else {
+        return Ok(());
+    };
+    match give(&mut worked.given, receipt.packets.as_slice()) {
+        Ok(()) => {
+            worked.receipts.push(receipt)?;
+            Ok(())
         }
-        worked.receipts.push(receipt)?;
+        Err(fault) => {
+            drop(receipt);
+            Err(fault)
+        }
+    }
+}
+
+/// Delivers packets, one after the other.
+fn deliver_all<J: Naming, G: Gate + Drop, R: Wait>(
+    rt: &R,
+    desk: &Desk<J, ListKeep, G>,
+    worked: &mut Worked<J>,
+    at: Moment,
+    packets: Vec<Packet>,
+) -> Result<(), RunFault> {
+    for packet in packets {
+        deliver(rt, desk, worked, at, packet)?;
     }
     Ok(())
+}
+
+/// Delivers a packet, and then once more.
+fn deliver_twice<J: Naming, G: Gate + Drop, R: Wait>(
+    rt: &R,
+    desk: &Desk<J, ListKeep, G>,
+    worked: &mut Worked<J>,
+    at: Moment,
+    packet: Packet,
+    again: Packet,
+) -> Result<(), RunFault> {
+    match deliver(rt, desk, worked, at, packet) {
+        Ok(()) => deliver(rt, desk, worked, at, again),
+        Err(fault) => {
+            drop(again);
+            Err(fault)
+        }
+    }
 }
 
 /// A packet comes to a link, which does with it what is next.
@@ -125,14 +206,40 @@ fn take<J: Naming, G: Gate + Drop, R: Wait>(
 ) -> Result<(), RunFault> {
     match link.next_act() {
         Act::Pass => deliver(rt, desk, worked, at, packet),
-        Act::Drop => Ok(()),
-        Act::Twice => {
-            let again = packet.copy()?;
-            deliver(rt, desk, worked, at, packet)?;
-            deliver(rt, desk, worked, at, again)
+        Act::Drop => {
+            drop(packet);
+            Ok(())
         }
+        Act::Twice => match packet.copy() {
+            Ok(again) => deliver_twice(rt, desk, worked, at, packet, again),
+            Err(_) => {
+                drop(packet);
+                Err(RunFault::Memory)
+            }
+        },
         Act::Hold => link.hold(packet),
     }
+}
+
+/// What was left for a link, and what is sent to it until its sender is done.
+fn take_all<J: Naming, G: Gate + Drop, R: Wait>(
+    rt: &R,
+    desk: &Desk<J, ListKeep, G>,
+    worked: &mut Worked<J>,
+    link: &mut Link,
+    at: Moment,
+    receiver: &Receiver<Packet>,
+) -> Result<(), RunFault> {
+    for packet in link.take_left() {
+        take(rt, desk, worked, link, at, packet)?;
+    }
+    for _ in rt.forever() {
+        let Ok(packet) = receiver.recv(rt) else {
+            break;
+        };
+        take(rt, desk, worked, link, at, packet)?;
+    }
+    Ok(())
 }
 
 /// All that comes by a link in a round: what was left for it, what is sent to it, and then what was held.
@@ -148,18 +255,34 @@ pub(crate) fn work_link<J: Naming, G: Gate + Drop, R: Wait>(
     let mut link = link;
     let mut worked = begin(alloc, pass);
     let held = link.take_held();
-    for packet in link.take_left() {
-        take(rt, desk, &mut worked, &mut link, at, packet)?;
+    let taken = take_all(rt, desk, &mut worked, &mut link, at, &receiver);
+    drop(receiver);
+    let done = match taken {
+        Ok(()) => deliver_all(rt, desk, &mut worked, at, held),
+        Err(fault) => {
+            drop(held);
+            Err(fault)
+        }
+    };
+    end(worked, link, done)
+}
+
+/// What was done by a link's pass, with the link.
+fn end<J: Naming>(
+    worked: Worked<J>,
+    link: Link,
+    done: Result<(), RunFault>,
+) -> Result<Worked<J>, RunFault> {
+    match done {
+        Ok(()) => {
+            let mut worked = worked;
+            worked.link = Some(link);
+            Ok(worked)
+        }
+        Err(fault) => {
+            drop(link);
+            drop(worked);
+            Err(fault)
+        }
     }
-    for _ in rt.forever() {
-        let Ok(packet) = receiver.recv(rt) else {
-            break;
-        };
-        take(rt, desk, &mut worked, &mut link, at, packet)?;
-    }
-    for packet in held {
-        deliver(rt, desk, &mut worked, at, packet)?;
-    }
-    worked.link = Some(link);
-    Ok(worked)
 }

@@ -18,7 +18,7 @@ use std::marker::Brand;
 use std::sync::Wait;
 use std::sync::ledger::Blank;
 use std::thread;
-use std::thread::Threads;
+use std::thread::{JoinHandle, Threads};
 
 /// What a node has to do in a round: an event of its own, whose packets go out, and what comes by each link, at a
 /// moment.
@@ -67,13 +67,44 @@ impl<J: Naming> Gathered<J> {
         } = worked;
         let mut receipts = receipts;
         let mut given = given;
-        self.passes.push(pass)?;
-        self.receipts.append(&mut receipts)?;
-        self.given.append(&mut given)?;
         if let Some(link) = link {
             self.links.push(link)?;
         }
+        self.passes.push(pass)?;
+        self.receipts.append(&mut receipts)?;
+        self.given.append(&mut given)?;
         Ok(())
+    }
+
+    /// What the threads brought back.
+    fn join<R: Threads>(
+        &mut self,
+        rt: &R,
+        running: Vec<JoinHandle<Result<Worked<J>, RunFault>>>,
+    ) -> Result<(), RunFault> {
+        for child in running {
+            match child.join(rt) {
+                Ok(worked) => self.add(worked)?,
+                Err(fault) => return Err(fault),
+            }
+        }
+        Ok(())
+    }
+}
+
+/// What the threads of a round brought back.
+fn gather<J: Naming, R: Threads>(
+    rt: &R,
+    alloc: Global,
+    running: Vec<JoinHandle<Result<Worked<J>, RunFault>>>,
+) -> Result<Gathered<J>, RunFault> {
+    let mut gathered = Gathered::new(alloc);
+    match gathered.join(rt, running) {
+        Ok(()) => Ok(gathered),
+        Err(fault) => {
+            drop(gathered);
+            Err(fault)
+        }
     }
 }
 
@@ -82,6 +113,25 @@ fn work_all<J: Naming + Send + Sync, G: Gate + Sync, R: Threads + Wait + Sync>(
     rt: &R,
     alloc: Global,
     desk: &Desk<J, ListKeep, &G>,
+    passes: Vec<Pass<J>>,
+    job: Job,
+) -> Result<Gathered<J>, RunFault> {
+    let mut passes = passes;
+    match passes.pop() {
+        Some(own) => work_each(rt, alloc, desk, own, passes, job),
+        None => {
+            drop(job);
+            Err(RunFault::Stopped)
+        }
+    }
+}
+
+/// The same: a pass for the node's own event, and the others for the links.
+fn work_each<J: Naming + Send + Sync, G: Gate + Sync, R: Threads + Wait + Sync>(
+    rt: &R,
+    alloc: Global,
+    desk: &Desk<J, ListKeep, &G>,
+    own: Pass<J>,
     passes: Vec<Pass<J>>,
     job: Job,
 ) -> Result<Gathered<J>, RunFault> {
@@ -97,10 +147,7 @@ fn work_all<J: Naming + Send + Sync, G: Gate + Sync, R: Threads + Wait + Sync>(
         rt,
         |scope| -> Result<Gathered<J>, RunFault> {
             let mut running = Vec::new(alloc);
-            let Some(pass) = passes.pop() else {
-                return Err(RunFault::Stopped);
-            };
-            match scope.spawn(move || work_own(rt, alloc, desk, pass, event, outs)) {
+            match scope.spawn(move || work_own(rt, alloc, desk, own, event, outs)) {
                 Ok(child) => running.push(child)?,
                 Err(_) => return Err(RunFault::Memory),
             }
@@ -113,13 +160,57 @@ fn work_all<J: Naming + Send + Sync, G: Gate + Sync, R: Threads + Wait + Sync>(
                     Err(_) => return Err(RunFault::Memory),
                 }
             }
-            let mut gathered = Gathered::new(alloc);
-            for child in running {
-                gathered.add(child.join(rt)?)?;
-            }
-            Ok(gathered)
+            gather(rt, alloc, running)
         },
     )
+}
+
+/// A desk, closed. The cell is of the node that it was of.
+#[tactic(auto, using(crate::proofs::Openings::goes_party, crate::proofs::Openings::goes_first))]
+fn close_desk<J: Naming, G: Gate>(
+    desk: Desk<J, ListKeep, &G>,
+    gathered: Gathered<J>,
+) -> Result<Turned, RunFault>
+    ensures party { IfOk result (λ t. t.node.cell.party ≡ J.before.party) }
+    ensures first { IfOk result (λ t. t.node.cell.first ≡ J.before.first) }
+{
+    let Gathered {
+        passes,
+        receipts,
+        links,
+        given,
+    } = gathered;
+    match desk.close(passes) {
+        Ok(cell) => Ok(Turned {
+            node: NodeRan { cell, receipts },
+            links,
+            given,
+        }),
+        Err(missing) => {
+            drop(missing);
+            Err(RunFault::Stopped)
+        }
+    }
+}
+
+/// The calls of a desk in a round, and its closing.
+fn use_desk<J: Naming + Send + Sync, G: Gate + Sync, R: Threads + Wait + Sync>(
+    rt: &R,
+    alloc: Global,
+    desk: Desk<J, ListKeep, &G>,
+    passes: Vec<Pass<J>>,
+    job: Job,
+) -> Result<Turned, RunFault>
+    ensures party { IfOk result (λ t. t.node.cell.party ≡ J.before.party) }
+    ensures first { IfOk result (λ t. t.node.cell.first ≡ J.before.first) }
+{
+    match work_all(rt, alloc, &desk, passes, job) {
+        Ok(gathered) => close_desk(desk, gathered),
+        Err(fault) => {
+            drop(desk);
+            Err(fault)
+        }
+    }
 }
 
 /// The desk of a node, from its making to its closing. No desk and no name leaves it.
@@ -141,21 +232,14 @@ fn in_desk<J: Naming + Send + Sync, G: Gate + Sync, R: Threads + Wait + Sync>(
     ensures party { IfOk result (λ t. t.node.cell.party ≡ cell.party) }
     ensures first { IfOk result (λ t. t.node.cell.first ≡ cell.first) }
 {
-    let made = Desk::<J, ListKeep, &G>::new(alloc, blank, cell, gate, passes);
-    let (desk, all) = made.ok().ok_or(RunFault::Memory)?;
-    let gathered = work_all(rt, alloc, &desk, all, job)?;
-    let Gathered {
-        passes,
-        receipts,
-        links,
-        given,
-    } = gathered;
-    let cell = desk.close(passes).ok().ok_or(RunFault::Stopped)?;
-    Ok(Turned {
-        node: NodeRan { cell, receipts },
-        links,
-        given,
-    })
+    match Desk::<J, ListKeep, &G>::new(alloc, blank, cell, gate, passes) {
+        Ok((desk, all)) => use_desk(rt, alloc, desk, all, job),
+        Err(cell) => {
+            drop(cell);
+            drop(job);
+            Err(RunFault::Memory)
+        }
+    }
 }
 
 /// One round of one node: the cell after it, of the same node as before, and the receipts of its calls.

@@ -20,7 +20,7 @@ use std::alloc::Global;
 use std::marker::Brand;
 use std::sync::Wait;
 use std::thread;
-use std::thread::Threads;
+use std::thread::{JoinHandle, Threads};
 
 /// The most rounds of a run.
 pub const MOST_ROUNDS: u32 = 1_000;
@@ -98,6 +98,19 @@ fn run_turn<S: OfSetup, G: Gate + Sync, R: Threads + Wait + Sync>(
     })
 }
 
+/// The nodes after a round, once their threads are done.
+fn join_all<S: OfSetup, R: Threads>(
+    rt: &R,
+    alloc: Global,
+    running: Vec<JoinHandle<Result<Ended<S>, RunFault>>>,
+) -> Result<Vec<Ended<S>>, RunFault> {
+    let mut ended = Vec::new(alloc);
+    for child in running {
+        ended.push(child.join(rt)?)?;
+    }
+    Ok(ended)
+}
+
 /// One round: each node has a thread.
 fn run_round<S: OfSetup + Send + Sync, G: Gate + Sync, R: Threads + Wait + Sync>(
     rt: &R,
@@ -114,17 +127,19 @@ fn run_round<S: OfSetup + Send + Sync, G: Gate + Sync, R: Threads + Wait + Sync>
         |scope| -> Result<Vec<Ended<S>>, RunFault> {
             let mut running = Vec::new(alloc);
             for turn in turns {
-                let event = event_of(script, running.len(), round)?;
+                let event = match event_of(script, running.len(), round) {
+                    Ok(event) => event,
+                    Err(fault) => {
+                        drop(turn);
+                        return Err(fault);
+                    }
+                };
                 match scope.spawn(move || run_turn(rt, alloc, gate, at, event, turn)) {
                     Ok(child) => running.push(child)?,
                     Err(_) => return Err(RunFault::Memory),
                 }
             }
-            let mut ended = Vec::new(alloc);
-            for child in running {
-                ended.push(child.join(rt)?)?;
-            }
-            Ok(ended)
+            join_all(rt, alloc, running)
         },
     )
 }

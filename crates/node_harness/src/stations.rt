@@ -1,7 +1,6 @@
 //! The nodes of a run between two rounds, and the links to them.
 
-ghost use Rattle.std.specs.Prelude.{◌≡◌, ◌<◌, Contains, IfOk, IfSome, length};
-ghost use Rattle.node_harness.specs.Opened.{IsOfSetup};
+ghost use Rattle.std.specs.Prelude.{◌≡◌, ◌<◌, IfSome, length};
 ghost use Rattle.world_laws.specs.Laws.{IsSetup};
 
 use crate::calling::{Inbound, Out};
@@ -11,13 +10,11 @@ use crate::member::Member;
 use crate::of_setup::OfSetup;
 use crate::script::Loss;
 use crate::settling::NodeRan;
+use cell_openings::open_cell;
 use crossbeam_channel::unbounded;
-use node_cells::NodeCell;
-use node_store::ListKeep;
 use ocpi_text::Party;
 use ocpi_types::{Node, Packet};
 use std::alloc::Global;
-use tables::HashSeed;
 
 /// A node between two rounds, and the links to it.
 #[derive(Drop)]
@@ -49,20 +46,6 @@ struct OutOf {
     out: Out,
 }
 
-/// A cell before any event, over a list of no rows.
-#[tactic(auto, using(crate::proofs::Openings::opened_there))]
-fn open_cell(alloc: Global, nodes: &[Node], member: &Node) -> Result<NodeCell<ListKeep>, RunFault>
-    requires setup { IsSetup nodes.now }
-    requires member { Contains nodes.now member.now }
-    ensures { IfOk result (IsOfSetup nodes.now) }
-{
-    let seed = HashSeed::fixed();
-    match NodeCell::open(alloc, seed, nodes, member, ListKeep::new(alloc)) {
-        Ok(cell) => Ok(cell),
-        Err(_) => Err(RunFault::Memory),
-    }
-}
-
 /// The links to a party: one from each other node.
 fn links_to(
     alloc: Global,
@@ -91,42 +74,70 @@ pub(crate) fn open_all<S: OfSetup>(
 {
     let mut stations = Vec::new(alloc);
     for member in nodes {
+        let links = links_to(alloc, nodes, member.party(), losses)?;
         let node = NodeRan {
             cell: open_cell(alloc, nodes, member)?,
             receipts: Vec::new(alloc),
         };
-        let links = links_to(alloc, nodes, member.party(), losses)?;
         let member = Member::new(node);
         stations.push(Station { member, links })?;
     }
     Ok(stations)
 }
 
-/// A node for a round: each link to it gets a channel, whose other end is added to the senders.
+/// A link to a party for a round: it gets a channel, whose other end is added to the senders.
+fn inbound_of(
+    alloc: Global,
+    link: Link,
+    to: Party,
+    senders: &mut Vec<OutOf>,
+) -> Result<Inbound, RunFault> {
+    let from = *link.from();
+    match unbounded(alloc) {
+        Ok((sender, receiver)) => {
+            let out = Out { to, sender };
+            senders.push(OutOf { from, out })?;
+            Ok(Inbound { link, receiver })
+        }
+        Err(_) => {
+            drop(link);
+            Err(RunFault::Memory)
+        }
+    }
+}
+
+/// The links to a party for a round.
+fn inbounds_of(
+    alloc: Global,
+    links: Vec<Link>,
+    to: Party,
+    senders: &mut Vec<OutOf>,
+) -> Result<Vec<Inbound>, RunFault> {
+    let mut ins = Vec::new(alloc);
+    for link in links {
+        ins.push(inbound_of(alloc, link, to, senders)?)?;
+    }
+    Ok(ins)
+}
+
+/// A node for a round, with the links to it.
 fn turn_of<S: OfSetup>(
     alloc: Global,
     station: Station<S>,
     senders: &mut Vec<OutOf>,
 ) -> Result<Turn<S>, RunFault> {
     let Station { member, links } = station;
-    let mut ins = Vec::new(alloc);
-    for link in links {
-        let (sender, receiver) = unbounded(alloc)?;
-        let out = Out {
-            to: *member.party(),
-            sender,
-        };
-        senders.push(OutOf {
-            from: *link.from(),
-            out,
-        })?;
-        ins.push(Inbound { link, receiver })?;
+    match inbounds_of(alloc, links, *member.party(), senders) {
+        Ok(ins) => Ok(Turn {
+            member,
+            outs: Vec::new(alloc),
+            ins,
+        }),
+        Err(fault) => {
+            drop(member);
+            Err(fault)
+        }
     }
-    Ok(Turn {
-        member,
-        outs: Vec::new(alloc),
-        ins,
-    })
 }
 
 /// Where the node of a party stands.

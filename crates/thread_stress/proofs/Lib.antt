@@ -1,2 +1,0 @@
-mod OfCells
-mod WhatIsLeft
