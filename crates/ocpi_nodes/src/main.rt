@@ -2,44 +2,30 @@
 //!
 //! # Promises
 //!
-//! - The program ends with that status. By `report`, `report_node`; `report_weave`: `ran`, `given`, `stopped`.
-//! - Where a store could not be closed and nothing else had stopped the run, that did. Where something had, it is
-//!   handed on to be told besides. By `and_closed`, `and_node_closed`: `refused`; `besides`, `once`, `nothing`.
-//! - Without `--strict` explanations change no status, and with it none but 0. By `status_with`: `lax`, `other`.
+//! - The status is 2 where the command line is wrong. By `say`.
+//! - Else it is that of the word that is run, as its library has it. No clause says so (its few lines; tested by the
+//!   examples).
 //!
 //! # How it is built
 //!
-//! `main` takes the command line, joins one of these to the standard input and output, closes the stores, and ends
-//! with its exit status. With a store the output has no buffer.
+//! `main` takes the command line, and hands what it says to the library of its word: `program_streams`, `node_streams`
+//! or `weave_streams`. These join a program to the standard input and output and to files, close the stores, and answer
+//! the exit status (`program_messages`).
 #![tactic(auto)]
 
 ghost use Rattle.std.specs.Prelude.{◌≡◌, ◌≢◌};
 ghost use Rattle.clap.specs.Values.{kind_of};
 
-mod answer;
-mod endings;
-mod node;
-mod play;
-mod refusal;
-mod settle;
-mod watching;
-mod weaving;
-
-use answer::run_answer_word;
 use clap::Error;
 use clap::error::ErrorKind;
 use command_line::{WRONG_WORDS, Word, status_after, take_words};
 use line_runs::RunFault;
-use node::run_node_word;
-use play::run_play_word;
-use settle::run_settle_word;
-use std::io::{self, IsTerminal};
+use node_streams::run_node_word;
+use program_streams::{run_answer_word, run_play_word, run_settle_word};
+use std::io;
 use std::process::ExitCode;
 use tables::HashSeed;
-use weaving::{report_weave, weave_files};
-
-/// What one read asks for, and what is written at once, in bytes.
-const BUFFER_BYTES: usize = 65_536;
+use weave_streams::{report_weave, weave_files};
 
 /// The exit status where the system gave no random bytes: a read failed.
 const WITHOUT_SEED: u8 = 1;
@@ -112,12 +98,5 @@ fn run_seeded(rt: &HostRuntime, seed: HashSeed, word: Word<'_>) -> u8 {
         Word::Settle(file) => run_settle_word(rt, file),
         Word::Node(words) => run_node_word(rt, seed, &words),
         Word::Weave(words) => report_weave(rt, weave_files(rt, seed, &words)),
-    }
-}
-
-/// Says what the program waits for, where a person is to type it.
-fn tell_wait(rt: &HostRuntime, wanted: &str) {
-    if rt.stdin().is_terminal() {
-        let _ = eprintln!(rt; "ocpi_nodes: waiting for lines of JSON on standard input: {wanted}");
     }
 }

@@ -1,14 +1,15 @@
 //! One node is run on the standard input.
 
-use crate::endings::{and_node_closed, let_go, report_node};
-use crate::watching::{Lines, lines_of, status_with, watch_in};
-use crate::{BUFFER_BYTES, tell_wait};
 use command_line::NodeWords;
 use explanations::{Program, WatchedReader, WatchedWriter};
 use line_runs::{LineReader, Ran, RunFault};
 use node_keepers::{Keeps, ListKeeps, StoreFile};
 use node_runs::{NodeRunFault, run_node};
 use node_store::StoreFault;
+use program_messages::{
+    BUFFER_BYTES, Lines, and_closed, let_go, lines_of, report_node, status_with, tell_wait,
+    watch_in,
+};
 use sqlite::{Start, Unknown};
 use std::alloc::Global;
 use std::io::{self, BufRead, BufReader, Write};
@@ -143,7 +144,7 @@ fn run_to<R: BufRead + Drop, W: Write, S: Keeps + Drop>(
     drop(input);
     let closed = close_one(&mut keeps, kept);
     drop(keeps);
-    let (ran, refusal) = and_node_closed(ran, closed);
+    let (ran, refusal) = and_closed(ran, closed);
     *besides = refusal;
     ran
 }

@@ -5,10 +5,9 @@ ghost use Rattle.line_runs.specs.Outcome.{exit_status};
 ghost use Rattle.line_runs.specs.declared.outcome.RunFault.{RunFault as RunFaultOf};
 ghost use Rattle.weave_runs.specs.declared.fault.GivenFault.{GivenFault as GivenFaultOf};
 
-use crate::BUFFER_BYTES;
-use crate::refusal::words_for_unread;
 use command_line::{WRONG_WORDS, WeaveWords};
 use line_runs::{Ran, RunFault, flush, status_of, write_whole};
+use program_messages::{BUFFER_BYTES, words_for_unread};
 use std::fs;
 use std::io::{self, BufWriter, ErrorKind, Write};
 use tables::HashSeed;

@@ -1,13 +1,13 @@
 //! The standard input is played to the standard output.
 
-use crate::endings::{Told, and_closed, report};
-use crate::watching::{Lines, lines_of, status_with, watch_in};
-use crate::{BUFFER_BYTES, tell_wait};
 use command_line::PlayWords;
 use explanations::{Program, WatchedReader, WatchedWriter};
 use line_runs::{LineReader, Ran, RunFault};
 use node_keepers::{FileKeeps, Keeps, KeptNode, ListKeeps, close_all};
 use node_programs::{PlayFault, Played, run_play};
+use program_messages::{
+    BUFFER_BYTES, Lines, Told, and_closed, lines_of, report, status_with, tell_wait, watch_in,
+};
 use std::alloc::Global;
 use std::io::{self, BufRead, BufReader, BufWriter, Write};
 use std::mem;

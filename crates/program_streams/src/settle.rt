@@ -1,12 +1,11 @@
 //! What is owed by the rows of a file is written to the standard output.
 
-use crate::BUFFER_BYTES;
-use crate::endings::{Told, and_closed, let_go, report};
 use line_runs::{Ran, RunFault};
 use node_keepers::{Found, rows_in};
 use node_programs::{PlayFault, run_settle};
 use node_store::StoreFault;
 use ocpi_types::Row;
+use program_messages::{BUFFER_BYTES, Told, and_closed, let_go, report};
 use sqlite::Unknown;
 use std::io::{self, BufWriter, Write};
 

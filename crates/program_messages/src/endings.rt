@@ -3,6 +3,7 @@
 ghost use Rattle.std.specs.Prelude.{◌≡◌, IfErr, IfOk, IsOk, OnOk, Err, None, Ok, Some};
 ghost use Rattle.node_programs.specs.Stops.{play_status};
 ghost use Rattle.node_runs.specs.Stops.{node_status};
+ghost use Rattle.node_store.specs.declared.fault.StoreFault.{StoreFault as StoreFaultOf};
 
 use crate::refusal::{advice_for, words_for, words_for_node, words_for_reason, words_with_numbers};
 use command_line::NodeWords;
@@ -29,37 +30,46 @@ pub fn let_go<C: Drop>(closed: Result<C, StoreFault>) -> Result<(), StoreFault>
     }
 }
 
-/// How a run went, and then the closing of its stores; and what that closing refused besides, where the run had failed
-/// before. Both are told, what stopped the run first.
-pub fn and_closed(
-    ran: Result<Ran, PlayFault>,
-    closed: Result<(), StoreFault>,
-) -> (Result<Ran, PlayFault>, Option<StoreFault>)
-    ensures ran { IfErr ran (λ fault. result.0 ≡ Err fault) }
-    ensures closed { IfOk ran (λ r. OnOk closed (result.0 ≡ Ok r)) }
-    ensures refused { IfOk ran (λ r. IfErr closed (λ fault. result.0 ≡ Err (PlayFault.Store fault))) }
-    ensures besides { IfErr ran (λ fault. IfErr closed (λ refusal. result.1 ≡ Some refusal)) }
-    ensures once { IfOk ran (λ r. result.1 ≡ None) }
-    ensures nothing { OnOk closed (result.1 ≡ None) }
-{
-    match ran {
-        Ok(ran) => match closed {
-            Ok(()) => (Ok(ran), None),
-            Err(refusal) => (Err(PlayFault::Store(refusal)), None),
-        },
-        Err(fault) => (Err(fault), closed.err()),
+/// What stops a run, by its store too.
+pub trait StoppedByStore {
+    /// `by_store fault`: that the store refused, for this fault.
+    ghost by_store: { StoreFaultOf → Self };
+
+    /// That the store refused.
+    fn from_store(fault: StoreFault) -> Self
+        ensures { result ≡ by_store fault };
+}
+
+impl StoppedByStore for PlayFault {
+    ghost use Rattle.node_programs.specs.declared.fault.PlayFault.TheVariants.{Store};
+
+    ghost by_store = { λ fault. Store fault };
+
+    fn from_store(fault: StoreFault) -> PlayFault {
+        PlayFault::Store(fault)
     }
 }
 
-/// How a run of one node went, and then the closing of its store; and what that closing refused besides, where the run
-/// had failed before. Both are told, what stopped the run first.
-pub fn and_node_closed(
-    ran: Result<Ran, NodeRunFault>,
+impl StoppedByStore for NodeRunFault {
+    ghost use Rattle.node_runs.specs.declared.fault.NodeRunFault.TheVariants.{Stop};
+    ghost use Rattle.node_runs.specs.declared.fault.NodeStop.TheVariants.{Store};
+
+    ghost by_store = { λ fault. Stop (Store fault) };
+
+    fn from_store(fault: StoreFault) -> NodeRunFault {
+        NodeRunFault::Stop(NodeStop::Store(fault))
+    }
+}
+
+/// How a run went, and then the closing of its stores; and what that closing refused besides, where the run had failed
+/// before. Both are told, what stopped the run first.
+pub fn and_closed<E: StoppedByStore>(
+    ran: Result<Ran, E>,
     closed: Result<(), StoreFault>,
-) -> (Result<Ran, NodeRunFault>, Option<StoreFault>)
+) -> (Result<Ran, E>, Option<StoreFault>)
     ensures ran { IfErr ran (λ fault. result.0 ≡ Err fault) }
     ensures closed { IfOk ran (λ r. OnOk closed (result.0 ≡ Ok r)) }
-    ensures refused { IfOk ran (λ r. IfErr closed (λ fault. result.0 ≡ Err (NodeRunFault.Stop (NodeStop.Store fault)))) }
+    ensures refused { IfOk ran (λ r. IfErr closed (λ fault. result.0 ≡ Err (E.by_store fault))) }
     ensures besides { IfErr ran (λ fault. IfErr closed (λ refusal. result.1 ≡ Some refusal)) }
     ensures once { IfOk ran (λ r. result.1 ≡ None) }
     ensures nothing { OnOk closed (result.1 ≡ None) }
@@ -67,7 +77,7 @@ pub fn and_node_closed(
     match ran {
         Ok(ran) => match closed {
             Ok(()) => (Ok(ran), None),
-            Err(refusal) => (Err(NodeRunFault::Stop(NodeStop::Store(refusal))), None),
+            Err(refusal) => (Err(E::from_store(refusal)), None),
         },
         Err(fault) => (Err(fault), closed.err()),
     }

@@ -7,7 +7,7 @@ use std::io::ErrorKind;
 use stored_rows::BadReason;
 
 /// The words for a refusal. They follow the name of the file or of its folder.
-pub fn words_for(fault: StoreFault) -> &'static str {
+pub(crate) fn words_for(fault: StoreFault) -> &'static str {
     match fault {
         StoreFault::Refused(cause) => words_for_cause(cause),
         StoreFault::BadRow => {
@@ -24,7 +24,7 @@ pub fn words_for(fault: StoreFault) -> &'static str {
 }
 
 /// The words for a refusal of the store of `node`, where a file that is not there is missing by `--existing` alone.
-pub fn words_for_node(fault: StoreFault) -> &'static str {
+pub(crate) fn words_for_node(fault: StoreFault) -> &'static str {
     match fault {
         StoreFault::Refused(Cause::NotFound) => {
             "there is no such file, and --existing creates none: name the store that was used before, or check that its disk is mounted"
@@ -63,7 +63,7 @@ fn words_for_cause(cause: Cause) -> &'static str {
 }
 
 /// The words for what is wrong with a row of which no node of the setup is made. They follow its kind and its key.
-pub fn words_for_reason(reason: BadReason) -> &'static str {
+pub(crate) fn words_for_reason(reason: BadReason) -> &'static str {
     match reason {
         BadReason::Repeated => "another row has this kind and this key",
         BadReason::OfOtherRole => "a node of this role stores no such row",
@@ -103,7 +103,7 @@ pub fn words_for_reason(reason: BadReason) -> &'static str {
 }
 
 /// The same words with the numbers that the reason has. None, where it has none, and where memory runs out.
-pub fn words_with_numbers(alloc: Global, reason: BadReason) -> Option<String> {
+pub(crate) fn words_with_numbers(alloc: Global, reason: BadReason) -> Option<String> {
     match reason {
         BadReason::OtherPrice { kwh, cost, price } => {
             words_for_price(alloc, kwh, cost, price).ok()
@@ -120,7 +120,7 @@ fn words_for_price(alloc: Global, kwh: E4, cost: E4, price: E4) -> Result<String
 }
 
 /// What to do about a row that is bad for that reason. It follows the words for it.
-pub fn advice_for(reason: BadReason) -> &'static str {
+pub(crate) fn advice_for(reason: BadReason) -> &'static str {
     match reason {
         BadReason::OfOtherRole | BadReason::OfOtherParty => "name the party whose store this is",
         BadReason::NotOwnReference => {

@@ -1,11 +1,11 @@
 //! The standard input is answered to the standard output.
 
-use crate::endings::{Told, report};
-use crate::watching::{Lines, lines_of, status_with, watch_in};
-use crate::{BUFFER_BYTES, tell_wait};
 use explanations::{Program, Telling, WatchedReader, WatchedWriter};
 use line_runs::{LineReader, Ran, RunFault};
 use node_programs::{PlayFault, run_answer};
+use program_messages::{
+    BUFFER_BYTES, Lines, Told, lines_of, report, status_with, tell_wait, watch_in,
+};
 use std::io::{self, BufRead, BufReader, BufWriter, Write};
 use std::mem;
 use tables::HashSeed;

@@ -1,0 +1,23 @@
+//! The program `node`, joined to the standard input and output, and to the file of its store.
+//!
+//! ```
+//! let status = run_node_word(rt, seed, &words);
+//! ```
+//!
+//! # Promises
+//!
+//! - What it reads is the standard input, and what it writes goes to the standard output. No clause says so (tested by
+//!   the examples).
+//! - The status is that of the run and of the closing of its store. No clause says so: `report_node` and `and_closed`
+//!   of `program_messages` have it, and the calls stand here (tested by the examples, `tools/try_stores`).
+//! - What a line gives is written before the next is carried out. No clause says so (tested by `faults/kill_node.py`).
+//!
+//! # How it is built
+//!
+//! A keeper, a reader and a writer are made one after the other, and each is handed on by value to a function over its
+//! trait, so that a body holds at most one value of a dear type. The output has no buffer.
+#![tactic(auto)]
+
+mod node;
+
+pub use node::run_node_word;

@@ -1,0 +1,31 @@
+//! What a program of the command line tells its user on standard error, and by its exit status: what it waits for, what
+//! stopped its run, why a store refused and what to do about it, and that a line was explained.
+//!
+//! ```
+//! let (ran, besides) = and_closed(ran, let_go(closed));
+//! status_with(report_node(rt, ran, besides, words), telling, lines)
+//! ```
+//!
+//! # Promises
+//!
+//! - The program ends with the status of its run. By `report`, `report_node`.
+//! - Where a store could not be closed and nothing else had stopped the run, that did. Where something had, it is
+//!   handed on to be told besides. By `and_closed`: `refused`; `besides`, `once`, `nothing`.
+//! - Without `--strict` explanations change no status, and with it none but 0. By `status_with`: `lax`, `other`.
+//! - Which words are told. No clause says so (tested by examples, `tools/try_stores`).
+//!
+//! # How it is built
+//!
+//! The faults of the programs over stores and that of one node are told alike: `StoppedByStore` says of each how it
+//! tells a refusal of the store. The words for causes and rows are tables (`refusal.rt`).
+#![tactic(auto)]
+
+mod endings;
+mod refusal;
+mod streams;
+mod watching;
+
+pub use endings::{StoppedByStore, Told, and_closed, let_go, report, report_node};
+pub use refusal::words_for_unread;
+pub use streams::{BUFFER_BYTES, tell_wait};
+pub use watching::{Lines, lines_of, status_with, watch_in};
