@@ -213,7 +213,7 @@ class Repository:
         """The sum of the contracts that an edit of a crate must be refused under. Where it changes more than bodies, it is that of
         all contracts of the sources that it changes."""
         functions, is_bodies = changed_by(edit, self.folder(crate), self.types(crate))
-        texts, nodes = [], []
+        texts, nodes, left = [], [], set(functions)
         for path in sorted(set(re.findall(r"^file: *(\S+)", text_of(edit), re.M))):
             source = self.sources(crate).get(path)
             if not source:
@@ -221,10 +221,14 @@ class Repository:
                 continue
             lines = source.text.split("\n")
             for first, _, name, body in functions_of(source.text):
-                if not is_bodies or (*place_of(path, lines, first, self.types(crate)), name) in functions:
+                function = (*place_of(path, lines, first, self.types(crate)), name)
+                if not is_bodies or function in functions:
                     text, named = self.of_function(source, first, body)
                     texts.append(text)
                     nodes += named
+                    left.discard(function)
             if not is_bodies:
                 texts.append(laid_out(source.promised))
+        if left or not texts:
+            raise ValueError(f"{edit}: no contract is found of what it changes")
         return self.sum(texts, nodes)
