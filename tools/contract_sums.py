@@ -7,7 +7,8 @@ in the edit's crate and in those below it:
 - each type and trait that a signature names, or a module imports: its declaration and what its `Model` says, and the types
   that these name in turn.
 
-Where a text stands makes no difference to its sum, nor do comments, layout, attributes, bodies and drops without a clause.
+Where a text stands and who sees it make no difference to its sum, nor do comments, layout, attributes, bodies and drops
+without a clause.
 So an edit that moves to another crate with its function keeps its sum. What the contracts of other functions say is not in
 it, though a body calls them.
 """
@@ -37,12 +38,18 @@ def sum_of(text):
 
 
 def laid_out(text):
-    """A text of a source without comments, attributes and imports for code, however it is laid out."""
+    """A text of a source without comments, attributes and imports for code, however it is laid out, whoever sees it."""
     text = "\n".join(re.sub(r"(^|\s)//.*", "", it) for it in text.split("\n"))
-    for left_out in (r"^\s*#!?\[.*\]$", r"^\s*(pub(\([^)]*\))? )?use [^;]*;", r"^mod tests;", r",(?=\s*[}\])])"):
+    for left_out in (r"^\s*#!?\[.*\]$", r"\bpub(\([^)]*\))? ", r"^\s*use [^;]*;", r"^mod \w+;", r",(?=\s*[}\])])"):
         text = re.sub(left_out, "", text, flags=re.M)
     text = " ".join(re.sub(r"([{}(),;])", r" \1 ", text).split())
     return " ".join(DROP.sub("", text).split())
+
+
+def lines_of(text):
+    """A text of definitions without comments, whoever sees them."""
+    lines = [it.rstrip() for it in text.split("\n") if it.strip() and not it.lstrip().startswith("--")]
+    return re.sub(r"\bpub ", "", "\n".join(lines))
 
 
 def without_bodies(text):
@@ -128,12 +135,11 @@ class Repository:
 
     @functools.cache
     def raw(self, node):
-        """The text of a node, in which imports stand as they are but for their crates."""
+        """The text of a node, in which no import says of which crate and module it is."""
         if node[0] == "module":
-            lines = text_of(node[1]).split("\n")
-            return re.sub(r"Rattle\.\w+\.", "", "\n".join(it.rstrip() for it in lines if it.strip() and not it.lstrip().startswith("--")))
+            return NAMED.sub("specs", lines_of(text_of(node[1])))
         text = node[1].constants if node[0] == "constants" else node[1].declared[node[2]]
-        return re.sub(r"Rattle\.\w+\.", "", laid_out(text))
+        return NAMED.sub("specs", laid_out(text))
 
     def seen_in(self, text, source):
         """The types that a text of a source names."""
@@ -153,17 +159,20 @@ class Repository:
         if node[0] == "module":
             return self.named_in(text_of(node[1]))
         text = node[1].constants if node[0] == "constants" else node[1].declared[node[2]]
-        return self.named_in(text) + self.imported_by(text, node[1]) + self.seen_in(laid_out(text), node[1])
+        return self.named_in(text) + self.imported_by(text, node[1])[1] + self.seen_in(laid_out(text), node[1])
 
     def imported_by(self, text, source):
-        """What the imports of a source name, of which a text has a name."""
-        code, found = re.sub(r"^\s*ghost use [^;]*;", "", text, flags=re.M), []
+        """The imports of a source of which a text has a name: each such name, as it is given and by the text of what it is of,
+        and what they name."""
+        code, told, found = re.sub(r"^\s*ghost use [^;]*;", "", text, flags=re.M), [], []
         for path, names, alias in GHOST_USE.findall(source.text):
-            given = [alias] if alias else [it.split(" as ")[-1] for it in re.split(r",\s*", names.strip(" \n,"))] if names else [path.rsplit(".", 1)[-1]]
-            parts = [[part for part in it.strip().split("◌") if part] for it in given]
-            if any(all(part in code for part in it) for it in parts if it):
-                found += self.named_in(path)
-        return found
+            given = [f"{path} as {alias}"] if alias else re.split(r",\s*", names.strip(" \n,")) if names else [path]
+            for it in given:
+                parts = [part for part in it.split(" as ")[-1].rsplit(".", 1)[-1].strip().split("◌") if part]
+                if parts and all(part in code for part in parts):
+                    told.append(f"{self.told(path)} {self.told(it)}")
+                    found += self.named_in(path)
+        return told, found
 
     def sum(self, texts, nodes):
         """The sum of texts and of all that these nodes reach."""
@@ -185,17 +194,16 @@ class Repository:
         """The sum of a node's text, in which what it imports of crates stands by its text."""
         if node[0] != "module":
             return sum_of(self.raw(node))
-        return sum_of(self.told(node[0] == "module" and text_of(node[1])))
+        return sum_of(self.told(text_of(node[1])))
 
     def told(self, text):
-        """A text without comments, in which each import of a crate's definitions stands by the text of what it names."""
-        lines = [it.rstrip() for it in text.split("\n") if it.strip() and not it.lstrip().startswith("--")]
+        """A text of definitions, in which each import of a crate's definitions stands by the text of what it names."""
 
         def by_text(named):
             nodes = self.nodes_of_path(named[1], named[2])
             return sum_of("\n".join(sorted(map(self.raw, nodes)))) if nodes else named[0]
 
-        return NAMED.sub(by_text, "\n".join(lines))
+        return NAMED.sub(by_text, lines_of(text))
 
     def of_function(self, source, first, body):
         """What the contract of a function says, and what it names: its lines from the first to the one in which its body begins,
@@ -207,14 +215,18 @@ class Repository:
                 head = next((it for it in range(at, first) if lines[it].rstrip().endswith("{")), at)
                 text = "\n".join(lines[at:head + 1]) + "\n" + text if lines[at].startswith("impl") else text
                 break
-        return laid_out(text), self.imported_by(text, source) + self.seen_in(laid_out(text), source)
+        told, named = self.imported_by(text, source)
+        return "\n".join([laid_out(text), *sorted(told)]), named + self.seen_in(laid_out(text), source)
 
     def of_edit(self, crate, edit):
         """The sum of the contracts that an edit of a crate must be refused under. Where it changes more than bodies, it is that of
         all contracts of the sources that it changes."""
+        paths = sorted(set(re.findall(r"^file: *(\S+)", text_of(edit), re.M)))
+        if not all(os.path.isfile(os.path.join(self.folder(crate), it)) for it in paths):
+            return "of-no-file"
         functions, is_bodies = changed_by(edit, self.folder(crate), self.types(crate))
         texts, nodes, left = [], [], set(functions)
-        for path in sorted(set(re.findall(r"^file: *(\S+)", text_of(edit), re.M))):
+        for path in paths:
             source = self.sources(crate).get(path)
             if not source:
                 texts.append(self.told(text_of(os.path.join(self.folder(crate), path))))
