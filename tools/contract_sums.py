@@ -1,16 +1,15 @@
 """Sums of the contracts under which wrong bodies are refused, for try_wrong.
 
-The sum of an edit is that of the contracts of the functions whose bodies it changes, and of all that these contracts name,
-in the edit's crate and in those below it:
+The sum of an edit is that of the contracts of the functions whose bodies it changes, and of all that these contracts
+name, in the edit's crate and in those below it:
 
-- each module of `specs` that a `ghost use` imports of which the contract has a name, and those that such a module imports;
-- each type and trait that a signature names, or a module imports: its declaration and what its `Model` says, and the types
-  that these name in turn.
+- each module of `specs` that a `ghost use` imports of which the contract has a name, and those that it imports;
+- each type and trait that a signature names, or a module imports: its declaration and what its `Model` says, and the
+  types that these name in turn.
 
 Where a text stands and who sees it make no difference to its sum, nor do comments, layout, attributes, bodies and drops
-without a clause.
-So an edit that moves to another crate with its function keeps its sum. What the contracts of other functions say is not in
-it, though a body calls them.
+without a clause. So an edit that moves to another crate with its function keeps its sum. What the contracts of other
+functions say is not in it, though a body calls them.
 """
 import collections
 import functools
@@ -30,7 +29,7 @@ DECLARES = re.compile(r"(?:pub(?:\([^)]*\))? )?(?:struct|enum|type|trait) (\w+)|
 CONSTANT = re.compile(r"(?:pub(?:\([^)]*\))? )?(?:const|static) (\w+)")
 # A drop without a clause, as `laid_out` gives it.
 DROP = re.compile(r"impl\b(?:(?!\bimpl\b)[^{}])* Drop for [^{}]*\{ fn drop \( self \) \{ \} \}")
-TYPE = re.compile(r"\b(?:(\w+)::(?:\w+::)*)?([A-Z]\w*)")
+TYPE = re.compile(r"(?:\b([a-z]\w*)::(?:[a-z]\w*::)*)?\b([A-Z]\w*)")
 
 
 def sum_of(text):
@@ -103,11 +102,12 @@ class Repository:
         return [it for it in self.sources(crate).values() if name in it.declared]
 
     def found(self, crate, name, depth=4):
-        """The sources that declare a type which a crate has under this name, its own or one of a crate below that it passes on."""
+        """The sources that declare a type which a crate has under this name: its own, or one that it passes on."""
         here = self.declaring(crate, name)
         if here or not depth:
             return [(it, name) for it in here]
-        passed = [it.uses[name] for it in self.sources(crate).values() if name in it.uses and it.path.endswith(("lib.rt", "main.rt"))]
+        roots = [it for it in self.sources(crate).values() if it.path.endswith(("lib.rt", "main.rt"))]
+        passed = [it.uses[name] for it in roots if name in it.uses]
         return [found for of, other in passed if of in self.crates for found in self.found(of, other, depth - 1)]
 
     def module(self, crate, path):
@@ -145,9 +145,9 @@ class Repository:
         """The types that a text of a source names."""
         found = []
         for of, name in set(TYPE.findall(text)):
-            crate, known = source.uses.get(name, (of or "crate", name))
-            crate = crate if crate in self.crates else source.crate if crate in ("crate", "self", "super") or crate == of else None
-            found += [("type", *it) for it in self.found(crate, known)] if crate else []
+            crate, known = source.uses.get(name, (of, name))
+            # (the first word of a path is a crate, or else a module of this one)
+            found += [("type", *it) for it in self.found(crate if crate in self.crates else source.crate, known)]
         return found
 
     def named_in(self, text):
@@ -162,8 +162,8 @@ class Repository:
         return self.named_in(text) + self.imported_by(text, node[1])[1] + self.seen_in(laid_out(text), node[1])
 
     def imported_by(self, text, source):
-        """The imports of a source of which a text has a name: each such name, as it is given and by the text of what it is of,
-        and what they name."""
+        """The imports of a source of which a text has a name: each such name, as it is given and by the text of what it is
+        of, and what they name."""
         code, told, found = re.sub(r"^\s*ghost use [^;]*;", "", text, flags=re.M), [], []
         for path, names, alias in GHOST_USE.findall(source.text):
             given = [f"{path} as {alias}"] if alias else re.split(r",\s*", names.strip(" \n,")) if names else [path]
@@ -206,21 +206,22 @@ class Repository:
         return NAMED.sub(by_text, lines_of(text))
 
     def of_function(self, source, first, body):
-        """What the contract of a function says, and what it names: its lines from the first to the one in which its body begins,
-        and the head of its impl block with the type."""
-        lines = source.text.split("\n")
+        """What the contract of a function says, and what it names: its lines from the first to the one in which its body
+        begins, and the head of its impl block, or all of that block where it is a trait's."""
+        lines = source.promised.split("\n")
         text = "\n".join(lines[first:body + 1])
-        for at in range(first, -1, -1):
-            if lines[at].startswith(("}", "impl")):
-                head = next((it for it in range(at, first) if lines[it].rstrip().endswith("{")), at)
-                text = "\n".join(lines[at:head + 1]) + "\n" + text if lines[at].startswith("impl") else text
-                break
+        at = next((it for it in range(first, -1, -1) if lines[it].startswith(("}", "impl"))), 0)
+        if lines[at].startswith("impl"):
+            head = next((it for it in range(at, first) if lines[it].rstrip().endswith("{")), at)
+            block = "\n".join(lines[at:head + 1])
+            end = next((it for it in range(first, len(lines)) if lines[it].startswith("}")), len(lines))
+            text = "\n".join(lines[at:end + 1]) if " for " in block else f"{block}\n{text}"
         told, named = self.imported_by(text, source)
         return "\n".join([laid_out(text), *sorted(told)]), named + self.seen_in(laid_out(text), source)
 
     def of_edit(self, crate, edit):
-        """The sum of the contracts that an edit of a crate must be refused under. Where it changes more than bodies, it is that of
-        all contracts of the sources that it changes."""
+        """The sum of the contracts that an edit of a crate must be refused under. Where it changes more than bodies, it is
+        that of all contracts of the sources that it changes."""
         paths = sorted(set(re.findall(r"^file: *(\S+)", text_of(edit), re.M)))
         if not all(os.path.isfile(os.path.join(self.folder(crate), it)) for it in paths):
             return "of-no-file"

@@ -1,11 +1,11 @@
 """Tries wrong bodies of several functions in one check: for the gate (tools/kit.py) and for try_wrong.
 
 What the prover says of a function stands on its body and on the contracts of what it calls, and on no other body. So
-edits of bodies that do not call each other are tried in one check, of the functions alone that they change, from nothing,
-and each gets its own verdict. Of two functions of which one calls the other, the caller gets none, so such two are kept
-apart, as are two edits of one function. An edit that changes more than bodies is tried so too, but alone. What is left
-without a verdict is for the caller: an edit that changes no body, one whose function is not found by its module, its type
-and its name, one that the prover or the language cannot read, and one whose function is proved.
+edits of bodies that do not call each other are tried in one check, of the functions alone that they change, from
+nothing, and each gets its own verdict. Of two functions of which one calls the other, the caller gets none, so such two
+are kept apart, as are two edits of one function. An edit that changes more than bodies is tried so too, but alone. What
+is left without a verdict is for the caller: an edit that changes no body, one whose function is not found by its module,
+its type and its name, one that the prover or the language cannot read, and one whose function is proved.
 
 A function that is not proved may be so only because its proof names what the edit took away. That says little of its
 contract: of such an edit the line says so, as that of `rt must-fail` does.
@@ -106,10 +106,15 @@ def types_of(folder):
     return {name: modules.pop() for name, modules in found.items() if len(modules) == 1}
 
 
+def tuple_of(found):
+    """A tuple as paths have it."""
+    return f"tuple{found[1].count(',') + 1} {found[1]}"
+
+
 def place_of(path, lines, number, types):
-    """The module and the type by which the path of the function goes that begins in this line of a source. That of an impl
-    block has its arguments, where they are more than the block's own parameters, or its trait; else it is that of the type's
-    own module. Where the function stands in no block, there is no type."""
+    """The module and the type by which the path of the function goes that begins in this line of a source. The type of an
+    impl block has its arguments, where they are more than the block's own parameters, or its trait; else the module is the
+    type's own. Where the function stands in no block, there is no type."""
     module = module_of(path)
     for at in range(number, -1, -1):
         if lines[at].startswith("}"):
@@ -127,14 +132,14 @@ def place_of(path, lines, number, types):
                 return types.get(of, module), of
             given = given.replace("()", "unit")
             while "(" in given:
-                given = re.sub(r"\(([^()]*)\)", lambda it: f"tuple{it[1].count(',') + 1} {it[1]}", given)
+                given = re.sub(r"\(([^()]*)\)", tuple_of, given)
             return module, "+".join([of, *re.findall(r"\w+", given)])
     return module, ""
 
 
 def changed_by(edit, folder, types=None):
-    """The functions whose bodies an edit changes, each by its module, its type and its name, and whether it changes bodies
-    alone. `types` is what `types_of` gives of the crate, where that is known."""
+    """The functions whose bodies an edit changes, each by its module, its type and its name, and whether it changes
+    bodies alone. `types` is what `types_of` gives of the crate, where that is known."""
     path, functions, is_bodies, types = None, set(), True, types or types_of(folder)
     for line in text_of(edit).split("\n"):
         if line.startswith("file: "):
@@ -191,15 +196,17 @@ def reached_in(folder):
 
 
 def batches_of(changes, alone, reached):
-    """Edits by what they change, in batches: of no two of a batch does one change what the other changes or calls. Those that
-    change more than bodies are alone."""
+    """Edits by what they change, in batches: of no two of a batch does one change what the other changes or calls. Those
+    that change more than bodies are alone."""
     names = {edit: {name for _, _, name in functions} for edit, functions in changes.items()}
 
     def calls(one, other):
         return any(reached.get(it, set()) & other for it in one)
 
     def meet(one, other):
-        return {one, other} & alone or names[one] & names[other] or calls(names[one], names[other]) or calls(names[other], names[one])
+        if {one, other} & alone or names[one] & names[other]:
+            return True
+        return calls(names[one], names[other]) or calls(names[other], names[one])
 
     batches = []
     for edit in changes:
@@ -213,8 +220,8 @@ def batches_of(changes, alone, reached):
 
 
 def check_of(checked, crate, texts, functions):
-    """A check of these functions with these texts. Where a path fits none of the crate's functions, its last word is asked for,
-    and where that fits several, the one of the same module and type. Nothing where a function is not found so."""
+    """A check of these functions with these texts. Where a path fits none of the crate's functions, its last word is asked
+    for, and where that fits several, the one of the same module and type. Nothing where a function is not found so."""
     paths = {it: words_of(it) for it in functions}
     for _ in range(2 * len(paths) + 1):
         only = [word for it in sorted(paths.values()) for word in ("--only", it)]
@@ -234,7 +241,7 @@ def check_of(checked, crate, texts, functions):
 
 
 def tried_in(rt, crate, batch, changes, alone, checked):
-    """What one check says of the edits of a batch: those that it refused, and of each whether only for names that are gone."""
+    """What one check says of a batch: the edits that it refused, and of each whether only for names that are gone."""
     texts, _ = rt.edited("\n".join(text_of(it) for it in batch), crate.folder)
     ran = check_of(checked, crate, texts, set().union(*(changes[it] for it in batch))) if texts else None
     if not ran or ran.returncode != 1 or not ran.stdout.rstrip().split("\n")[-1].startswith("only="):
@@ -256,8 +263,8 @@ def tried_in(rt, crate, batch, changes, alone, checked):
 
 
 def batches_for(crate, edits):
-    """The batches that a check each tries, the functions that each edit changes, and the edits that change more than bodies.
-    Those that change no body are left out."""
+    """The batches that a check each tries, the functions that each edit changes, and the edits that change more than
+    bodies. Those that change no body are left out."""
     found = {it: changed_by(it, crate.folder) for it in edits}
     changes = {it: functions for it, (functions, _) in found.items() if functions}
     alone = {it for it, (_, is_bodies) in found.items() if not is_bodies}
@@ -271,8 +278,9 @@ def line_of(crate, edit, number, is_gone):
 
 
 def together(rt, crate, edits, checked=None, lanes=1):
-    """Tries edits of a crate, several in one check. Gives, as they come, each edit that was refused, whether only for names
-    that are gone, and the line that says so. Any other edit has no verdict. `checked` makes a check, as `rt.checked` does."""
+    """Tries edits of a crate, several in one check. Gives, as they come, each edit that was refused, whether only for
+    names that are gone, and the line that says so. Any other edit has no verdict. `checked` makes a check, as `rt.checked`
+    does."""
     batches, changes, alone = batches_for(crate, edits)
     with Threads(lanes) as pool:
         tried = {pool.submit(tried_in, rt, crate, it, changes, alone, checked or rt.checked): it for it in batches}
