@@ -12,7 +12,8 @@ It does the same, but for this:
   program counts six tenths, as does a try of edits, since a search that fails takes more: `ocpi_nodes` took some 6 GB
   of 9 and the edit of `node_harness` 4.2 of 7.8.
 - `kit.py ci` tries the edits of a crate in one check of the functions that they change (tools/wrong_together.py), once
-  the crate is proved. Those that get no verdict so are tried as the kit does, each by a check from nothing.
+  the crate is proved. Those that get no verdict so are tried as the kit does, each by a check from nothing. (Some kits
+  keep what an edit came to, for later runs on the machine; others prove everything anew, and take no names of crates.)
 - The two compilations of a program run side by side, where there is memory for both.
 - At the end of the tasks of `kit.py ci` it prints what each took, behind the word `took:`.
 """
@@ -43,7 +44,8 @@ def load_rt():
     made.rtlib.Crate.stamp = taken_once(made.rtlib.Crate.stamp)
     made.rtlib.Crate.below = found_once(made.rtlib.Crate.below)
     made.Crate.compile_by = side_by_side(made, made.Crate.compile_by)
-    made.add_edits = in_one_check(made, made.add_edits)
+    if hasattr(made, "add_edits"):
+        made.add_edits = in_one_check(made, made.add_edits)
     made.in_lanes = in_lanes_of(made)
     subprocess.Popen = lanes.Timed
     made.rtlib.ThreadPoolExecutor = lanes.Threads
@@ -59,11 +61,11 @@ def in_lanes_of(rt, tells=False):
 
     def of(tasks):
         counted = {
-            # (a crate without tests has a task for them, which does nothing)
-            key: (waits, work, 0 if lanes.parts_of(key)[1] == "tests" and not work else part(key) * needs, call)
+            # (a crate without tests or edits may have a task for them, which does nothing)
+            key: (waits, work, 0 if lanes.parts_of(key)[1] != "proof" and not work else part(key) * needs, call)
             for key, (waits, work, needs, call) in tasks.items()}
         number = os.environ.get("RT_JOBS", "")
-        with rt.ending():
+        with getattr(rt, "ending", contextlib.nullcontext)():
             given, took = lanes.in_lanes(counted, int(number) if number.isdigit() else rt.processors(), 0.85 * rt.free())
         if tells:
             for line in lanes.table_of(counted, took, UNIT):
@@ -132,6 +134,16 @@ class Tries:
         return tried
 
 
+def all_in_one_check(rt):
+    """The same where the kit tries a crate's edits by one call, and keeps nothing of what they came to."""
+
+    def must_fail_all(crate, edits, flags):
+        refused = {edit: line for edit, _, line in together(rt, crate, edits)}
+        return [(True, refused[it]) if it in refused else rt.must_fail(crate, it, flags) for it in edits]
+
+    return must_fail_all
+
+
 def side_by_side(rt, compile_by):
     """How a proved program is compiled: by both compilers at once, where there is memory for that."""
     second = {}
@@ -182,7 +194,10 @@ def taken_once(stamp):
 
 def main(words):
     rt = load_rt()
-    rt.in_lanes = in_lanes_of(rt, tells=words[:1] == ["ci"])
+    is_gate = words[:1] == ["ci"]
+    rt.in_lanes = in_lanes_of(rt, tells=is_gate)
+    if is_gate and not hasattr(rt, "add_edits"):
+        rt.must_fail_all = all_in_one_check(rt)
     return rt.main(words)
 
 
