@@ -45,6 +45,14 @@ def seconds_of(moment: str) -> float:
     return _since_epoch(moment) / timedelta(seconds=1)
 
 
+def seconds_in(moment: object) -> float | None:
+    """The same of whatever came in the place of a moment. None where it cannot be read as one."""
+    try:
+        return seconds_of(moment) if isinstance(moment, str) else None
+    except (ValueError, OverflowError):
+        return None
+
+
 def milliseconds_of(moment: str) -> int:
     """The same in whole milliseconds: what a moment has behind the third digit is cut."""
     return _since_epoch(moment) // timedelta(milliseconds=1)

@@ -30,9 +30,9 @@ class Connection:
     """
 
     def __init__(self, socket: web.WebSocketResponse | ClientWebSocketResponse, clock: Clock, handler: Handler,
-                 abort: Callable[[], None] = lambda: None) -> None:
-        """`abort` ends the connection where the other side does not read any more."""
-        self._socket, self._clock, self._handler, self._abort = socket, clock, handler, abort
+                 abort: Callable[[], None] = lambda: None, name: str = "a charge point") -> None:
+        """`abort` ends the connection where the other side does not read any more. `name` is what the log calls it."""
+        self._socket, self._clock, self._handler, self._abort, self._name = socket, clock, handler, abort, name
         self._inbox: asyncio.Queue[tuple[str, Frame] | None] = asyncio.Queue()
         self._times: dict[str, int] = {}
         self._waiting = 0
@@ -56,7 +56,7 @@ class Connection:
         try:
             frame = read_frame(text)
         except CallError as error:
-            await self._send(error.frame(error.message_id))
+            await self._send(self._refusal(error, "a frame", error.message_id))
             return
         if frame.action is None:
             if self._asked is not None and self._asked[0] == frame.message_id and not self._asked[1].done():
@@ -91,15 +91,20 @@ class Connection:
         try:
             answer = write_json([RESULT, call.message_id, await self._handler(str(call.action), call.payload)])
         except CallError as error:
-            answer = error.frame(call.message_id)
+            answer = self._refusal(error, str(call.action), call.message_id)
         except NodeEnded:
             raise
         except Exception:
-            LOG.exception("a call %.50s could not be handled", call.action)
+            LOG.exception("%s: a call %.50s could not be handled", self._name, call.action)
             answer = CallError("InternalError", "it could not be handled").frame(call.message_id)
         self._waiting -= len(text)
         for _ in range(self._times.pop(text)):
             await self._send(answer)
+
+    def _refusal(self, error: CallError, what: str, message_id: str) -> str:
+        """The CALLERROR that tells what is wrong, which is logged too."""
+        LOG.warning("%s: %.50s is refused: %s, %s", self._name, what, error.code, error)
+        return error.frame(message_id)
 
     @asynccontextmanager
     async def asking(self, action: str, payload: Members) -> AsyncIterator[Members | None]:
@@ -115,7 +120,7 @@ class Connection:
                 with suppress(TimeoutError):
                     reply = await self._clock.within(ANSWER_WITHIN, answer)
                 if reply is None:
-                    LOG.warning("a charge point did not answer %s", action)
+                    LOG.warning("%s: did not answer %s", self._name, action)
         async with self._handling:
             yield reply
 

@@ -1,8 +1,7 @@
 """Frames of OCPP 1.6-J: calls, their results and their errors, a list of JSON each.
 
-What a charge point calls is checked by OCPP's tables of fields, which stand in `fields.json`. There a number is the
-most characters of a text, a word names another form, and one with `[]` is a list of it. A field with `?` at its end may
-be left out. Members that are in no table are read past.
+Of what a charge point calls those members are checked that the bridge uses. They stand in `fields.json`, each with its
+form, and with a `?` where it may be left out. All others are read past, whatever they are.
 """
 import json
 from contextlib import suppress
@@ -10,13 +9,13 @@ from dataclasses import dataclass
 from pathlib import Path
 from typing import Any
 
-from ..clock import seconds_of
+from ..clock import seconds_in
 from ..json_text import Members, NotJson, Number, NumberTooLarge, read_json, write_json
 
 CALL, RESULT, ERROR = 2, 3, 4
 LONGEST_MESSAGE_ID = 36
 TABLES: Members = json.loads(Path(__file__).with_name("fields.json").read_text())
-LEAST: dict[str | int, int] = {"from 0": 0, "from 1": 1, "integer": -10**18}
+LEAST = {"from 0": 0, "from 1": 1, "integer": -10**18}
 
 
 class CallError(Exception):
@@ -63,38 +62,24 @@ def read_frame(text: str) -> Frame:
 
 
 def check_payload(action: str, payload: Members) -> None:
-    """Raises CallError where the action is not known, or where a member of its payload is missing or does not fit."""
+    """Raises CallError where the action is not known, or where a member that is used is missing or does not fit."""
     if action not in TABLES["calls"]:
         raise CallError("NotImplemented", f"{action[:50]}: unknown")
-    _check_members(TABLES["calls"][action], payload, action)
-
-
-def _check_members(fields: Members, members: Members, path: str) -> None:
-    for field, form in fields.items():
+    for field, form in TABLES["calls"][action].items():
         name = field.removesuffix("?")
-        if members.get(name) not in (None, []):
-            _check(form, members[name], f"{path}.{name}")
-        elif name == field:
-            raise CallError("OccurenceConstraintViolation", f"{path}.{name}: missing")
+        if payload.get(name) is None and name == field:
+            raise CallError("OccurenceConstraintViolation", f"{action}.{name}: missing")
+        if payload.get(name) is not None and not _fits(form, payload[name]):
+            raise CallError("PropertyConstraintViolation", f"{action}.{name}: no {form}")
 
 
-def _check(form: str | int, value: Any, path: str) -> None:
-    if isinstance(value, list) and isinstance(form, str) and form.endswith("[]"):
-        for place, element in enumerate(value):
-            _check(form.removesuffix("[]"), element, f"{path}[{place}]")
-    elif isinstance(value, dict) and form in TABLES["objects"]:
-        _check_members(TABLES["objects"][form], value, path)
-    elif not _fits(form, value):
-        wanted = f"text of at most {form} characters" if isinstance(form, int) else form
-        raise CallError("PropertyConstraintViolation", f"{path}: no {wanted}")
-
-
-def _fits(form: str | int, value: Any) -> bool:
+def _fits(form: str, value: Any) -> bool:
+    if form in LEAST:
+        return type(value) is int and value >= LEAST[form]
     if not is_text(value):
-        return form in LEAST and type(value) is int and value >= LEAST[form]
+        return form == "list" and isinstance(value, list)
     if form == "dateTime":
-        with suppress(ValueError, OverflowError):
-            return seconds_of(value) >= 0
+        return seconds_in(value) is not None
     if form == "IdToken":
         return len(value) <= 20 and value.isascii() and value.isprintable()
-    return len(value) <= form if isinstance(form, int) else value in TABLES["words"].get(form, ())
+    return value in TABLES["words"].get(form, ())

@@ -109,7 +109,7 @@ class Reports:
             return None
         return session if self._transactions.of_session(session["id"]) is None else None
 
-    async def _report(self, transaction: Transaction, event: str, timestamp: str, **members: object) -> None:
+    async def _report(self, transaction: Transaction, event: str, timestamp: object, **members: object) -> None:
         """Feeds an event about the session of a transaction, where that is living."""
         session = self._site.living(transaction.session_id)
         if session is not None:
@@ -123,8 +123,10 @@ class Reports:
         if self._site.living(transaction.session_id) is None:
             self._stop(transaction)
         for meter_value in payload["meterValue"]:
-            if (register := register_of(meter_value)) is not None:
-                await self._report(transaction, "meter", meter_value["timestamp"], kwh=transaction.energy(register))
+            register = register_of(meter_value) if isinstance(meter_value, dict) else None
+            if register is not None:
+                kwh = transaction.energy(register)
+                await self._report(transaction, "meter", meter_value.get("timestamp"), kwh=kwh)
         return {}
 
     async def _end(self, charge_point: ChargePoint, payload: Members) -> Members:

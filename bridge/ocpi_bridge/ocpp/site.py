@@ -5,7 +5,7 @@ from collections.abc import Awaitable, Callable
 from dataclasses import dataclass, field
 from typing import TypeVar
 
-from ..clock import moment_of, seconds_of
+from ..clock import moment_of, seconds_in, seconds_of
 from ..configuration import ChargePointSettings, ConnectorSettings, OcppSettings
 from ..events import Events, Outcome
 from ..json_text import Members
@@ -101,12 +101,13 @@ class Site:
         """The uid of the token that a charge point calls so."""
         return self._state.value(f"ocpp.uid {id_tag.upper()}") or id_tag
 
-    async def report(self, event: str, timestamp: str | None = None, **members: object) -> Outcome:
-        """Feeds an event of a name, at a timestamp or the clock's moment, whichever is earlier.
+    async def report(self, event: str, timestamp: object = None, **members: object) -> Outcome:
+        """Feeds an event of a name, at a timestamp that can be read or the clock's moment, whichever is earlier.
 
         Raises EventRefused, OutcomeLost and NodeEnded.
         """
-        at = None if timestamp is None else moment_of(min(seconds_of(timestamp), self.clock.seconds()))
+        told = seconds_in(timestamp)
+        at = None if told is None else moment_of(min(told, self.clock.seconds()))
         outcome = await self._feeder.feed(self._events.make(event, at, **members))
         if outcome.word not in ("stepped", "idle"):
             raise EventRefused(f"{event}: {outcome.word}")

@@ -9,7 +9,10 @@ from ..state import State
 
 # A transaction is new until it is known whether its driver may charge. Then it charges, or is refused, until it stops.
 NEW, CHARGING, REFUSED, STOPPED = "new", "charging", "refused", "stopped"
-REGISTER = "Energy.Active.Import.Register"
+# What the members of a sampled value say where it is the register. None: they are left out.
+REGISTER: dict[str, tuple[str | None, ...]] = {
+    "measurand": (None, "Energy.Active.Import.Register"), "phase": (None,), "format": (None, "Raw"),
+    "unit": (None, "Wh", "kWh")}
 
 
 @dataclass(frozen=True)
@@ -64,12 +67,12 @@ class Transactions:
 
 
 def register_of(meter_value: Members) -> Decimal | None:
-    """The register in Wh among the sampled values of one moment, and None where none is there."""
-    for sample in meter_value["sampledValue"]:
-        is_register = sample.get("measurand") in (None, REGISTER) and sample.get("phase") is None
-        if is_register and sample.get("format") in (None, "Raw") and sample.get("unit") in (None, "Wh", "kWh"):
+    """The register in Wh among the sampled values of one moment, and None where none is there that can be read."""
+    samples = meter_value.get("sampledValue")
+    for sample in samples if isinstance(samples, list) else []:
+        if isinstance(sample, dict) and all(sample.get(name) in words for name, words in REGISTER.items()):
             with suppress(InvalidOperation):
-                value = Decimal(sample["value"].strip())
-                if value.is_finite() and abs(value) < 10**15:
+                value = Decimal(str(sample.get("value")).strip())
+                if value.is_finite() and -10**15 < value < 10**15:
                     return value * 1000 if sample.get("unit") == "kWh" else value
     return None
