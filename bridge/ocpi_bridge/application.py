@@ -49,7 +49,8 @@ class Bridge:
         feeder.after_opening.append(self._pulling.wake)
         feeder.after_commit.append(self._send)
         ocpp = configuration.ocpp
-        central_system = CentralSystem(ocpp or OcppSettings("", {}), events, state, feeder, objects)
+        central_system = CentralSystem(ocpp or OcppSettings("", {}), events, state, feeder, objects,
+                                       metrics.count)
         locations = None if configuration.site is None else Locations(
             state, clock, objects, configuration.node.party, configuration.site,
             central_system.evse_status if ocpp is not None else lambda _: None)

@@ -9,6 +9,7 @@ import os
 import re
 from collections.abc import Iterable
 from dataclasses import dataclass
+from decimal import Decimal
 from pathlib import Path
 from typing import Any, NoReturn
 
@@ -44,10 +45,14 @@ class OcpiSettings:
 
 @dataclass(frozen=True)
 class ConnectorSettings:
-    """The EVSE and the connector of the site, as the setup spells them, that a connector of a charge point is."""
+    """The EVSE and the connector of the site, as the setup spells them, that a connector of a charge point is.
+
+    `max_kw` is the most that it can give.
+    """
 
     evse_uid: str
     connector_id: str
+    max_kw: Decimal = Decimal(400)
 
 
 @dataclass(frozen=True)
@@ -156,7 +161,7 @@ def _read_by(form: Any, value: Any, path: str, folder: Path) -> Any:
 
 def _read_word(word: str, value: Any, path: str, folder: Path) -> Any:
     """What a word of the form stands for: a number above 0, a text, or a file in a folder that is there."""
-    if word == "factor":
+    if word == "number":
         number = float(value) if isinstance(value, (int, Number)) and not isinstance(value, bool) else 0.0
         return number if 0 < number < float("inf") else refuse(path, "no number above 0")
     pattern, fault = TABLES["texts"][word]
@@ -204,7 +209,8 @@ def _connector(connector: Members, path: str, evses: dict[str, list[str]]) -> Co
                 or refuse(f"{path}.evse_uid", "not in the site, or that of another connector"))
     connector_id = (spelled(connector["connector_id"], evses.pop(evse_uid))
                     or refuse(f"{path}.connector_id", f"not at the EVSE {evse_uid}"))
-    return ConnectorSettings(evse_uid, connector_id)
+    max_kw = connector["max_kw"]
+    return ConnectorSettings(evse_uid, connector_id, *([] if max_kw is None else [Decimal(str(max_kw))]))
 
 
 def _partners(entries: list[Members], missing: list[str]) -> tuple[PartnerSettings, ...]:

@@ -42,6 +42,10 @@ CREATE TABLE IF NOT EXISTS ocpp_transaction (
     started INTEGER NOT NULL, id_tag TEXT NOT NULL, meter_start INTEGER NOT NULL, session_id TEXT UNIQUE,
     state TEXT NOT NULL, UNIQUE (charge_point, connector, started, id_tag, meter_start));
 
+-- ocpp/readings.py
+CREATE TABLE IF NOT EXISTS ocpp_reading (number INTEGER PRIMARY KEY, at INTEGER NOT NULL, register TEXT NOT NULL);
+CREATE TABLE IF NOT EXISTS ocpp_dropped_reading (at TEXT NOT NULL, evse_uid TEXT NOT NULL, text TEXT NOT NULL);
+
 -- admin/outstanding.py
 CREATE TABLE IF NOT EXISTS push_that_waits (
     receiver TEXT, subject TEXT, request INTEGER, PRIMARY KEY (receiver, subject));

@@ -3,6 +3,7 @@ import asyncio
 import json
 import time
 from collections.abc import Awaitable
+from decimal import Decimal
 from pathlib import Path
 from typing import Any, TypeVar
 
@@ -38,7 +39,8 @@ async def within(awaited: Awaitable[Result]) -> Result:
 class Operating:
     """BE/BEC with the EVSEs E1 and E2 at charge point CP1, E3 at CP2, and E4 at none. A new start finds its files."""
 
-    def __init__(self, folder: Path, program: Path = PROGRAM, factor: float = 1.0) -> None:
+    def __init__(self, folder: Path, program: Path = PROGRAM, factor: float = 1.0, max_kw: int = 100_000) -> None:
+        self.max_kw = Decimal(max_kw)
         self.settings = NodeSettings(program, "BE/BEC", SETUP, folder / "node.db", None)
         self.folder = folder
         self.clock = Clock(factor)
@@ -50,13 +52,14 @@ class Operating:
         """Starts all parts, and listens where it listened before."""
         self.state = State(self.folder / "state.db")
         self.events = Events("BE/BEC", self.clock)
-        self.feeder = Feeder(self.settings, self.events, self.state, Metrics())
+        self.metrics = Metrics()
+        self.feeder = Feeder(self.settings, self.events, self.state, self.metrics)
         self.objects = Objects(self.state)
-        connectors = [ConnectorSettings(uid, "1") for uid in ("E1", "E2", "E3")]
+        connectors = [ConnectorSettings(uid, "1", self.max_kw) for uid in ("E1", "E2", "E3")]
         charge_points = {"CP1": ChargePointSettings("CP1", "secret", {1: connectors[0], 2: connectors[1]}),
                          "CP2": ChargePointSettings("CP2", None, {1: connectors[2]})}
         self.central_system = CentralSystem(OcppSettings("127.0.0.1:0", charge_points), self.events,
-                                            self.state, self.feeder, self.objects)
+                                            self.state, self.feeder, self.objects, self.metrics.count)
         for listener in (self.objects.note, self._keep, self.central_system.note):
             self.feeder.before_commit.append(listener)
         self.feeder.after_commit.append(self.central_system.act)

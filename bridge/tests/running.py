@@ -77,9 +77,10 @@ def partner(party: str, kind: str, token: str, their_token: str | None = None,
     return entry
 
 
-def charge_point(identifier: str, evse_uids: Sequence[str], password: str | None = None) -> Members:
-    """An entry of `charge_points`: connector 1 is that of the first EVSE, and so on."""
-    connectors = {str(number): {"evse_uid": uid, "connector_id": "1"} for number, uid in enumerate(evse_uids, 1)}
+def charge_point(identifier: str, evse_uids: Sequence[str], password: str | None = None, **other: object) -> Members:
+    """An entry of `charge_points`: connector 1 is that of the first EVSE, and so on. `other` is what each has too."""
+    connectors: Members = {str(number): {"evse_uid": uid, "connector_id": "1"} | other
+                           for number, uid in enumerate(evse_uids, 1)}
     entry: Members = {"id": identifier, "connectors": connectors}
     if password is not None:
         entry["password"] = password

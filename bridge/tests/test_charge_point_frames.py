@@ -76,13 +76,15 @@ class Messages(FramesCase):
                  (no_reading, 3.2505), ([*no_reading, sampled("5000", measurand=register)], 4.0),
                  ([sampled("6.12345", unit="kWh", measurand=register)], 5.1234), ([sampled("2000")], 5.1234),
                  ([sampled("7.5e3")], 6.5)]
-        for values, wanted in cases:
+        for minute, (values, wanted) in enumerate(cases, 10):
             with self.subTest(values=values):
-                payload = {"connectorId": 1, "transactionId": identifier, "meterValue": [meter_value(*values)]}
+                payload = {"connectorId": 1, "transactionId": identifier, "meterValue": [
+                    meter_value(*values, timestamp=f"2025-01-01T10:{minute}:00Z")]}
                 self.assertEqual({}, await self.twice("MeterValues", payload))
                 sessions, _ = await self.counted()
                 self.assertEqual(wanted, sessions[0]["kwh"])
-        several = [meter_value(sampled("8000")), meter_value(sampled("9000"), timestamp="2025-01-01T10:20:00Z")]
+        several = [meter_value(sampled("8000"), timestamp="2025-01-01T10:20:00Z"),
+                   meter_value(sampled("9000"), timestamp="2025-01-01T10:21:00Z")]
         await self.twice("MeterValues", {"connectorId": 1, "transactionId": identifier, "meterValue": several})
         self.assertEqual(8.0, (await self.counted())[0][0]["kwh"])
 

@@ -1,7 +1,7 @@
 """Members of a charge point's calls: those that are used are checked, and what stands in all others is read past."""
 import json
 
-from .charge_point_cases import BOOT, MOMENT, START, STATUS, FramesCase, meter_value, sampled
+from .charge_point_cases import MOMENT, START, STATUS, FramesCase, meter_value, sampled
 from .running import Members
 
 # What a table of OCPP 1.6 does not have, or has in another form.
@@ -40,11 +40,12 @@ class OddMembers(FramesCase):
             [each["status"] for each in sessions], [each["total_energy"] for each in bills]))
 
     async def test_calls_of_which_nothing_odd_is_used(self) -> None:
-        for action, payload in (
-                ("BootNotification", {**BOOT, "chargePointModel": "m" * 200, "firmwareVersion": 7}),
-                ("BootNotification", {}), ("StatusNotification", {**STATUS, "errorCode": "Boredom", "info": "i" * 999}),
-                ("StatusNotification", {"connectorId": 1, "status": "Available", "timestamp": "yesterday"}),
-                ("DataTransfer", {"vendorId": "v" * 999, "data": {}}), ("DataTransfer", {})):
+        cases: list[tuple[str, Members]] = [
+            ("BootNotification", {"chargePointModel": "m" * 200, "firmwareVersion": 7}),
+            ("BootNotification", {}), ("StatusNotification", {**STATUS, "errorCode": "Boredom", "info": "i" * 999}),
+            ("StatusNotification", {"connectorId": 1, "status": "Available", "timestamp": "yesterday"}),
+            ("DataTransfer", {"vendorId": "v" * 999, "data": {}}), ("DataTransfer", {})]
+        for action, payload in cases:
             with self.subTest(action=action, payload=payload):
                 await self.twice(action, payload)
 

@@ -17,7 +17,7 @@ GIVEN: dict[str, Any] = {
     "node": {"program": "program", "party": "be/bec", "setup": "setup.json", "store": "be.db"},
     "state": "be.bridge.db",
     "ocpi": {"listen": "127.0.0.1:8101", "url": "https://ocpi.example.com/bec/", "business": "BEC"},
-    "ocpp": {"listen": "[::1]:0", "charge_points": [charge_point("CP1", ["e1"], "secret"),
+    "ocpp": {"listen": "[::1]:0", "charge_points": [charge_point("CP1", ["e1"], "secret", max_kw=22.5),
                                                     charge_point("CP2", ["E2"])]},
     "admin": {"listen": "127.0.0.1:8103"},
     "partners": [partner("nl/tnm", "node", "A", "B", NOBODY), partner("DE/ABC", "ocpi", "C")]}
@@ -65,6 +65,8 @@ class ConfigurationTest(unittest.TestCase):
         self.assertEqual("https://ocpi.example.com/bec", configuration.ocpi.url)
         self.assertEqual("E1", configuration.ocpp.charge_points["CP1"].connectors[1].evse_uid)
         self.assertIsNone(configuration.ocpp.charge_points["CP2"].password)
+        self.assertEqual([22.5, 400], [configuration.ocpp.charge_points[name].connectors[1].max_kw
+                                       for name in ("CP1", "CP2")])
         self.assertEqual("[::1]:0", configuration.ocpp.listen)
         self.assertEqual(20, configuration.clock_factor)
         self.assertTrue(configuration.is_operator)
@@ -118,6 +120,8 @@ class ConfigurationTest(unittest.TestCase):
                      points(charge_point("CP2", ["E9"])))
         self.refused("ocpp.charge_points[0].connectors.1.connector_id: not at the EVSE E1",
                      points({"id": "CP1", "connectors": {"1": {"evse_uid": "E1", "connector_id": "2"}}}))
+        self.refused("ocpp.charge_points[0].connectors.1.max_kw: no number above 0",
+                     points(charge_point("CP1", ["E1"], max_kw=0)))
         self.refused("ocpp.charge_points[0].connectors.0: no number of a connector, from 1",
                      points({"id": "CP1", "connectors": {"0": {"evse_uid": "E1", "connector_id": "1"}}}))
         operators = [partner("BE/BEC", "node", "A"), partner("BE/OTH", "node", "B")]

@@ -1,36 +1,8 @@
 """The central system of OCPP 1.6 before a real node: which call is which event, and what is answered."""
 import asyncio
-import tempfile
-import time
-import unittest
-from collections.abc import Callable
-from pathlib import Path
 
-from .ocpp_running import TOKEN, Operating, Station, moment, within
-
-
-class OcppCase(unittest.IsolatedAsyncioTestCase):
-    """An operator, a token that may be used, and a charge point with two connectors."""
-
-    factor = 1.0
-
-    async def asyncSetUp(self) -> None:
-        folder = tempfile.TemporaryDirectory()
-        self.addCleanup(folder.cleanup)
-        self.operating = Operating(Path(folder.name), factor=self.factor)
-        await self.operating.begin()
-        self.addAsyncCleanup(self.operating.kill)
-        await self.operating.deliver("put_token", TOKEN, 1)
-        self.station = Station(self.operating)
-        self.addAsyncCleanup(self.station.close)
-        await within(self.station.connected.wait())
-
-    async def eventually(self, wanted: object, look: Callable[[], object]) -> None:
-        """Waits until something is as it is wanted."""
-        end = time.monotonic() + 30
-        while look() != wanted and time.monotonic() < end:
-            await asyncio.sleep(0.02)
-        self.assertEqual(wanted, look())
+from .ocpp_cases import OcppCase
+from .ocpp_running import TOKEN, moment, within
 
 
 class CommandTest(OcppCase):

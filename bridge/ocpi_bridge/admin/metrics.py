@@ -19,7 +19,8 @@ class Metrics:
         self._counts: dict[str, dict[Labels, float]] = {name: defaultdict(float) for name in METRICS}
         self._durations: dict[str, list[float]] = {name: [0] * (len(BOUNDS) + 2) for name in METRICS}
         self._gauges: dict[str, Callable[[], float]] = {}
-        self.count("ocpi_node_restarts_total", 0)
+        for name in ("ocpi_node_restarts_total", "ocpi_readings_dropped_total"):
+            self.count(name, 0)
 
     def count(self, name: str, amount: float = 1, **labels: str) -> None:
         """Adds to a counter, under labels."""

@@ -145,12 +145,13 @@ class Admin:
             await asyncio.sleep(pause)
 
     def _shown(self) -> Members:
-        """Party, role, sessions and bills; an operator's EVSEs, or a provider's operators, tokens, commands, debts."""
+        """Party, role, sessions and bills; an operator's EVSEs and warnings, or a provider's operators, tokens, commands
+        and debts."""
         objects, configuration = self._objects, self._configuration
         shown: Members = {"party": configuration.node.party, "is_operator": configuration.is_operator,
                           **{module: objects.newest(module, MOST_SHOWN) for module in ("sessions", "cdrs")}}
         if self._locations is not None:
-            return {**shown, "evses": [
+            return {**shown, "warnings": self._central_system.warnings(MOST_SHOWN), "evses": [
                 {"uid": evse["uid"], "location": f"{location['address']}, {location['city']}",
                  "status": evse["status"], "session": objects.living_session(evse["uid"])}
                 for location in self._locations.all() for evse in location["evses"]]}

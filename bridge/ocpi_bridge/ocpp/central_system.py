@@ -19,6 +19,7 @@ from ..ocpi.objects import Objects
 from ..state import State
 from .connection import Connection
 from .orders import Orders
+from .readings import Readings
 from .reports import Reports
 from .site import ChargePoint, Site
 
@@ -37,11 +38,14 @@ STATUS_WITHIN = 30.0
 class CentralSystem:
     """Serves the charge points of an operator's node."""
 
-    def __init__(self, settings: OcppSettings, events: Events, state: State, feeder: Feeder, objects: Objects) -> None:
+    def __init__(self, settings: OcppSettings, events: Events, state: State, feeder: Feeder, objects: Objects,
+                 count: Callable[[str], None]) -> None:
+        """`count` adds to a metric."""
         self._clock, self._objects = events.clock, objects
         self._site = Site(settings, events, state, feeder, objects)
         self._orders = Orders(self._site, self._spawn)
-        self._reports = Reports(self._site, self._orders.stop)
+        self._readings = Readings(self._site, state, count)
+        self._reports = Reports(self._site, self._readings, self._orders.stop)
         self._tasks: dict[object, asyncio.Task[None]] = {}
 
     def application(self) -> web.Application:
@@ -148,6 +152,10 @@ class CentralSystem:
             {"connector": place.connector, "evse_uid": place.settings.evse_uid,
              "connector_id": place.settings.connector_id, "status": self._site.status(place)}
             for place in point.places.values()]} for point in self._site.by_id.values()]
+
+    def warnings(self, most: int) -> list[Members]:
+        """What the owner has to look at, the newest first: `at`, `evse_uid` and words."""
+        return self._readings.dropped(most)
 
     def commands(self) -> list[Members]:
         """The commands that are open, with their `provider`, `number`, `kind`, and what they are about."""

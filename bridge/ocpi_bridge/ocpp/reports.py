@@ -10,23 +10,26 @@ the next report of the same to go on from there. A stop
 - behind a `meter`: it is fed once more, and changes no energy;
 - behind `stops`, before the answer: no living session is that of the transaction, and nothing is fed.
 """
+import logging
 from collections.abc import Awaitable, Callable
-from decimal import Decimal
 from functools import partial
 
 from ..json_text import Members
 from .frames import check_payload
+from .readings import Readings, number_in, register_of
 from .site import OUT_OF_SERVICE, ChargePoint, Place, Site
-from .transactions import CHARGING, NEW, REFUSED, STOPPED, Transaction, register_of
+from .transactions import CHARGING, NEW, REFUSED, STOPPED, Transaction
 
+LOG = logging.getLogger("ocpp")
 HEARTBEAT_EACH = 60
 
 
 class Reports:
     """Answers the calls of charge points. `stop` is called with each transaction that goes on without a session."""
 
-    def __init__(self, site: Site, stop: Callable[[Transaction], None]) -> None:
+    def __init__(self, site: Site, readings: Readings, stop: Callable[[Transaction], None]) -> None:
         self._site, self._transactions, self._commands, self._stop = site, site.transactions, site.commands, stop
+        self._readings = readings
         self._handlers: dict[str, Callable[[ChargePoint, Members], Awaitable[Members]]] = {
             "StatusNotification": self._status, "Authorize": self._authorize, "StartTransaction": self._start,
             "MeterValues": self._meter, "StopTransaction": self._end}
@@ -109,11 +112,12 @@ class Reports:
             return None
         return session if self._transactions.of_session(session["id"]) is None else None
 
-    async def _report(self, transaction: Transaction, event: str, timestamp: object, **members: object) -> None:
-        """Feeds an event about the session of a transaction, where that is living."""
+    async def _report(self, transaction: Transaction, event: str, timestamp: object) -> None:
+        """Feeds that the session of a transaction `starts` or `stops`, where that is living."""
         session = self._site.living(transaction.session_id)
         if session is not None:
-            await self._site.report(event, timestamp, evse_uid=session["evse_uid"], **members)
+            seconds = self._site.seconds_at(timestamp, session if event == "stops" else None)
+            await self._site.report(event, seconds, evse_uid=session["evse_uid"])
 
     async def _meter(self, charge_point: ChargePoint, payload: Members) -> Members:
         """Readings of a transaction. One that goes on without a session is stopped."""
@@ -123,18 +127,19 @@ class Reports:
         if self._site.living(transaction.session_id) is None:
             self._stop(transaction)
         for meter_value in payload["meterValue"]:
-            register = register_of(meter_value) if isinstance(meter_value, dict) else None
-            if register is not None:
-                kwh = transaction.energy(register)
-                await self._report(transaction, "meter", meter_value.get("timestamp"), kwh=kwh)
+            if (register := register_of(meter_value)) is not None:
+                await self._readings.take(transaction, meter_value.get("timestamp"), register)
         return {}
 
     async def _end(self, charge_point: ChargePoint, payload: Members) -> Members:
-        """A transaction that ended: its last reading, and the end of its session."""
+        """A transaction that ended: its last reading, and the end of its session, whatever that reading is."""
         transaction = self._transactions.find(charge_point.settings.id, payload["transactionId"])
         if transaction is not None:
-            energy = transaction.energy(Decimal(payload["meterStop"]))
-            await self._report(transaction, "meter", payload["timestamp"], kwh=energy)
-            await self._report(transaction, "stops", payload["timestamp"])
+            register = number_in(payload.get("meterStop"))
+            last = await self._readings.take(transaction, payload.get("timestamp"), register)
+            if last is not None and register is not None and register < last.register:
+                LOG.warning("%s: transaction %d: meterStop is below a reading, which is billed: %s kWh",
+                            charge_point.settings.id, transaction.number, transaction.energy(last.register))
+            await self._report(transaction, "stops", payload.get("timestamp"))
             self._transactions.update(transaction, STOPPED, transaction.session_id)
         return {} if payload.get("idTag") is None else {"idTagInfo": {"status": "Accepted"}}

@@ -19,6 +19,8 @@ from .transactions import Transactions
 
 OUT_OF_SERVICE = {"Unavailable", "Faulted"}
 LONGEST_ID_TAG = 20
+# 2020 in seconds since 1970. What a charge point dates earlier was told without a clock.
+EARLIEST = 1_577_836_800.0
 # The seconds for which a node awaits what a provider says of a token.
 QUESTION_WITHIN = 10.0
 Result = TypeVar("Result")
@@ -101,13 +103,21 @@ class Site:
         """The uid of the token that a charge point calls so."""
         return self._state.value(f"ocpp.uid {id_tag.upper()}") or id_tag
 
-    async def report(self, event: str, timestamp: object = None, **members: object) -> Outcome:
-        """Feeds an event of a name, at a timestamp that can be read or the clock's moment, whichever is earlier.
+    def seconds_at(self, timestamp: object, session: Members | None = None) -> float:
+        """When a message says that something was, in seconds since 1970.
+
+        It is the clock's moment where that cannot be: before 2020, before the start of its session, or later than now.
+        """
+        now, told = self.clock.seconds(), seconds_in(timestamp)
+        start = EARLIEST if session is None else max(EARLIEST, seconds_of(session["start_date_time"]))
+        return told if told is not None and round(start, 3) <= round(told, 3) <= now else now
+
+    async def report(self, event: str, seconds: float | None = None, **members: object) -> Outcome:
+        """Feeds an event of a name, at a moment in seconds since 1970, or the clock's.
 
         Raises EventRefused, OutcomeLost and NodeEnded.
         """
-        told = seconds_in(timestamp)
-        at = None if told is None else moment_of(min(told, self.clock.seconds()))
+        at = None if seconds is None else moment_of(seconds)
         outcome = await self._feeder.feed(self._events.make(event, at, **members))
         if outcome.word not in ("stepped", "idle"):
             raise EventRefused(f"{event}: {outcome.word}")

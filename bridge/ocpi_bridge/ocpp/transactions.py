@@ -1,7 +1,6 @@
 """The transactions of charge points: which there are, which session of the node each is, and what energy it took."""
-from contextlib import suppress
 from dataclasses import dataclass
-from decimal import ROUND_DOWN, Decimal, InvalidOperation
+from decimal import ROUND_DOWN, Decimal
 
 from ..clock import milliseconds_of
 from ..json_text import Members, Number
@@ -9,10 +8,6 @@ from ..state import State
 
 # A transaction is new until it is known whether its driver may charge. Then it charges, or is refused, until it stops.
 NEW, CHARGING, REFUSED, STOPPED = "new", "charging", "refused", "stopped"
-# What the members of a sampled value say where it is the register. None: they are left out.
-REGISTER: dict[str, tuple[str | None, ...]] = {
-    "measurand": (None, "Energy.Active.Import.Register"), "phase": (None,), "format": (None, "Raw"),
-    "unit": (None, "Wh", "kWh")}
 
 
 @dataclass(frozen=True)
@@ -64,15 +59,3 @@ class Transactions:
         return Transaction(*self._state.query(
             "UPDATE ocpp_transaction SET state = ?, session_id = ? WHERE number = ? RETURNING *", word, session_id,
             transaction.number)[0])
-
-
-def register_of(meter_value: Members) -> Decimal | None:
-    """The register in Wh among the sampled values of one moment, and None where none is there that can be read."""
-    samples = meter_value.get("sampledValue")
-    for sample in samples if isinstance(samples, list) else []:
-        if isinstance(sample, dict) and all(sample.get(name) in words for name, words in REGISTER.items()):
-            with suppress(InvalidOperation):
-                value = Decimal(str(sample.get("value")).strip())
-                if value.is_finite() and -10**15 < value < 10**15:
-                    return value * 1000 if sample.get("unit") == "kWh" else value
-    return None

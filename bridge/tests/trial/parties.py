@@ -72,7 +72,7 @@ def bridges(folder: Path, urls: dict[str, str], secrets: Secrets) -> dict[str, R
 def _bridge(folder: Path, party: str, urls: dict[str, str], secrets: Secrets) -> RunningBridge:
     partners = [partner(other, "node", secrets.tokens[other, party], secrets.tokens[party, other],
                         urls[other] + "/ocpi/versions") for other in partners_of(party)]
-    charge_points = [charge_point(place.charge_point, [place.evse_uid], secrets.passwords[place.charge_point])
-                     for place in places_of(party)] if party in OPERATORS else None
+    charge_points = [charge_point(place.charge_point, [place.evse_uid], secrets.passwords[place.charge_point],
+                                  max_kw=100_000) for place in places_of(party)] if party in OPERATORS else None
     return RunningBridge(folder / party.replace("/", "_"), setup(), party, partners, charge_points, CLOCK_FACTOR,
                          urls[party])

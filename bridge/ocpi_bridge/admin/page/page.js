@@ -117,6 +117,12 @@ function showEvses() {
   }));
 }
 
+function showWarnings() {
+  fill("warnings", shown.warnings.map((warning) => ({
+    key: `${warning.at} ${warning.evse_uid} ${warning.text}`, says: warning,
+    cells: [momentOf(warning.at), warning.evse_uid, warning.text] })));
+}
+
 function showSessions() {
   fill("sessions", shown.sessions.map((session) => {
     const cells = [momentOf(session.start_date_time), session.evse_uid, partnerOf(session), session.cdr_token.uid,
@@ -188,8 +194,10 @@ function show(told) {
   }
   showSessions();
   showBills();
-  if (told.is_operator) showEvses();
-  else showProvider();
+  if (told.is_operator) {
+    showEvses();
+    showWarnings();
+  } else showProvider();
 }
 
 function connect() {
