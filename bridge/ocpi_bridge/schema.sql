@@ -31,7 +31,7 @@ CREATE TABLE IF NOT EXISTS ocpp_command (
     provider TEXT COLLATE NOCASE, number INTEGER, kind TEXT, evse_uid TEXT COLLATE NOCASE,
     connector_id TEXT COLLATE NOCASE, token_uid TEXT COLLATE NOCASE, reference TEXT COLLATE NOCASE,
     session_id TEXT COLLATE NOCASE, response_url TEXT, state TEXT DEFAULT 'open', ended_by INTEGER UNIQUE,
-    PRIMARY KEY (provider, number));
+    until REAL, PRIMARY KEY (provider, number));
 CREATE INDEX IF NOT EXISTS ocpp_command_open ON ocpp_command (number) WHERE ended_by IS NULL;
 CREATE INDEX IF NOT EXISTS ocpp_command_evse ON ocpp_command (evse_uid, state);
 CREATE INDEX IF NOT EXISTS ocpp_command_reference ON ocpp_command (provider, reference);

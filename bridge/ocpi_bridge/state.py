@@ -6,6 +6,10 @@ from pathlib import Path
 from typing import Any
 
 
+# The columns that a file from before may lack, by their tables.
+ADDED = {"ocpp_command": ("until", "REAL")}
+
+
 class State:
     """The file. Whoever keeps something in it has a table of its own (schema.sql), and changes it in a transaction."""
 
@@ -15,6 +19,9 @@ class State:
         self.query("PRAGMA journal_mode=WAL")
         self.query("PRAGMA synchronous=FULL")
         self._connection.executescript(Path(__file__).with_name("schema.sql").read_text())
+        for table, (column, kind) in ADDED.items():
+            if column not in {row[1] for row in self.query(f"PRAGMA table_info({table})")}:
+                self.query(f"ALTER TABLE {table} ADD COLUMN {column} {kind}")
 
     @contextmanager
     def transaction(self) -> Iterator[None]:

@@ -58,13 +58,14 @@ class CentralSystem:
     def _spawn(self, work: Callable[..., Coroutine[Any, Any, None]], *arguments: object) -> None:
         """Has something done in a task of its own, unless that is under way already."""
         key = (work, *arguments)
-        if key not in self._tasks:
-            self._tasks[key] = asyncio.create_task(work(*arguments))
-            self._tasks[key].add_done_callback(partial(self._end_task, key))
+        if key not in self._tasks or self._tasks[key].done():
+            task = self._tasks[key] = asyncio.create_task(work(*arguments))
+            task.add_done_callback(partial(self._end_task, key))
 
     def _end_task(self, key: object, task: asyncio.Task[None]) -> None:
         """Tells why a task failed, but where the node ended: what that leaves is taken up at the next start."""
-        del self._tasks[key]
+        if self._tasks[key] is task:
+            del self._tasks[key]
         fault = None if task.cancelled() else task.exception()
         if fault is not None and not isinstance(fault, NodeEnded):
             LOG.error("a charge point could not be served", exc_info=fault)

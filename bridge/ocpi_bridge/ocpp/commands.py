@@ -51,10 +51,10 @@ class Commands:
             body = command.body
             self._state.query(
                 """INSERT OR IGNORE INTO ocpp_command (provider, number, kind, evse_uid, connector_id, token_uid,
-                reference, session_id, response_url) VALUES (?, ?, ?, ?, ?, ?, ?, ?, ?)""",
+                reference, session_id, response_url, until) VALUES (?, ?, ?, ?, ?, ?, ?, ?, ?, ?)""",
                 command.sender, command.request, command.kind, body.get("evse_uid"), body.get("connector_id"),
                 body.get("token", {}).get("uid"), body.get("authorization_reference"), body.get("session_id"),
-                body["response_url"])
+                body["response_url"], seconds_of(answer.body["timestamp"]) + OPEN_FOR)
 
     def _end(self, result: Packet, number: int | None) -> None:
         """Ends the command of a result: that of a number, or behind a tick that of its `response_url`.
@@ -87,6 +87,15 @@ class Commands:
     def unasked(self) -> list[Command]:
         """Those of them that no charge point was asked for."""
         return self._where(f"ended_by IS NULL AND state = '{OPEN}' ORDER BY number")
+
+    def begin(self, command: Command) -> bool:
+        """Keeps that a charge point is asked for a command now. False where the command ended since it was found, or
+        its time is over."""
+        rows = self._state.query(
+            f"UPDATE ocpp_command SET state = '{ASKED}' WHERE provider = ? AND number = ? AND ifnull(until, ?3) >= ?3"
+            " AND (ended_by IS NULL OR ?) RETURNING number", command.provider, command.number, self._clock.seconds(),
+            command.has_ended)
+        return bool(rows)
 
     def start_for(self, evse_uid: str, token_uid: str) -> Command | None:
         """A start to which a transaction of a token belongs: one that is open, or that a charge point was asked for.

@@ -107,15 +107,17 @@ class Connection:
         return error.frame(message_id)
 
     @asynccontextmanager
-    async def asking(self, action: str, payload: Members) -> AsyncIterator[Members | None]:
+    async def asking(self, action: str, payload: Members,
+                     is_wanted: Callable[[], bool] = lambda: True) -> AsyncIterator[Members | None]:
         """Asks the charge point. Inside stands what it answered, or None where it did not within 30 s.
 
-        Calls that come behind the answer wait until this is left. So inside nothing else may be asked.
+        What was asked before is answered first. `is_wanted` is called right before the call is sent: nothing is asked
+        where it says no. Calls that come behind the answer wait until this is left. So inside nothing else may be asked.
         """
         reply = None
         async with self._asking:
             self._asked = message_id, answer = str(uuid4()), asyncio.get_running_loop().create_future()
-            if self._is_open:
+            if self._is_open and not self._socket.closed and is_wanted():
                 await self._send(write_json([CALL, message_id, action, payload]))
                 with suppress(TimeoutError):
                     reply = await self._clock.within(ANSWER_WITHIN, answer)

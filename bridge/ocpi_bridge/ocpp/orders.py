@@ -1,7 +1,8 @@
 """Asks charge points for what the node's open commands want, and tells the node what they answered.
 
-A charge point is asked once for each command, and that is kept before it is asked. One that has no connection is asked
-when it has one again, if the command is still open then. Where it does not answer nothing is fed, and the node ends the
+A charge point is asked once for each command, and that is kept right before. It is asked one thing at a time: what has
+ended when its turn comes is not asked for. One that has no connection, or loses it before that, is asked when it has one
+again, if the command is still open then. Where it does not answer nothing is fed, and the node ends the
 command at its time. Where a transaction starts nevertheless, as behind an answer that a stop of the bridge lost, that
 is the command's: it is let charge if the node still takes that the charge point accepted, and stopped if not.
 """
@@ -9,7 +10,7 @@ from collections.abc import Callable
 from functools import partial
 
 from ..node.feeder import repeated
-from .commands import ASKED, REFUSED, Command
+from .commands import REFUSED, Command
 from .site import ChargePoint, Site
 from .transactions import Transaction
 
@@ -42,32 +43,46 @@ class Orders:
             alone = repeated if place is None else place.charge_point.alone
             await alone(partial(self._site.withdraw, command.session_id))
         elif place is not None and not (names_evse and self._site.at(place)):
-            await self._ask(command, place.charge_point, "RemoteStartTransaction", connectorId=place.connector,
-                            idTag=self._site.id_tag_of(str(command.token_uid)))
+            was_asked = await self._ask(command, place.charge_point, "RemoteStartTransaction",
+                                        connectorId=place.connector,
+                                        idTag=self._site.id_tag_of(str(command.token_uid)))
+            if not (was_asked or names_evse):
+                await place.charge_point.alone(partial(self._site.withdraw, command.session_id))
 
     async def _stop_session(self, command: Command) -> None:
+        """Asks for it. A session without a transaction is ended here: no charge point has anything to stop."""
         session = self._site.living(command.session_id)
         place = self._site.place(session["evse_uid"] if session is not None else None)
-        if place is not None and place.charge_point.connection is not None:
-            transaction = await place.charge_point.alone(partial(self._transaction_to_stop, command))
-            if transaction is not None:
-                await self._ask(command, place.charge_point, "RemoteStopTransaction", transactionId=transaction.number)
+        if place is None or place.charge_point.connection is None:
+            return
+        async with place.charge_point.lock:
+            transaction = self._site.transactions.of_session(command.session_id)
+            if transaction is None and self._commands.begin(command):
+                await repeated(partial(self._end_unused, command))
+        if transaction is not None:
+            await self._ask(command, place.charge_point, "RemoteStopTransaction", transactionId=transaction.number)
 
-    async def _transaction_to_stop(self, command: Command) -> Transaction | None:
-        """That of a session. One without a transaction is ended by the bridge: no charge point has anything to stop."""
-        transaction = self._site.transactions.of_session(command.session_id)
-        if transaction is None:
-            self._commands.set_state(command, ASKED)
-            await self._site.accept(command)
-            await self._site.withdraw(command.session_id)
-        return transaction
+    async def _end_unused(self, command: Command) -> None:
+        await self._site.accept(command)
+        await self._site.withdraw(command.session_id)
 
-    async def _ask(self, command: Command, charge_point: ChargePoint, action: str, **payload: object) -> None:
-        if charge_point.connection is not None:
-            self._commands.set_state(command, ASKED)
-            async with charge_point.connection.asking(action, payload) as answer:
+    async def _ask(self, command: Command, charge_point: ChargePoint, action: str, **payload: object) -> bool:
+        """Asks in the turn of the connection, or of one that takes its place before that. False where the command has
+        ended by then, or no connection is left: then it stays as it is."""
+        was_asked = False
+
+        def is_wanted() -> bool:
+            nonlocal was_asked
+            was_asked = charge_point.connection is connection and self._commands.begin(command)
+            return was_asked
+
+        while (connection := charge_point.connection) is not None:
+            async with connection.asking(action, payload, is_wanted) as answer:
                 if answer is not None:
                     await charge_point.alone(partial(self._tell, command, answer.get("status")))
+            if was_asked or connection is charge_point.connection:
+                break
+        return was_asked
 
     async def _tell(self, command: Command, status: object) -> None:
         """Feeds what a charge point answered. A start that names no EVSE was accepted before, and has a session."""
