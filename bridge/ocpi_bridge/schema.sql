@@ -41,6 +41,8 @@ CREATE TABLE IF NOT EXISTS ocpp_transaction (
     number INTEGER PRIMARY KEY AUTOINCREMENT, charge_point TEXT NOT NULL, connector INTEGER NOT NULL,
     started INTEGER NOT NULL, id_tag TEXT NOT NULL, meter_start INTEGER NOT NULL, session_id TEXT UNIQUE,
     state TEXT NOT NULL, UNIQUE (charge_point, connector, started, id_tag, meter_start));
+CREATE INDEX IF NOT EXISTS ocpp_transaction_running ON ocpp_transaction (charge_point)
+    WHERE state IN ('new', 'charging', 'refused');
 
 -- ocpp/readings.py
 CREATE TABLE IF NOT EXISTS ocpp_reading (number INTEGER PRIMARY KEY, at INTEGER NOT NULL, register TEXT NOT NULL);

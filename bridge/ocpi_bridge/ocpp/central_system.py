@@ -22,6 +22,7 @@ from .orders import Orders
 from .readings import Readings
 from .reports import Reports
 from .site import ChargePoint, Site
+from .watch import Watch
 
 LOG = logging.getLogger("ocpp")
 SUBPROTOCOL = "ocpp1.6"
@@ -45,7 +46,8 @@ class CentralSystem:
         self._site = Site(settings, events, state, feeder, objects)
         self._orders = Orders(self._site, self._spawn)
         self._readings = Readings(self._site, state, count)
-        self._reports = Reports(self._site, self._readings, self._orders.stop)
+        self._watch = Watch(self._site, self._orders.stop, self._spawn)
+        self._reports = Reports(self._site, self._readings, self._watch, self._orders.stop)
         self._tasks: dict[object, asyncio.Task[None]] = {}
 
     def application(self) -> web.Application:
@@ -97,8 +99,9 @@ class CentralSystem:
             self._spawn(charge_point.connection.close)
         charge_point.connection = connection
         LOG.info("%s: connected", charge_point.settings.id)
+        self._watch.connected(charge_point)
         self._spawn(connection.work)
-        self._spawn(self._ask_for_statuses, charge_point, connection)
+        self._spawn(self._look_after, charge_point, connection)
         self._orders.begin()
         try:
             await connection.read()
@@ -107,9 +110,13 @@ class CentralSystem:
                 charge_point.connection = None
                 LOG.info("%s: connection ended", charge_point.settings.id)
 
-    async def _ask_for_statuses(self, charge_point: ChargePoint, connection: Connection) -> None:
-        """Asks for what a charge point, or a bridge that was stopped, may have missed."""
-        await self._clock.sleep(STATUS_WITHIN)
+    async def _look_after(self, charge_point: ChargePoint, connection: Connection) -> None:
+        """Stops what it did not tell to have ended, and asks for what it, or a bridge that was stopped, may have
+        missed."""
+        await self._clock.sleep(TOLD_WITHIN)
+        if charge_point.connection is connection:
+            self._watch.stop_all(charge_point)
+        await self._clock.sleep(STATUS_WITHIN - TOLD_WITHIN)
         for connector in charge_point.settings.connectors:
             message = {"requestedMessage": "StatusNotification", "connectorId": connector}
             async with connection.asking("TriggerMessage", message) as answer:
@@ -127,6 +134,9 @@ class CentralSystem:
         self._site.act(outcome)
         if outcome.event["event"] == "tick":
             self._end_unused()
+            self._watch.tick()
+        if outcome.event["event"] == "fault":
+            self._watch.stop_at(outcome.event["evse_uid"])
         if outcome.sent("command_response"):
             self._orders.begin()
 

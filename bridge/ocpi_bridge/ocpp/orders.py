@@ -12,7 +12,7 @@ from functools import partial
 from ..node.feeder import repeated
 from .commands import REFUSED, Command
 from .site import ChargePoint, Site
-from .transactions import Transaction
+from .transactions import STOPPED, Transaction
 
 
 class Orders:
@@ -101,7 +101,11 @@ class Orders:
         self._spawn(self._stop_transaction, transaction.charge_point, transaction.number)
 
     async def _stop_transaction(self, charge_point: str, number: int) -> None:
+        def runs() -> bool:
+            transaction = self._site.transactions.find(charge_point, number)
+            return transaction is not None and transaction.state != STOPPED
+
         connection = self._site.by_id[charge_point].connection
         if connection is not None:
-            async with connection.asking("RemoteStopTransaction", {"transactionId": number}):
+            async with connection.asking("RemoteStopTransaction", {"transactionId": number}, runs):
                 pass

@@ -12,13 +12,15 @@ the next report of the same to go on from there. A stop
 """
 import logging
 from collections.abc import Awaitable, Callable
+from decimal import Decimal
 from functools import partial
 
 from ..json_text import Members
 from .frames import check_payload
 from .readings import Readings, number_in, register_of
 from .site import OUT_OF_SERVICE, ChargePoint, Place, Site
-from .transactions import CHARGING, NEW, REFUSED, STOPPED, Transaction
+from .transactions import CHARGING, LOST, NEW, REFUSED, STOPPED, Transaction
+from .watch import Watch
 
 LOG = logging.getLogger("ocpp")
 HEARTBEAT_EACH = 60
@@ -27,9 +29,9 @@ HEARTBEAT_EACH = 60
 class Reports:
     """Answers the calls of charge points. `stop` is called with each transaction that goes on without a session."""
 
-    def __init__(self, site: Site, readings: Readings, stop: Callable[[Transaction], None]) -> None:
+    def __init__(self, site: Site, readings: Readings, watch: Watch, stop: Callable[[Transaction], None]) -> None:
         self._site, self._transactions, self._commands, self._stop = site, site.transactions, site.commands, stop
-        self._readings = readings
+        self._readings, self._watch = readings, watch
         self._handlers: dict[str, Callable[[ChargePoint, Members], Awaitable[Members]]] = {
             "StatusNotification": self._status, "Authorize": self._authorize, "StartTransaction": self._start,
             "MeterValues": self._meter, "StopTransaction": self._end}
@@ -57,6 +59,8 @@ class Reports:
                 if status == "Faulted" and (session is None or self._transactions.of_session(session["id"]) is None):
                     await self._site.report("fault", evse_uid=place.settings.evse_uid)
                 self._site.set_status(place, status)
+            if connector == place.connector:
+                self._watch.note_status(place, status)
         return {}
 
     async def _authorize(self, charge_point: ChargePoint, payload: Members) -> Members:
@@ -82,7 +86,9 @@ class Reports:
         """A transaction that begins. It is let charge where it is that of a session."""
         transaction = self._transactions.begin(charge_point.settings.id, payload)
         place = charge_point.places.get(transaction.connector)
+        self._watch.note_transaction(place)
         if transaction.state == NEW:
+            await self._watch.end_lost(charge_point, transaction.connector, payload["timestamp"], transaction.number)
             session = await self._session_of(place, transaction) if place is not None else None
             if session is not None and session["status"] == "PENDING":
                 transaction = self._transactions.update(transaction, NEW, session["id"])
@@ -91,9 +97,9 @@ class Reports:
             transaction = self._transactions.update(transaction, word, session_id)
             if place is not None:
                 self._commands.forget_asked(place.settings.evse_uid)
-        if transaction.state == REFUSED:
+        if transaction.state in (REFUSED, LOST):
             self._stop(transaction)
-        status = "Invalid" if transaction.session_id is None else "Accepted"
+        status = "Invalid" if transaction.session_id is None or transaction.state == LOST else "Accepted"
         return {"idTagInfo": {"status": status}, "transactionId": transaction.number}
 
     async def _session_of(self, place: Place, transaction: Transaction) -> Members | None:
@@ -124,6 +130,7 @@ class Reports:
         transaction = self._transactions.find(charge_point.settings.id, payload.get("transactionId"))
         if transaction is None or transaction.state == STOPPED:
             return {}
+        self._watch.note_transaction(charge_point.places.get(transaction.connector))
         if self._site.living(transaction.session_id) is None:
             self._stop(transaction)
         for meter_value in payload["meterValue"]:
@@ -134,12 +141,25 @@ class Reports:
     async def _end(self, charge_point: ChargePoint, payload: Members) -> Members:
         """A transaction that ended: its last reading, and the end of its session, whatever that reading is."""
         transaction = self._transactions.find(charge_point.settings.id, payload["transactionId"])
-        if transaction is not None:
-            register = number_in(payload.get("meterStop"))
-            last = await self._readings.take(transaction, payload.get("timestamp"), register)
-            if last is not None and register is not None and register < last.register:
-                LOG.warning("%s: transaction %d: meterStop is below a reading, which is billed: %s kWh",
-                            charge_point.settings.id, transaction.number, transaction.energy(last.register))
-            await self._report(transaction, "stops", payload.get("timestamp"))
+        if transaction is None:
+            LOG.warning("%s: StopTransaction of an unknown transaction %d", charge_point.settings.id,
+                        payload["transactionId"])
+        elif transaction.state != STOPPED:
+            await self._stop_session(transaction, payload.get("timestamp"), number_in(payload.get("meterStop")))
             self._transactions.update(transaction, STOPPED, transaction.session_id)
         return {} if payload.get("idTag") is None else {"idTagInfo": {"status": "Accepted"}}
+
+    async def _stop_session(self, transaction: Transaction, timestamp: object, meter_stop: Decimal | None) -> None:
+        """Takes the last reading of a transaction, and ends its session, whatever that reading is."""
+        last, session = await self._readings.take(transaction, timestamp, meter_stop), None
+        if meter_stop is not None:
+            session = self._site.session(transaction.session_id)
+        if session is not None and meter_stop is not None:
+            energy, told = transaction.energy(meter_stop), Decimal(str(session["kwh"]))
+            if last is None and Decimal(energy) > told:
+                LOG.warning("%s: transaction %d: %s kWh, and its session had ended before, by %s kWh",
+                            transaction.charge_point, transaction.number, energy, told)
+            elif last is not None and meter_stop < last.register:
+                LOG.warning("%s: transaction %d: meterStop is below a reading, which is billed: %s kWh",
+                            transaction.charge_point, transaction.number, transaction.energy(last.register))
+        await self._report(transaction, "stops", timestamp)

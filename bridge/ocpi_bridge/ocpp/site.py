@@ -127,9 +127,13 @@ class Site:
         """The session at a connector that is PENDING or ACTIVE."""
         return self._objects.living_session(place.settings.evse_uid)
 
+    def session(self, session_id: str | None) -> Members | None:
+        """The session of an id."""
+        return self._objects.find("sessions", self._events.node, session_id or "")
+
     def living(self, session_id: str | None) -> Members | None:
         """The session of an id, where it is PENDING or ACTIVE."""
-        session = self._objects.find("sessions", self._events.node, session_id or "")
+        session = self.session(session_id)
         return session if session is not None and session["status"] in ("PENDING", "ACTIVE") else None
 
     async def accept(self, command: Command) -> Command:

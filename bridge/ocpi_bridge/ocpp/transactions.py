@@ -7,7 +7,10 @@ from ..json_text import Members, Number
 from ..state import State
 
 # A transaction is new until it is known whether its driver may charge. Then it charges, or is refused, until it stops.
-NEW, CHARGING, REFUSED, STOPPED = "new", "charging", "refused", "stopped"
+# It is lost where its charge point will not tell that it stopped.
+NEW, CHARGING, REFUSED, STOPPED, LOST = "new", "charging", "refused", "stopped", "lost"
+# Milliseconds before all moments.
+LONG_AGO = -10**15
 
 
 @dataclass(frozen=True)
@@ -36,12 +39,19 @@ class Transactions:
         self._state = state
 
     def begin(self, charge_point: str, payload: Members) -> Transaction:
-        """The transaction of a StartTransaction: a new one, or the one that it told of before."""
-        return Transaction(*self._state.query(
-            """INSERT INTO ocpp_transaction (charge_point, connector, started, id_tag, meter_start, state)
-            VALUES (?, ?, ?, ?, ?, ?) ON CONFLICT DO UPDATE SET started = started RETURNING *""", charge_point,
-            payload["connectorId"], milliseconds_of(payload["timestamp"]), payload["idTag"], payload["meterStart"],
-            NEW)[0])
+        """The transaction of a StartTransaction: a new one, or the one that it told of before.
+
+        One that has stopped is another: the clock of a charge point may begin anew. Its moment gives way.
+        """
+        told = (charge_point, payload["connectorId"], milliseconds_of(payload["timestamp"]), payload["idTag"],
+                payload["meterStart"])
+        with self._state.transaction():
+            self._state.query(
+                """UPDATE ocpp_transaction SET started = ? - number WHERE charge_point = ? AND connector = ?
+                AND started = ? AND id_tag = ? AND meter_start = ? AND state = ?""", LONG_AGO, *told, STOPPED)
+            return Transaction(*self._state.query(
+                """INSERT INTO ocpp_transaction (charge_point, connector, started, id_tag, meter_start, state)
+                VALUES (?, ?, ?, ?, ?, ?) ON CONFLICT DO UPDATE SET started = started RETURNING *""", *told, NEW)[0])
 
     def find(self, charge_point: str, number: int | None) -> Transaction | None:
         """The transaction of a charge point that has a number."""
@@ -49,6 +59,12 @@ class Transactions:
 
     def of_session(self, session_id: str | None) -> Transaction | None:
         return self._one("session_id = ?", session_id)
+
+    def running(self, charge_point: str, connector: int | None = None) -> list[Transaction]:
+        """Those of a charge point, or of one of its connectors, that have not ended."""
+        return [Transaction(*row) for row in self._state.query(
+            "SELECT * FROM ocpp_transaction WHERE charge_point = ? AND state IN ('new', 'charging', 'refused')"
+            " AND connector = ifnull(?, connector) ORDER BY number", charge_point, connector)]
 
     def _one(self, where: str, *values: object) -> Transaction | None:
         rows = self._state.query(f"SELECT * FROM ocpp_transaction WHERE {where}", *values)

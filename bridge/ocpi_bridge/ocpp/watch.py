@@ -1,0 +1,84 @@
+"""Looks after what charge points do not tell: transactions that go on without a session, and ends that were lost."""
+import logging
+from collections.abc import Callable
+
+from .site import ChargePoint, Place, Site
+from .transactions import LOST, NEW, Transaction
+
+LOG = logging.getLogger("ocpp")
+# In seconds: between two looks at all transactions, and for how long a connector has to be Available until its
+# charge point will not tell of the end of a transaction there any more.
+LOOK_EACH, AVAILABLE_FOR = 60.0, 120.0
+
+
+class Watch:
+    """`stop` has a transaction stopped, and `spawn` has something done in a task of its own."""
+
+    def __init__(self, site: Site, stop: Callable[[Transaction], None], spawn: Callable[..., None]) -> None:
+        self._site, self._transactions, self._stop, self._spawn = site, site.transactions, stop, spawn
+        self._looked = site.clock.seconds()
+        # Since when each connector is Available, as its connection told, behind all messages of transactions there.
+        self._available: dict[Place, float] = {}
+
+    def connected(self, charge_point: ChargePoint) -> None:
+        """Called when a connection begins."""
+        for place in charge_point.places.values():
+            self._available.pop(place, None)
+
+    def note_status(self, place: Place, status: str) -> None:
+        """Called with each status that a connector reports."""
+        if status == "Available":
+            self._available.setdefault(place, self._site.clock.seconds())
+        else:
+            self._available.pop(place, None)
+
+    def note_transaction(self, place: Place | None) -> None:
+        """Called with each message of a transaction, and where that is."""
+        if place is not None:
+            self._available.pop(place, None)
+
+    def tick(self) -> None:
+        """Called each second or so, while the node is open."""
+        now = self._site.clock.seconds()
+        for place, since in self._available.items():
+            if place.charge_point.connection is not None and now >= since + AVAILABLE_FOR:
+                self._spawn(self._end_all, place)
+        if now >= self._looked + LOOK_EACH:
+            self._looked = now
+            for charge_point in self._site.by_id.values():
+                self.stop_all(charge_point)
+
+    def stop_all(self, charge_point: ChargePoint) -> None:
+        """Has each transaction stopped that goes on without a session."""
+        for transaction in self._transactions.running(charge_point.settings.id):
+            if transaction.state != NEW and self._site.living(transaction.session_id) is None:
+                self._stop(transaction)
+
+    def stop_at(self, evse_uid: str) -> None:
+        """The same of the charge point that has an EVSE."""
+        place = self._site.place(evse_uid)
+        if place is not None:
+            self.stop_all(place.charge_point)
+
+    async def _end_all(self, place: Place) -> None:
+        """Ends what runs at a connector, where that is still Available."""
+        async def end() -> None:
+            if (since := self._available.get(place)) is not None:
+                await self.end_lost(place.charge_point, place.connector, since)
+                self._available.pop(place, None)
+
+        await place.charge_point.alone(end)
+
+    async def end_lost(self, charge_point: ChargePoint, connector: int, timestamp: object, before: int = 2**62) -> None:
+        """Ends the transactions of a connector, those with numbers below one that is given: it was told of no end, and
+        will not be told. Their sessions end by their last readings, at a moment in seconds or as a message tells it."""
+        for transaction in self._transactions.running(charge_point.settings.id, connector):
+            if transaction.number >= before:
+                continue
+            session = self._site.living(transaction.session_id)
+            if session is not None:
+                LOG.warning("%s: transaction %d: no StopTransaction came, and session %s ends by its last reading",
+                            charge_point.settings.id, transaction.number, session["id"])
+                seconds = timestamp if isinstance(timestamp, float) else self._site.seconds_at(timestamp, session)
+                await self._site.report("stops", seconds, evse_uid=session["evse_uid"])
+            self._transactions.update(transaction, LOST, transaction.session_id)
