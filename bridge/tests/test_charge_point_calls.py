@@ -1,7 +1,7 @@
 """Calls of the bridge, answered as a charge point answers, and what follows from each answer."""
 import asyncio
 
-from .charge_point_cases import START, FramesCase
+from .charge_point_cases import START, STATUS, FramesCase
 from .ocpi_objects import start_session, token
 
 
@@ -41,6 +41,26 @@ class RemoteCalls(FramesCase):
             self.assertEqual("ACCEPTED", reply.data["result"])
             if not in_service:
                 self.assertEqual("EVSE_INOPERATIVE", await self.result(kind))
+        await self.charge_point.asked("RemoteStartTransaction")
+
+    async def serve(self, in_service: bool) -> None:
+        """The owner takes E2 out of service or puts it back, and its charge point takes that."""
+        posted = asyncio.create_task(self.bridge.admin_post("/service", {"evse_uid": "E2", "in_service": in_service}))
+        identifier, _ = await self.charge_point.asked("ChangeAvailability")
+        await self.charge_point.give(identifier, {"status": "Accepted"})
+        self.assertEqual(200, (await posted)["status"])
+
+    async def test_what_the_owner_took_out_of_service_stays_so_whatever_statuses_come(self) -> None:
+        await self.serve(False)
+        for status in ("Unavailable", "Available", "Faulted", "Preparing", "Available"):
+            await self.charge_point.call("StatusNotification", {**STATUS, "connectorId": 2, "status": status})
+            start = start_session(self.token, self.response_url(status), "E2")
+            self.assertEqual("ACCEPTED", (await self.provider.command("START_SESSION", start)).data["result"])
+            self.assertEqual("EVSE_INOPERATIVE", await self.result(status), status)
+        locations = await self.provider.ask("GET", await self.provider.endpoint("locations", "SENDER"))
+        self.assertEqual("INOPERATIVE", locations.data[0]["evses"][1]["status"])
+        await self.serve(True)
+        await self.provider.command("START_SESSION", start_session(self.token, self.response_url("start"), "E2"))
         await self.charge_point.asked("RemoteStartTransaction")
 
     async def test_what_a_charge_point_answers_wrongly(self) -> None:

@@ -93,10 +93,11 @@ class Admin:
         """Feeds the body of a request as an event, and answers what came of it.
 
         Of `service` the node is told first, so that nothing new is let charge there while the charge point is asked.
+        It has `owner`, which the node reads past: no charge point takes it back.
         """
         event, is_operators = EVENTS[request.path]
         body = await self._body(request, is_operators)
-        members = {"token": body} if event == "token" else body
+        members = {"token": body} if event == "token" else body | {"owner": True} if event == "service" else body
         outcome = await self._feeder.feed({**members, **self._events.make(event)})
         told: Members = {"done": outcome.done, "packets": [packet.members() for packet in outcome.packets]}
         if outcome.word not in ("stepped", "idle"):

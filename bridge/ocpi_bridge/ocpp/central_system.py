@@ -127,7 +127,7 @@ class CentralSystem:
         """Keeps what an outcome opens and ends. Called inside of the transaction that forgets its line."""
         self._site.commands.note(outcome)
         if outcome.event["event"] == "service" and outcome.word in ("stepped", "idle"):
-            self._site.note_service(outcome.event["evse_uid"], outcome.event["in_service"])
+            self._site.note_service(outcome.event)
 
     def act(self, outcome: Outcome) -> None:
         """Begins what an outcome asks of charge points. Called behind that transaction."""

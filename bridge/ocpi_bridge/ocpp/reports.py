@@ -47,12 +47,13 @@ class Reports:
         return now if action == "Heartbeat" else {"status": "Accepted", "interval": HEARTBEAT_EACH, **now}
 
     async def _status(self, charge_point: ChargePoint, payload: Members) -> Members:
-        """A status of one connector, or at connector 0 of each: there one in service only ends one that is not."""
+        """A status of one connector, or at connector 0 of each: there one in service only ends one that is not. None
+        puts an EVSE back that its owner took out of service."""
         status, connector = payload["status"], payload["connectorId"]
         for place in charge_point.places.values():
             changes_service = {status, self._site.status(place)} & OUT_OF_SERVICE
             if connector == place.connector or connector == 0 and changes_service:
-                if changes_service:
+                if changes_service and not self._site.is_kept_out(place):
                     is_in_service = status not in OUT_OF_SERVICE
                     await self._site.report("service", evse_uid=place.settings.evse_uid, in_service=is_in_service)
                 session = self._site.at(place)

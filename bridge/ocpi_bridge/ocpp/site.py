@@ -80,16 +80,22 @@ class Site:
     def set_status(self, place: Place, status: str) -> None:
         self._state.set_value(f"ocpp.status {place.settings.evse_uid.upper()}", status)
 
-    def note_service(self, evse_uid: str, in_service: bool) -> None:
-        """Keeps what an event `service` said."""
-        self._state.set_value(f"ocpp.service {evse_uid.upper()}", "in" if in_service else "out")
+    def note_service(self, event: Members) -> None:
+        """Keeps what an event `service` said, and whether the owner takes the EVSE out of service by it."""
+        word = "in" if event["in_service"] else "owner" if event.get("owner") else "out"
+        self._state.set_value(f"ocpp.service {event['evse_uid'].upper()}", word)
+
+    def is_kept_out(self, place: Place) -> bool:
+        """Whether the owner took an EVSE out of service: then it stays so until the owner puts it back."""
+        return self._state.value(f"ocpp.service {place.settings.evse_uid.upper()}") == "owner"
 
     def evse_status(self, evse_uid: str) -> str | None:
         """`OUTOFORDER` where nothing can be charged, `INOPERATIVE` where the EVSE is out of service, else None."""
         place = self.place(evse_uid)
         if place is None or place.charge_point.connection is None or self.status(place) == "Faulted":
             return "OUTOFORDER"
-        return "INOPERATIVE" if self._state.value(f"ocpp.service {evse_uid.upper()}") == "out" else None
+        word = self._state.value(f"ocpp.service {evse_uid.upper()}")
+        return "INOPERATIVE" if word in ("out", "owner") else None
 
     def id_tag_of(self, uid: str) -> str:
         """What a token is called at charge points: its uid, or a text of the bridge where that is too long for OCPP."""
