@@ -23,6 +23,7 @@ from .ocpi.requests import Requests
 from .ocpi.server import Server
 from .ocpp.central_system import CentralSystem
 from .state import State
+from .warnings import Warnings
 
 LOG = logging.getLogger("bridge")
 
@@ -40,7 +41,9 @@ class Bridge:
         metrics = Metrics()
         self._feeder = feeder = Feeder(configuration.node, events, state, metrics)
         objects = Objects(state)
-        feeder.before_commit.append(objects.note)
+        warnings = Warnings(state, objects, clock.seconds())
+        feeder.before_commit += [objects.note, warnings.note]
+        feeder.after_commit.append(warnings.act)
         partners = Partners(configuration, state)
         requests = Requests(state)
         self._exchange = exchange = Exchange(clock, metrics)

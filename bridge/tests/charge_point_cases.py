@@ -42,10 +42,11 @@ class FramesCase(OperatorCase):
         return charge_point
 
     async def twice(self, action: str, payload: Members) -> Members:
-        """Sends a call, and then the same under another id: both are answered alike, but for the current time."""
+        """Sends a call, and then the same under another id: both are answered alike, but for what the time tells."""
         answers = []
         for _ in range(2):
             answer = await self.charge_point.call(action, payload, f"twice-{next(self.numbers)}")
+            answer.get("idTagInfo", {}).pop("expiryDate", None)
             answers.append({name: member for name, member in answer.items() if name != "currentTime"})
         self.assertEqual(answers[0], answers[1], action)
         return answers[0]

@@ -15,6 +15,7 @@ from collections.abc import Awaitable, Callable
 from decimal import Decimal
 from functools import partial
 
+from ..clock import moment_of
 from ..json_text import Members
 from .frames import check_payload
 from .readings import Readings, number_in, register_of
@@ -24,6 +25,8 @@ from .watch import Watch
 
 LOG = logging.getLogger("ocpp")
 HEARTBEAT_EACH = 60
+# For how many seconds a token may be used that was shown at a charge point with several connectors.
+SHOWN_FOR = 60
 
 
 class Reports:
@@ -69,11 +72,14 @@ class Reports:
         uid = self._site.uid_of(payload["idTag"])
         places = list(charge_point.places.values())
         shown_at = [place for place in places if len(places) == 1 or self._site.status(place) == "Preparing"]
+        # It is for the connector at which a car is plugged in soon, and not for another one later.
+        expiry = {} if len(places) == 1 else {"expiryDate": moment_of(self._site.clock.seconds() + SHOWN_FOR)}
         if any(self._is_let_charge(place, uid) for place in places) or len(shown_at) != 1:
-            return {"idTagInfo": {"status": "Accepted"}}
+            return {"idTagInfo": {"status": "Accepted", **expiry}}
         self._commands.forget_asked(shown_at[0].settings.evse_uid)
         await self._site.swipe(shown_at[0], uid)
-        return {"idTagInfo": {"status": "Accepted" if self._is_let_charge(shown_at[0], uid) else "Invalid"}}
+        is_accepted = self._is_let_charge(shown_at[0], uid)
+        return {"idTagInfo": {"status": "Accepted", **expiry} if is_accepted else {"status": "Invalid"}}
 
     def _is_let_charge(self, place: Place, uid: str) -> bool:
         """Whether a session or an open start of a token stands at a connector."""
