@@ -38,10 +38,11 @@ class PageTest(unittest.IsolatedAsyncioTestCase):
         for bridge in (self.operator, self.provider):
             self.addCleanup(bridge.kill)
         await asyncio.gather(self.operator.start(), self.provider.start())
-        charging = subprocess.Popen([REPOSITORY / "bridge" / "charge_point", self.operator.ocpp_url, "CP1",
-                                     "a-password", "--auto"], stdin=subprocess.PIPE, stdout=subprocess.DEVNULL)
-        self.addCleanup(charging.communicate)
-        self.addCleanup(charging.kill)
+        self.charging = subprocess.Popen(
+            [REPOSITORY / "bridge" / "charge_point", self.operator.ocpp_url, "CP1", "a-password", "--auto"],
+            stdin=subprocess.PIPE, stdout=subprocess.DEVNULL)
+        self.addCleanup(self.charging.communicate)
+        self.addCleanup(self.charging.kill)
         self.browser = Browser()
         await self.browser.start()
         self.addAsyncCleanup(self.browser.stop)
@@ -55,7 +56,7 @@ class PageTest(unittest.IsolatedAsyncioTestCase):
         await self.browser.until(row_with("tokens", uid, "RFID", "NL-TNM-000001", "TNM", "ALWAYS", "yes"))
 
     async def test_a_charge_from_the_providers_page_to_the_operators(self) -> None:
-        """12 kWh, of which the charge point's car is full, at 0.25 EUR a kWh."""
+        """12 kWh, of which the charge point's car is full, at 0.25 EUR a kWh. Then its meter says what cannot be true."""
         browser = self.browser
         await browser.open(f"{self.provider.admin_url}/")
         await browser.until("document.getElementById('connection').textContent === 'live'")
@@ -64,6 +65,9 @@ class PageTest(unittest.IsolatedAsyncioTestCase):
         await browser.until(row_with("sessions", "E1", "BE/BEC", "<b>AA01</b>", "active"))
         await browser.until(row_with("commands", "start session", "E1", "accepted"))
         await browser.until(row_with("sessions", "active", "12.0000 kWh", "3.0000 EUR"))
+        assert self.charging.stdin is not None
+        self.charging.stdin.write(b"meter 900000000\n")
+        self.charging.stdin.flush()
         await browser.until(press("Stop"))
         await browser.until(row_with("sessions", "completed", "12.0000 kWh", "3.0000 EUR"))
         await browser.until(row_with("cdrs", "E1", "BE/BEC", "<b>AA01</b>", "bill", "12.0000 kWh", "3.0000 EUR"))
@@ -71,6 +75,7 @@ class PageTest(unittest.IsolatedAsyncioTestCase):
 
         await browser.open(f"{self.operator.admin_url}/")
         await browser.until(row_with("evses", "E1", "available"))
+        await browser.until(row_with("warnings", "E1", "a reading of 900012.0000 kWh, which cannot be true"))
         await browser.until(row_with("sessions", "E1", "NL/TNM", "completed"))
         await browser.until(press("Take back"))
         await browser.until(row_with("cdrs", "credit", "-3.0000 EUR"))

@@ -68,6 +68,8 @@ class Admin:
         metrics.gauge("ocpi_open_commands",
                       lambda: len(central_system.commands()) if is_operator else outstanding.open_commands())
         metrics.gauge("ocpi_charge_points_connected", central_system.connected_count)
+        if is_operator:
+            metrics.gauge("ocpi_silent_sessions", central_system.silent_count)
         self._lists: dict[str, Callable[[], list[Members]]] = {
             **{f"/{module}": partial(objects.newest, module, MOST_LISTED) for module in ("sessions", "cdrs", "tokens")},
             "/commands": lambda: central_system.commands() if is_operator else outstanding.commands(),

@@ -97,6 +97,10 @@ class Objects:
         """The sessions at EVSEs of the node in which nobody charges so far."""
         return self._bodies(f"{LIVING} AND status = 'PENDING'")
 
+    def living_sessions(self) -> list[Members]:
+        """Those in which somebody charges, too."""
+        return self._bodies(LIVING)
+
     def _bodies(self, where: str, *values: object) -> list[Members]:
         return [read_json(body) for body, in self._state.query(f"SELECT body FROM object_of WHERE {where}", *values)]
 

@@ -46,7 +46,7 @@ class CentralSystem:
         self._site = Site(settings, events, state, feeder, objects)
         self._orders = Orders(self._site, self._spawn)
         self._readings = Readings(self._site, state, count)
-        self._watch = Watch(self._site, self._orders.stop, self._spawn)
+        self._watch = Watch(self._site, self._readings, self._orders.stop, self._spawn)
         self._reports = Reports(self._site, self._readings, self._watch, self._orders.stop)
         self._tasks: dict[object, asyncio.Task[None]] = {}
 
@@ -165,8 +165,13 @@ class CentralSystem:
             for place in point.places.values()]} for point in self._site.by_id.values()]
 
     def warnings(self, most: int) -> list[Members]:
-        """What the owner has to look at, the newest first: `at`, `evse_uid` and words."""
-        return self._readings.dropped(most)
+        """What the owner has to look at: `at`, `evse_uid` and words. First come sessions that are silent, then the
+        newest readings that were dropped."""
+        return [*self._watch.silent(), *self._readings.dropped(most)][:most]
+
+    def silent_count(self) -> int:
+        """How many sessions are silent."""
+        return len(self._watch.silent())
 
     def commands(self) -> list[Members]:
         """The commands that are open, with their `provider`, `number`, `kind`, and what they are about."""

@@ -142,6 +142,10 @@ class Site:
         session = self.session(session_id)
         return session if session is not None and session["status"] in ("PENDING", "ACTIVE") else None
 
+    def all_living(self) -> list[Members]:
+        """The sessions that are PENDING or ACTIVE."""
+        return self._objects.living_sessions()
+
     async def accept(self, command: Command) -> Command:
         """Feeds that a command is carried out, and gives it as it stands then: a start has a session, or had ended."""
         command = self.commands.find(command.provider, command.number)
