@@ -20,6 +20,10 @@ class Clock:
         """Seconds since 1970, as this clock tells them."""
         return self.origin + (time.time() - self.origin) * self.factor
 
+    def passed(self) -> float:
+        """Seconds of this clock since some moment, whatever the machine's is set to meanwhile."""
+        return time.monotonic() * self.factor
+
     def moment(self) -> str:
         """Now, as OCPI writes it, in UTC and to the millisecond."""
         return moment_of(self.seconds())

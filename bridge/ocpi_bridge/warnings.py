@@ -52,5 +52,5 @@ class Warnings:
         party = party_of(token.get("country_code"), token.get("party_id"))
         held = self._objects.find("tokens", party, str(token.get("uid")), str(token.get("type")))
         if blocked is not None and held is not None and seconds_of(held["last_updated"]) > blocked:
-            LOG.warning("%s blocks a token as of %s, which is older than what is held: as of %s that is %s, and stays so",
+            LOG.warning("%s blocks a token as of %s, which is older than what is held: as of %s it is %s, and stays so",
                         sender, token["last_updated"], held["last_updated"], "valid" if held["valid"] else "blocked")

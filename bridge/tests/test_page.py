@@ -56,7 +56,7 @@ class PageTest(unittest.IsolatedAsyncioTestCase):
         await self.browser.until(row_with("tokens", uid, "RFID", "NL-TNM-000001", "TNM", "ALWAYS", "yes"))
 
     async def test_a_charge_from_the_providers_page_to_the_operators(self) -> None:
-        """12 kWh, of which the charge point's car is full, at 0.25 EUR a kWh. Then its meter says what cannot be true."""
+        """12 kWh, of which the car is full, at 0.25 EUR a kWh. Then the meter tells what cannot be true."""
         browser = self.browser
         await browser.open(f"{self.provider.admin_url}/")
         await browser.until("document.getElementById('connection').textContent === 'live'")

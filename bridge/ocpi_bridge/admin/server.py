@@ -148,8 +148,8 @@ class Admin:
             await asyncio.sleep(pause)
 
     def _shown(self) -> Members:
-        """Party, role, sessions and bills; an operator's EVSEs and warnings, or a provider's operators, tokens, commands
-        and debts."""
+        """Party, role, sessions, bills; an operator's EVSEs and warnings, or a provider's operators, tokens, commands,
+        debts."""
         objects, configuration = self._objects, self._configuration
         shown: Members = {"party": configuration.node.party, "is_operator": configuration.is_operator,
                           **{module: objects.newest(module, MOST_SHOWN) for module in ("sessions", "cdrs")}}

@@ -111,8 +111,9 @@ class Connection:
                      is_wanted: Callable[[], bool] = lambda: True) -> AsyncIterator[Members | None]:
         """Asks the charge point. Inside stands what it answered, or None where it did not within 30 s.
 
-        What was asked before is answered first. `is_wanted` is called right before the call is sent: nothing is asked
-        where it says no. Calls that come behind the answer wait until this is left. So inside nothing else may be asked.
+        What was asked before is answered first. `is_wanted` is called right before the call is sent, and where it says
+        no nothing is asked. Calls that come behind the answer wait until this is left. So inside nothing else may be
+        asked.
         """
         reply = None
         async with self._asking:

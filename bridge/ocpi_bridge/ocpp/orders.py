@@ -1,9 +1,9 @@
 """Asks charge points for what the node's open commands want, and tells the node what they answered.
 
 A charge point is asked once for each command, and that is kept right before. It is asked one thing at a time: what has
-ended when its turn comes is not asked for. One that has no connection, or loses it before that, is asked when it has one
-again, if the command is still open then. Where it does not answer nothing is fed, and the node ends the
-command at its time. Where a transaction starts nevertheless, as behind an answer that a stop of the bridge lost, that
+ended when its turn comes is not asked for. One that has no connection, or loses it before, is asked when it has one
+again, if the command is still open then. Where it does not answer nothing is fed, and the node ends the command at its
+time. Where a transaction starts nevertheless, as behind an answer that a stop of the bridge lost, that
 is the command's: it is let charge if the node still takes that the charge point accepted, and stopped if not.
 """
 from collections.abc import Callable

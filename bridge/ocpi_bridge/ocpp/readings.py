@@ -109,5 +109,5 @@ def number_in(value: object) -> Decimal | None:
     with suppress(InvalidOperation):
         number = Decimal(str(value).strip())
         if number.is_finite() and -10**18 < number < 10**18:
-            return number
+            return +number
     return None

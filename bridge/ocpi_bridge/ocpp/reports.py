@@ -158,15 +158,13 @@ class Reports:
 
     async def _stop_session(self, transaction: Transaction, timestamp: object, meter_stop: Decimal | None) -> None:
         """Takes the last reading of a transaction, and ends its session, whatever that reading is."""
-        last, session = await self._readings.take(transaction, timestamp, meter_stop), None
-        if meter_stop is not None:
-            session = self._site.session(transaction.session_id)
-        if session is not None and meter_stop is not None:
-            energy, told = transaction.energy(meter_stop), Decimal(str(session["kwh"]))
-            if last is None and Decimal(energy) > told:
-                LOG.warning("%s: transaction %d: %s kWh, and its session had ended before, by %s kWh",
-                            transaction.charge_point, transaction.number, energy, told)
-            elif last is not None and meter_stop < last.register:
-                LOG.warning("%s: transaction %d: meterStop is below a reading, which is billed: %s kWh",
-                            transaction.charge_point, transaction.number, transaction.energy(last.register))
+        last = await self._readings.take(transaction, timestamp, meter_stop)
+        session = self._site.session(transaction.session_id)
+        energy = transaction.energy(meter_stop or Decimal(0))
+        if last is None and session is not None and Decimal(energy) > Decimal(str(session["kwh"])):
+            LOG.warning("%s: transaction %d: %s kWh, and its session had ended before, by %s kWh",
+                        transaction.charge_point, transaction.number, energy, session["kwh"])
+        elif last is not None and meter_stop is not None and meter_stop < last.register:
+            LOG.warning("%s: transaction %d: meterStop is below a reading, which is billed: %s kWh",
+                        transaction.charge_point, transaction.number, transaction.energy(last.register))
         await self._report(transaction, "stops", timestamp)

@@ -23,12 +23,13 @@ class Watch:
     def __init__(self, site: Site, readings: Readings, stop: Callable[[Transaction], None],
                  spawn: Callable[..., None]) -> None:
         self._site, self._transactions, self._stop, self._spawn = site, site.transactions, stop, spawn
-        self._readings, self._looked = readings, site.clock.seconds()
+        self._readings, self._looked = readings, site.clock.passed()
         # When the last message about each EVSE came since the start, and when its silence was warned of.
         self._heard: dict[str, float] = {}
         self._warned: dict[str, float] = {}
-        # Since when each connector is Available, as its connection told, behind all messages of transactions there.
-        self._available: dict[Place, float] = {}
+        # Since when each connector is Available, as its connection told, behind all messages of transactions there: by
+        # the seconds that passed, and since 1970.
+        self._available: dict[Place, tuple[float, float]] = {}
 
     def connected(self, charge_point: ChargePoint) -> None:
         """Called when a connection begins."""
@@ -39,7 +40,7 @@ class Watch:
         """Called with each status that a connector reports."""
         self._heard[place.settings.evse_uid] = self._site.clock.seconds()
         if status == "Available":
-            self._available.setdefault(place, self._site.clock.seconds())
+            self._available.setdefault(place, (self._site.clock.passed(), self._site.clock.seconds()))
         else:
             self._available.pop(place, None)
 
@@ -51,15 +52,15 @@ class Watch:
 
     def tick(self) -> None:
         """Called each second or so, while the node is open."""
-        now = self._site.clock.seconds()
-        for place, since in self._available.items():
+        now = self._site.clock.passed()
+        for place, (since, _) in self._available.items():
             if place.charge_point.connection is not None and now >= since + AVAILABLE_FOR:
                 self._spawn(self._end_all, place)
         if now >= self._looked + LOOK_EACH:
             self._looked = now
             for charge_point in self._site.by_id.values():
                 self.stop_all(charge_point)
-            self._warn_of_silence(now)
+            self._warn_of_silence()
 
     def stop_all(self, charge_point: ChargePoint) -> None:
         """Has each transaction stopped that goes on without a session."""
@@ -76,8 +77,8 @@ class Watch:
     async def _end_all(self, place: Place) -> None:
         """Ends what runs at a connector, where that is still Available."""
         async def end() -> None:
-            if (since := self._available.get(place)) is not None:
-                await self.end_lost(place.charge_point, place.connector, since)
+            if place in self._available:
+                await self.end_lost(place.charge_point, place.connector, self._available[place][1])
                 self._available.pop(place, None)
 
         await place.charge_point.alone(end)
@@ -113,7 +114,8 @@ class Watch:
         read = 0.0 if transaction is None else self._readings.last(transaction, session).at / 1000
         return max(self._heard.get(session["evse_uid"], 0.0), read, seconds_of(session["last_updated"]))
 
-    def _warn_of_silence(self, now: float) -> None:
+    def _warn_of_silence(self) -> None:
+        now = self._site.clock.seconds()
         for warning in self.silent():
             if now >= self._warned.get(warning["evse_uid"], 0.0) + SILENT_BEHIND:
                 self._warned[warning["evse_uid"]] = now
