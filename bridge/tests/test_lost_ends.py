@@ -21,6 +21,18 @@ class NewTransactionTest(OcppCase):
                 await self.station.end(numbers[-1], 3000)
         self.assertEqual((3, ["2.0000"] * 3), (len(set(numbers)), self.operating.bills()))
 
+    async def test_one_that_comes_again_without_the_answer_to_its_end_is_the_same_and_is_asked_to_stop(self) -> None:
+        begun = await self.station.begin()
+        await self.station.end(begun["transactionId"], 3000)
+        await self.station.socket.close()
+        await asyncio.sleep(0.2)
+        await within(self.station.connected.wait())
+        self.assertEqual(begun, await self.station.begin())
+        self.assertEqual({"transactionId": begun["transactionId"]},
+                         await self.station.was_asked("RemoteStopTransaction"))
+        await self.station.end(begun["transactionId"], 3000)
+        self.assertEqual((["2.0000"], 1), (self.operating.bills(), len(self.operating.sessions())))
+
     async def test_another_one_ends_the_session_whose_end_was_lost(self) -> None:
         first = (await self.station.begin())["transactionId"]
         await self.station.meter(first, "2000")

@@ -93,7 +93,7 @@ class CentralSystem:
 
     async def _serve(self, charge_point: ChargePoint, socket: web.WebSocketResponse, abort: Callable[[], None]) -> None:
         """Serves a connection until it ends. It takes the place of one that the charge point has."""
-        connection = Connection(socket, self._clock, partial(self._reports.answer, charge_point), abort,
+        connection = Connection(socket, self._clock, partial(self._reports.answer, charge_point, socket), abort,
                                 charge_point.settings.id)
         if charge_point.connection is not None:
             self._spawn(charge_point.connection.close)

@@ -12,7 +12,7 @@ from functools import partial
 from ..node.feeder import repeated
 from .commands import REFUSED, Command
 from .site import ChargePoint, Site
-from .transactions import STOPPED, Transaction
+from .transactions import OVER, STOPPED, Transaction
 
 
 class Orders:
@@ -103,7 +103,7 @@ class Orders:
     async def _stop_transaction(self, charge_point: str, number: int) -> None:
         def runs() -> bool:
             transaction = self._site.transactions.find(charge_point, number)
-            return transaction is not None and transaction.state != STOPPED
+            return transaction is not None and transaction.state not in (STOPPED, OVER)
 
         connection = self._site.by_id[charge_point].connection
         if connection is not None:

@@ -20,7 +20,7 @@ from ..json_text import Members
 from .frames import check_payload
 from .readings import Readings, number_in, register_of
 from .site import OUT_OF_SERVICE, ChargePoint, Place, Site
-from .transactions import CHARGING, LOST, NEW, REFUSED, STOPPED, Transaction
+from .transactions import CHARGING, LOST, NEW, OVER, REFUSED, STOPPED, Transaction
 from .watch import Watch
 
 LOG = logging.getLogger("ocpp")
@@ -35,19 +35,35 @@ class Reports:
     def __init__(self, site: Site, readings: Readings, watch: Watch, stop: Callable[[Transaction], None]) -> None:
         self._site, self._transactions, self._commands, self._stop = site, site.transactions, site.commands, stop
         self._readings, self._watch = readings, watch
+        # The last transaction of each charge point that stopped, with the connection by which that was told.
+        self._stopped: dict[ChargePoint, tuple[int, object]] = {}
         self._handlers: dict[str, Callable[[ChargePoint, Members], Awaitable[Members]]] = {
             "StatusNotification": self._status, "Authorize": self._authorize, "StartTransaction": self._start,
             "MeterValues": self._meter, "StopTransaction": self._end}
 
-    async def answer(self, charge_point: ChargePoint, action: str, payload: Members) -> Members:
-        """What a call is answered. Raises CallError, NodeEnded, and EventRefused where the charge point may repeat."""
+    async def answer(self, charge_point: ChargePoint, connection: object, action: str, payload: Members) -> Members:
+        """What a call is answered that came by a connection.
+
+        Raises CallError, NodeEnded, and EventRefused where the charge point may repeat.
+        """
         check_payload(action, payload)
+        self._note_taken(charge_point, connection, action, payload)
         if action in self._handlers:
-            return await charge_point.alone(partial(self._handlers[action], charge_point, payload))
+            answer = await charge_point.alone(partial(self._handlers[action], charge_point, payload))
+            if action == "StopTransaction":
+                self._stopped[charge_point] = payload["transactionId"], connection
+            return answer
         if action == "DataTransfer":
             return {"status": "UnknownVendorId"}
         now: Members = {"currentTime": self._site.clock.moment()}
         return now if action == "Heartbeat" else {"status": "Accepted", "interval": HEARTBEAT_EACH, **now}
+
+    def _note_taken(self, charge_point: ChargePoint, connection: object, action: str, payload: Members) -> None:
+        """A charge point that calls something else on the same connection has the answer to its StopTransaction."""
+        number, before = self._stopped.get(charge_point, (0, None))
+        if before is connection and (action, payload.get("transactionId")) != ("StopTransaction", number):
+            self._transactions.end(charge_point.settings.id, number)
+            del self._stopped[charge_point]
 
     async def _status(self, charge_point: ChargePoint, payload: Members) -> Members:
         """A status of one connector, or at connector 0 of each: there one in service only ends one that is not. None
@@ -104,7 +120,11 @@ class Reports:
             transaction = self._transactions.update(transaction, word, session_id)
             if place is not None:
                 self._commands.forget_asked(place.settings.evse_uid)
-        if transaction.state in (REFUSED, LOST):
+        if transaction.state == STOPPED:
+            # The answer to its StopTransaction was lost, and that comes again. Or another one begins just alike.
+            word = REFUSED if transaction.session_id is None else CHARGING
+            self._stop(self._transactions.update(transaction, word, transaction.session_id))
+        elif transaction.state in (REFUSED, LOST):
             self._stop(transaction)
         status = "Invalid" if transaction.session_id is None or transaction.state == LOST else "Accepted"
         return {"idTagInfo": {"status": status}, "transactionId": transaction.number}
@@ -135,7 +155,7 @@ class Reports:
     async def _meter(self, charge_point: ChargePoint, payload: Members) -> Members:
         """Readings of a transaction. One that goes on without a session is stopped."""
         transaction = self._transactions.find(charge_point.settings.id, payload.get("transactionId"))
-        if transaction is None or transaction.state == STOPPED:
+        if transaction is None or transaction.state in (STOPPED, OVER):
             return {}
         self._watch.note_transaction(charge_point.places.get(transaction.connector))
         if self._site.living(transaction.session_id) is None:
@@ -151,7 +171,7 @@ class Reports:
         if transaction is None:
             LOG.warning("%s: StopTransaction of an unknown transaction %d", charge_point.settings.id,
                         payload["transactionId"])
-        elif transaction.state != STOPPED:
+        elif transaction.state not in (STOPPED, OVER):
             await self._stop_session(transaction, payload.get("timestamp"), number_in(payload.get("meterStop")))
             self._transactions.update(transaction, STOPPED, transaction.session_id)
         return {} if payload.get("idTag") is None else {"idTagInfo": {"status": "Accepted"}}

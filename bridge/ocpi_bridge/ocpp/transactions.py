@@ -7,8 +7,8 @@ from ..json_text import Members, Number
 from ..state import State
 
 # A transaction is new until it is known whether its driver may charge. Then it charges, or is refused, until it stops.
-# It is lost where its charge point will not tell that it stopped.
-NEW, CHARGING, REFUSED, STOPPED, LOST = "new", "charging", "refused", "stopped", "lost"
+# It is over once its charge point has the answer to that, and lost where it will not tell that it stopped.
+NEW, CHARGING, REFUSED, STOPPED, OVER, LOST = "new", "charging", "refused", "stopped", "over", "lost"
 # Milliseconds before all moments.
 LONG_AGO = -10**15
 
@@ -41,14 +41,14 @@ class Transactions:
     def begin(self, charge_point: str, payload: Members) -> Transaction:
         """The transaction of a StartTransaction: a new one, or the one that it told of before.
 
-        One that has stopped is another: the clock of a charge point may begin anew. Its moment gives way.
+        One that is over was another: the clock of a charge point may begin anew. Its moment gives way.
         """
         told = (charge_point, payload["connectorId"], milliseconds_of(payload["timestamp"]), payload["idTag"],
                 payload["meterStart"])
         with self._state.transaction():
             self._state.query(
                 """UPDATE ocpp_transaction SET started = ? - number WHERE charge_point = ? AND connector = ?
-                AND started = ? AND id_tag = ? AND meter_start = ? AND state = ?""", LONG_AGO, *told, STOPPED)
+                AND started = ? AND id_tag = ? AND meter_start = ? AND state = ?""", LONG_AGO, *told, OVER)
             return Transaction(*self._state.query(
                 """INSERT INTO ocpp_transaction (charge_point, connector, started, id_tag, meter_start, state)
                 VALUES (?, ?, ?, ?, ?, ?) ON CONFLICT DO UPDATE SET started = started RETURNING *""", *told, NEW)[0])
@@ -59,6 +59,11 @@ class Transactions:
 
     def of_session(self, session_id: str | None) -> Transaction | None:
         return self._one("session_id = ?", session_id)
+
+    def end(self, charge_point: str, number: int) -> None:
+        """A transaction that has stopped is over."""
+        self._state.query("UPDATE ocpp_transaction SET state = ? WHERE number = ? AND charge_point = ? AND state = ?",
+                          OVER, number, charge_point, STOPPED)
 
     def running(self, charge_point: str, connector: int | None = None) -> list[Transaction]:
         """Those of a charge point, or of one of its connectors, that have not ended."""
