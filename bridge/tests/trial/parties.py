@@ -73,6 +73,6 @@ def _bridge(folder: Path, party: str, urls: dict[str, str], secrets: Secrets) ->
     partners = [partner(other, "node", secrets.tokens[other, party], secrets.tokens[party, other],
                         urls[other] + "/ocpi/versions") for other in partners_of(party)]
     charge_points = [charge_point(place.charge_point, [place.evse_uid], secrets.passwords[place.charge_point],
-                                  max_kw=100_000) for place in places_of(party)] if party in OPERATORS else None
+                                  max_kw=10_000_000) for place in places_of(party)] if party in OPERATORS else None
     return RunningBridge(folder / party.replace("/", "_"), setup(), party, partners, charge_points, CLOCK_FACTOR,
                          urls[party])
