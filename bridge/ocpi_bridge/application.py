@@ -57,9 +57,11 @@ class Bridge:
         locations = None if configuration.site is None else Locations(
             state, clock, objects, configuration.node.party, configuration.site,
             central_system.evse_status if ocpp is not None else lambda _: None)
-        interfaces = Interfaces(configuration.ocpi.url, events, objects, requests, locations, feeder.feed)
+        interfaces = Interfaces(configuration.ocpi.url, events, objects, requests, locations, feeder.feed,
+                                self._client.takes_orders)
         server = Server(events, partners, Credentials(configuration, partners, exchange), interfaces, metrics)
-        admin = Admin(configuration, state, events, feeder, objects, partners, metrics, locations, central_system)
+        admin = Admin(configuration, state, events, feeder, objects, partners, metrics, locations, central_system,
+                      self._client.takes_orders)
         self._listeners = [Listener("ocpi", configuration.ocpi.listen, server.application()),
                            Listener("admin", configuration.admin, admin.application())]
         if ocpp is not None:

@@ -165,9 +165,13 @@ class RunningBridge:
         path = self.folder / "log"
         return path.read_text(errors="replace") if path.exists() else ""
 
+    def write(self) -> None:
+        """Writes its configuration."""
+        (self.folder / "bridge.json").write_text(json.dumps(self.configuration))
+
     def begin(self) -> "subprocess.Popen[bytes]":
         """Starts it, and does not wait until it listens."""
-        (self.folder / "bridge.json").write_text(json.dumps(self.configuration))
+        self.write()
         with (self.folder / "log").open("ab") as log:
             self._process = subprocess.Popen([RUN, self.folder / "bridge.json", *self.words], stdin=subprocess.DEVNULL,
                                              stdout=log, stderr=log, start_new_session=True,

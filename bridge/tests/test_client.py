@@ -6,7 +6,6 @@ from aiohttp import web
 
 from ocpi_bridge.json_text import NotJson
 from ocpi_bridge.node.feeder import OutcomeLost
-from ocpi_bridge.ocpi.client import MOST_WAITING, Queue
 
 from .client_cases import BRIDGE_URL, ClientCase, fails, stop, unlock, with_serial
 from .ocpi_objects import session, token
@@ -188,77 +187,3 @@ class Once(ClientCase):
     async def test_others_are_repeated(self) -> None:
         await self.carry(*[self.packet("unlock_connector", 7, unlock(7)) for _ in range(2)])
         self.assertEqual(2, len(self.asked()))
-
-
-class Queues(ClientCase):
-    """What waits for a partner, and how often it is asked."""
-
-    clock_factor = 10.0
-
-    async def begin_to_send(self) -> None:
-        task = asyncio.create_task(self.client.run())
-        self.addCleanup(task.cancel)
-
-    async def until(self, look: Callable[[], bool]) -> None:
-        async def looks() -> bool:
-            return look()
-        await eventually(looks, "what was sent")
-
-    async def test_in_order_with_the_newest_repeat(self) -> None:
-        self.party.answers["commands"] = with_serial(ACCEPTED)
-        for serial, request in enumerate([4, 5, 4, 6], 1):
-            self.client.send(self.packet("unlock_connector", request, unlock(request), serial))
-        await self.begin_to_send()
-        await self.until(lambda: len(self.delivered) == 3)
-        self.assertEqual(["NL/TNM/3", "NL/TNM/2", "NL/TNM/4"],
-                         [received.headers["X-Request-ID"] for received in self.asked()])
-        self.assertEqual([4, 5, 6], [answer.request for answer in self.delivered])
-
-    async def test_the_oldest_is_lost_where_too_many_wait(self) -> None:
-        queue = Queue()
-        for request in range(MOST_WAITING + 2):
-            queue.put_nowait(self.packet("unlock_connector", request, unlock(request)))
-        self.assertEqual(list(range(2, MOST_WAITING + 2)), [(await queue.get()).request for _ in range(MOST_WAITING)])
-
-    async def test_a_question_goes_first(self) -> None:
-        """Its driver waits, and a node awaits its answer for ten seconds alone."""
-        queue = Queue()
-        for request, kind in enumerate(("put_token", "post_cdr", "authorize"), 1):
-            queue.put_nowait(self.packet(kind, request, {}))
-        self.assertEqual([3, 1, 2], [(await queue.get()).request for _ in range(3)])
-
-    async def test_a_newer_version_of_a_session_takes_the_place_of_the_older(self) -> None:
-        """A node pushes the newest version alone, under a number of its own."""
-        queue = Queue()
-        for request, session in ((1, "S1"), (2, "S2"), (3, "S1")):
-            queue.put_nowait(self.packet("put_session", request, {"id": session}))
-        self.assertEqual([3, 2], [(await queue.get()).request for _ in range(2)])
-        self.assertTrue(queue.empty())
-
-    async def test_one_that_fails_again_and_again_is_asked_less_often(self) -> None:
-        moments: list[float] = []
-
-        async def note(received: Received) -> web.StreamResponse:
-            moments.append(self.client.events.clock.seconds())
-            return web.Response(status=503)
-        self.party.answers["commands"] = note
-        for request in range(1, 7):
-            self.client.send(self.packet("unlock_connector", request, unlock(request)))
-        await self.begin_to_send()
-        await self.until(lambda: len(moments) == 6)
-        pauses = [later - earlier for earlier, later in zip(moments, moments[1:])]
-        for pause, least in zip(pauses, (0, 1, 2, 4, 8)):
-            self.assertGreaterEqual(pause, least)
-        self.party.answers["commands"] = with_serial(ACCEPTED)
-        for request in range(7, 10):
-            self.client.send(self.packet("unlock_connector", request, unlock(request)))
-        await self.until(lambda: len(self.delivered) == 3)
-
-    async def test_what_is_not_taken_stops_nothing(self) -> None:
-        self.faults = [NotJson("nested too deep"), RuntimeError("a fault"), OutcomeLost()]
-        self.party.answers["commands"] = with_serial(ACCEPTED)
-        await self.begin_to_send()
-        for request in range(1, 5):
-            self.client.send(self.packet("unlock_connector", request, unlock(request)))
-        with self.assertLogs("ocpi_bridge.ocpi.client"):
-            await self.until(lambda: [answer.request for answer in self.delivered] == [3, 4])

@@ -57,10 +57,11 @@ class Admin:
 
     def __init__(self, configuration: Configuration, state: State, events: Events, feeder: Feeder, objects: Objects,
                  partners: Partners, metrics: Metrics, locations: Locations | None,
-                 central_system: CentralSystem) -> None:
-        """`locations` are an operator's."""
+                 central_system: CentralSystem, takes_orders: Callable[[str], bool]) -> None:
+        """`locations` are an operator's. `takes_orders` says whether a command more may wait for a partner."""
         self._configuration, self._events, self._feeder, self._metrics = configuration, events, feeder, metrics
         self._objects, self._locations, self._central_system = objects, locations, central_system
+        self._takes_orders = takes_orders
         self._outstanding = outstanding = Outstanding(state, objects, lambda: feeder.is_open)
         is_operator = configuration.is_operator
         feeder.before_commit.append(outstanding.note)
@@ -99,6 +100,8 @@ class Admin:
         """
         event, is_operators = EVENTS[request.path]
         body = await self._body(request, is_operators)
+        if event == "submit" and not self._takes_orders(str(body.get("operator"))):
+            raise web.HTTPServiceUnavailable(text="nothing was done: too many orders wait for the operator")
         members = {"token": body} if event == "token" else body | {"owner": True} if event == "service" else body
         outcome = await self._feeder.feed({**members, **self._events.make(event)})
         told: Members = {"done": outcome.done, "packets": [packet.members() for packet in outcome.packets]}

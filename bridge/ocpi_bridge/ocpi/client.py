@@ -1,8 +1,7 @@
 """Sends the requests of a node to its partners over HTTP, and hands on what they answer.
 
-What fails is lost: the node sends it again. Each partner has a queue of its own, in order; a repeat takes the place of
-the request that still waits. A partner of kind `ocpi` knows no repeats: a command that it would carry out twice is kept
-before it is sent, with what is answered, and is sent once.
+What fails is lost: the node sends it again. Each partner has lanes of its own. A partner of kind `ocpi` knows no
+repeats: a command that it would carry out twice is kept before it is sent, with what is answered, and is sent once.
 """
 import asyncio
 import logging
@@ -19,63 +18,67 @@ from ..parties import party_key
 from ..state import State
 from .envelope import INVALID, SUCCESS, routing_headers
 from .exchange import Exchange, NoAddress, NoResponse, NotSent, Response
+from .lanes import AT_ONCE, Lanes
 from .packets import COMMANDS, FORMS, path_of
-from .partners import Partner, Partners
+from .partners import Endpoints, Partner, Partners
 from .requests import NODES_URL, RESULTS_PATH, Requests, number_in, number_of
 
-MOST_WAITING = 1000
-LONGEST_PAUSE = 60.0
 ONCE = ("start_session", "reserve_now", "stop_session")
 
 log = logging.getLogger(__name__)
 
 
-class Queue(asyncio.Queue[Packet]):
-    """The requests that wait for one partner, by their numbers. Where too many wait the oldest is lost.
-
-    They go out in order, but that a question about a token goes first: its driver waits, and its answer is awaited for
-    ten seconds alone. A newer version of a session takes the place of one that waits.
-    """
-
-    def _init(self, maxsize: int) -> None:
-        self._queue: dict[int | str, Packet] = {}
-
-    def _put(self, item: Packet) -> None:
-        self._queue[item.body["id"] if item.kind == "put_session" else item.request] = item
-        if len(self._queue) > MOST_WAITING:
-            del self._queue[next(iter(self._queue))]
-
-    def _get(self) -> Packet:
-        questions = (number for number, packet in self._queue.items() if packet.kind == "authorize")
-        return self._queue.pop(next(questions, next(iter(self._queue))))
-
-
 class Client:
-    """Asks each partner one request at a time, and one that fails again and again less often."""
+    """Asks each partner a few requests at a time, and one that fails again and again less often."""
 
     def __init__(self, configuration: Configuration, state: State, partners: Partners, exchange: Exchange,
                  requests: Requests, events: Events, feed: Callable[[Members], Awaitable[Outcome]]) -> None:
         self._url, self._state, self._feed = configuration.ocpi.url, state, feed
         self.partners, self.exchange, self.requests, self.events = partners, exchange, requests, events
-        self._queues = {party_key(partner.party): Queue() for partner in configuration.partners}
+        self._lanes = {party_key(partner.party): Lanes(events.clock) for partner in configuration.partners}
+        self._looking_up: dict[str, asyncio.Future[Endpoints]] = {}
 
     def send(self, packet: Packet) -> None:
-        """Takes a request of the node, to be sent to its receiver."""
-        self._queues[party_key(packet.receiver)].put_nowait(packet)
+        """Takes a request of the node, to be sent to its receiver. Where too many wait it is lost."""
+        if not self._lanes[party_key(packet.receiver)].put(packet):
+            log.warning("%s to %s: lost, too many wait", packet.kind, packet.receiver)
+
+    def takes_orders(self, party: str) -> bool:
+        """Whether a partner may be sent one command or result more. (Of no partner its node has a word.)"""
+        lanes = self._lanes.get(party_key(party))
+        return lanes is None or not lanes.is_full
 
     async def run(self) -> None:
         """Sends what waits, until it is cancelled or the bridge ends."""
-        await asyncio.gather(*(self._work(queue) for queue in self._queues.values()))
+        await asyncio.gather(*(self._work(lanes, number == 0) for lanes in self._lanes.values()
+                               for number in range(AT_ONCE)))
 
     async def endpoint(self, partner: Partner, module: str, role: str) -> str:
-        """Where a module of a partner stands. Its versions are asked where nothing is known yet. Raises NoResponse."""
+        """Where a module of a partner stands. Its versions are asked where nothing is known yet, once for all that
+        wait for them. Raises NoResponse."""
         endpoints = partner.endpoints
         if not endpoints:
-            endpoints = await self.exchange.endpoints(partner)
-            self.partners.set_endpoints(partner.party, partner.versions_url, endpoints)
+            endpoints = await self._look_up_once(partner)
         if (module, role) not in endpoints:
             raise NoAddress(f"it lists no {module} {role}")
         return endpoints[module, role]
+
+    async def _look_up_once(self, partner: Partner) -> Endpoints:
+        def end(ended: asyncio.Future[Endpoints]) -> None:
+            del self._looking_up[key]
+            if not ended.cancelled():
+                ended.exception()
+
+        key = party_key(partner.party)
+        if key not in self._looking_up:
+            self._looking_up[key] = asyncio.ensure_future(self._look_up(partner))
+            self._looking_up[key].add_done_callback(end)
+        return await asyncio.shield(self._looking_up[key])
+
+    async def _look_up(self, partner: Partner) -> Endpoints:
+        endpoints = await self.exchange.endpoints(partner)
+        self.partners.set_endpoints(partner.party, partner.versions_url, endpoints)
+        return endpoints
 
     async def deliver(self, packet: Packet) -> None:
         """Hands a packet to the node, and once more where a stop of that lost what came of it: so what a partner does
@@ -85,19 +88,18 @@ class Client:
         except NotJson:
             log.warning("%s of %s: nested too deep", packet.kind, packet.sender)
 
-    async def _work(self, queue: Queue) -> None:
-        failures = 0
+    async def _work(self, lanes: Lanes, urgent_alone: bool) -> None:
+        """Sends one request after the other: any, or those alone that are awaited by somebody."""
         while True:
-            packet = await queue.get()
+            packet, failures = await lanes.take(urgent_alone)
+            was_answered = False
             try:
-                failures = 0 if await self._send(packet) else failures + 1
+                was_answered = await self._send(packet)
             except NodeEnded:
                 return
             except Exception:
                 log.exception("%s to %s: lost", packet.kind, packet.receiver)
-                failures += 1
-            if failures > 1:
-                await self.events.clock.sleep(min(2.0 ** min(failures - 2, 10), LONGEST_PAUSE))
+            await lanes.finish(packet, failures, was_answered)
 
     async def _send(self, packet: Packet) -> bool:
         """Sends one request. True where its partner answered, be it by an error, or where it is not asked at all."""

@@ -41,11 +41,13 @@ class Interfaces:
     """Handles what a registered partner asks for, which is `request["partner"]`."""
 
     def __init__(self, url: str, events: Events, objects: Objects, requests: Requests, locations: Locations | None,
-                 feed: Callable[[Members], Awaitable[Outcome]]) -> None:
+                 feed: Callable[[Members], Awaitable[Outcome]],
+                 takes_orders: Callable[[str], bool] = lambda party: True) -> None:
         """`locations` are those of an operator, and None at a provider. `feed` carries out an event, and goes on where
-        nobody waits any more."""
+        nobody waits any more. `takes_orders` says whether the result of one command more may wait for a partner."""
         self._url, self._events, self._clock, self._feed = url, events, events.clock, feed
         self._objects, self._requests, self._locations = objects, requests, locations
+        self._takes_orders = takes_orders
         self._patching = asyncio.Lock()
         self._under_way: dict[tuple[str, int], asyncio.Future[Outcome]] = {}
 
@@ -71,6 +73,8 @@ class Interfaces:
         kind, body = COMMAND_KINDS[request.match_info["name"]], await _members(request)
         if kind == "start_session" and request["partner"].kind == "ocpi" and not body.get("authorization_reference"):
             raise Refusal(200, INVALID, "authorization_reference: missing")
+        if not self._takes_orders(request["partner"].party):
+            raise Refusal(503, SERVER_ERROR, "too many results wait for you: send the request again")
         return await self._deliver(request, kind, body)
 
     async def post_result(self, request: web.Request) -> web.Response:
