@@ -37,6 +37,10 @@ class State:
         """Carries out a statement, and gives its rows."""
         return self._connection.execute(statement, values).fetchall()
 
+    def version(self) -> int:
+        """Another number once another process has changed the file."""
+        return int(self.query("PRAGMA data_version")[0][0])
+
     def value(self, name: str) -> str | None:
         """A single value that was kept under a name."""
         return next((value for value, in self.query("SELECT value FROM value_of WHERE name = ?", name)), None)

@@ -4,7 +4,9 @@ import subprocess
 import tempfile
 import unittest
 from collections.abc import Sequence
+from dataclasses import replace
 from pathlib import Path
+from unittest.mock import patch
 
 from aiohttp import web
 
@@ -72,6 +74,18 @@ class Tokens(unittest.TestCase):
         self.assertEqual([False, False], self.shown(running, "first", offered))
         registering.register("BE/BEC", offered, "theirs", VERSIONS_URL, {})
         self.assertEqual([None, True], self.shown(running, "first", offered))
+
+    def test_a_token_is_found_without_reading_what_is_kept_of_each_partner(self) -> None:
+        state = State(self.folder / "bridge.db")
+        self.addCleanup(state.close)
+        many = tuple(PartnerSettings(f"BE/{number:03}", "ocpi", f"token {number}", "theirs", VERSIONS_URL)
+                     for number in range(63))
+        partners = Partners(replace(configuration(self.folder, False, many[0]), partners=many), state)
+        partners.all()
+        with patch.object(state, "query", side_effect=state.query) as query:
+            self.assertEqual(["BE/007", "BE/062"], [found.party for found in map(
+                partners.by_token, ("token 7", "token 62")) if found])
+        self.assertLessEqual(query.call_count, 2)
 
     def test_endpoints_are_those_of_the_versions_that_are_known(self) -> None:
         partners = self.partners("first", "theirs")

@@ -8,7 +8,7 @@ from aiohttp import web
 from .cases import BridgeCase
 from .ocpi_objects import token
 from .ocpi_party import Received, answered
-from .running import RUN, Members, RunningBridge, operator, partner, provider
+from .running import RUN, Members, RunningBridge, free_port, operator, partner, provider
 
 
 class Registration(BridgeCase):
@@ -68,6 +68,23 @@ class Registration(BridgeCase):
         self.assertEqual((401, 200), (await self.reads_sessions(second), await self.reads_sessions(third)))
         self.assert_status(await self.provider.ask("DELETE", self.url, token=third), 200, 1000)
         self.assertEqual([401] * 3, [await self.reads_sessions(each) for each in (first, second, third)])
+
+    async def test_a_refusal_says_nothing_about_what_listens_there(self) -> None:
+        """A partner could else try the addresses of the operator's own network, one after the other."""
+        async def greets(_: asyncio.StreamReader, writer: asyncio.StreamWriter) -> None:
+            writer.write(b"SSH-2.0-OpenSSH_9.2\r\n")
+            writer.close()
+        other = await asyncio.start_server(greets, "127.0.0.1", 0)
+        self.addCleanup(other.close)
+        nobody, admin = free_port(), self.bridge.addresses["admin"]
+        port = other.sockets[0].getsockname()[1]
+        said = set()
+        for url in (f"127.0.0.1:{nobody}", f"127.0.0.1:{port}", f"{admin}/partners"):
+            credentials = {**self.provider.credentials(), "url": f"http://{url}"}
+            reply = await self.provider.ask("POST", self.url, credentials)
+            self.assert_refused(reply, 3001)
+            said.add(reply.members["status_message"])
+        self.assertEqual(1, len(said), said)
 
     async def test_what_was_agreed_stands_after_a_restart(self) -> None:
         first = self.provider.bridge_token

@@ -8,6 +8,7 @@ This bridge registers at a partner beside the one that runs, over the same state
 A loss before the last step leaves what was there before, and an offer that a next attempt replaces. Where it lay behind
 the third, the partner's owner has to give away another token.
 """
+import logging
 import sys
 from dataclasses import replace
 
@@ -27,6 +28,8 @@ PROVIDER_MODULES = (("commands", "SENDER"), ("sessions", "RECEIVER"), ("cdrs", "
 LOOK_UP_SECONDS = 8.0
 UNUSABLE = 3001
 UNSUPPORTED_VERSION = 3002
+
+log = logging.getLogger(__name__)
 
 
 class Credentials:
@@ -61,8 +64,10 @@ class Credentials:
         try:
             endpoints = await self._exchange.clock.within(LOOK_UP_SECONDS, self._exchange.endpoints(told))
         except (NoResponse, TimeoutError) as fault:
+            # What answers there, if anything, is for the owner alone: it may stand in the owner's own network.
+            log.warning("credentials of %s: url: %s", partner.party, str(fault) or "no response in time")
             status_code = UNSUPPORTED_VERSION if isinstance(fault, OtherVersions) else UNUSABLE
-            raise Refusal(200, status_code, f"url: {str(fault) or 'no response in time'}") from None
+            raise Refusal(200, status_code, f"url: no OCPI {VERSION} was found there") from None
         current = self._partners.by_token(partner.token or "")
         if current is None or current.is_registered != partner.is_registered:
             raise Refusal(405, INVALID, "another request has registered meanwhile")

@@ -9,13 +9,16 @@ from .objects import Objects, Part
 
 
 class Locations:
-    """Makes the locations anew whenever they are asked for, and keeps since when each is as it is."""
+    """Makes what is asked for anew each time, and keeps since when each place is as it is."""
 
     def __init__(self, state: State, clock: Clock, objects: Objects, party: str, site: Members,
                  evse_status: Callable[[str], str | None]) -> None:
         """`evse_status` tells OUTOFORDER or INOPERATIVE of the uid of an EVSE, or None where it may be used."""
         self._state, self._clock, self._objects = state, clock, objects
         self._party, self._site, self._evse_status = party, site, evse_status
+        self._setups = {location["id"].upper(): location for location in site["locations"]}
+        self._evse_setups = {(name, evse["uid"].upper()): evse for name, location in self._setups.items()
+                             for evse in location["evses"]}
 
     def all(self) -> list[Members]:
         """All locations, by `last_updated` and then by id."""
@@ -30,14 +33,18 @@ class Locations:
         return len(found), found[part.offset:part.offset + part.limit]
 
     def find(self, *identifiers: str) -> Members | None:
-        """A location, or an EVSE of one, or a connector of that, by their ids."""
-        part: Members = {"locations": self.all()}
-        for members, own, identifier in zip(("locations", "evses", "connectors"), ("id", "uid", "id"), identifiers):
-            found = [one for one in part[members] if one[own].upper() == identifier.upper()]
-            if not found:
-                return None
-            part = found[0]
-        return part
+        """A location, or an EVSE of one, or a connector of that, by their ids. No other is made."""
+        names = [identifier.upper() for identifier in identifiers]
+        location, evse = self._setups.get(names[0]), self._evse_setups.get((names[0], (*names, "")[1]))
+        if location is None or len(names) > 1 and evse is None:
+            return None
+        with self._state.transaction():
+            if len(names) == 1 or evse is None:
+                return self._location(location)
+            found = self._evse(location["id"], evse)
+        if len(names) == 2:
+            return found
+        return next((connector for connector in found["connectors"] if connector["id"].upper() == names[2]), None)
 
     def _location(self, setup: Members) -> Members:
         """A location: members that no node reads are as they stand in the setup."""

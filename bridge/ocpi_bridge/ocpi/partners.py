@@ -2,14 +2,15 @@
 
 What registering gave is kept in the state, and goes before the configuration, also when the registration has ended. A
 token of the configuration that no registration used up yet lets its partner register, also once more: so whoever lost
-tokens on the way begins again with a new one. All is read anew at each use, as another process may register.
+tokens on the way begins again with a new one. All of it is in memory, and read anew where anybody changed the state, as
+another process may register.
 """
-import hmac
+import hashlib
 import secrets
 from collections.abc import Mapping
-from dataclasses import asdict, dataclass, field
+from dataclasses import asdict, dataclass, field, replace
 
-from ..configuration import Configuration
+from ..configuration import Configuration, PartnerSettings
 from ..json_text import Members, read_json, write_json
 from ..parties import party_key
 from ..state import State
@@ -37,29 +38,51 @@ class Partners:
     def __init__(self, configuration: Configuration, state: State) -> None:
         self._settings = {party_key(settings.party): settings for settings in configuration.partners}
         self._state = state
+        # Which version of the state was read: what it says of each partner, and whom each token shows.
+        self._version: int | None = None
+        self._partners: dict[str, Partner] = {}
+        self._shown: dict[bytes, Partner] = {}
+        # Tokens are looked up by a digest that nobody else can make: so how long that takes tells nothing of them.
+        self._secret = secrets.token_bytes(32)
 
     def by_token(self, token: str) -> Partner | None:
         """The partner that presents a token. Takes as long whichever it is, and whether it is one at all."""
-        found = None
-        for key, settings in self._settings.items():
-            partner, kept = self.of(key), self._kept(key)
-            unused = None if kept.get("used", settings.token) == settings.token else settings.token
-            registering = Partner(settings.party, settings.kind, token)
-            for known, shown in (partner.token, partner), (kept.get("offer"), registering), (unused, registering):
-                if known and hmac.compare_digest(known.encode(), token.encode("utf-8", "surrogatepass")):
-                    found = shown
-        return found
+        self._read()
+        return self._shown.get(self._digest(token))
 
     def of(self, party: str) -> Partner:
         """The partner of a party. Raises KeyError where the configuration has none."""
-        settings = self._settings[party_key(party)]
-        known: Members = {**asdict(settings), **self._kept(party)}
+        self._read()
+        return self._partners[party_key(party)]
+
+    def all(self) -> list[Partner]:
+        self._read()
+        return list(self._partners.values())
+
+    def _digest(self, token: str) -> bytes:
+        return hashlib.blake2b(token.encode("utf-8", "surrogatepass"), key=self._secret).digest()
+
+    def _read(self) -> None:
+        """Reads the state, where it has changed."""
+        version = self._state.version()
+        if version == self._version:
+            return
+        self._partners, self._shown = {}, {}
+        for key, settings in self._settings.items():
+            kept = self._kept(key)
+            partner = self._partners[key] = self._partner(settings, kept)
+            unused = None if kept.get("used", settings.token) == settings.token else settings.token
+            registering = Partner(settings.party, settings.kind)
+            for known, shown in (partner.token, partner), (kept.get("offer"), registering), (unused, registering):
+                if known:
+                    self._shown[self._digest(known)] = replace(shown, token=known)
+        self._version = version
+
+    def _partner(self, settings: PartnerSettings, kept: Members) -> Partner:
+        known: Members = {**asdict(settings), **kept}
         listed = known.get("endpoints", []) if known.get("details_of") == known["versions_url"] else []
         return Partner(settings.party, settings.kind, known["token"], known["their_token"], known["versions_url"],
                        {(module, role): url for module, role, url in listed}, known["their_token"] is not None)
-
-    def all(self) -> list[Partner]:
-        return [self.of(key) for key in self._settings]
 
     def register(self, party: str, token: str, their_token: str | None, versions_url: str | None,
                  endpoints: Endpoints) -> None:
@@ -87,5 +110,6 @@ class Partners:
         return kept
 
     def _keep(self, party: str, **members: object) -> None:
+        self._version = None
         with self._state.transaction():
             self._state.set_value(f"partner {party_key(party)}", write_json({**self._kept(party), **members}))
