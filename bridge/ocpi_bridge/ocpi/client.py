@@ -24,6 +24,9 @@ from .partners import Endpoints, Partner, Partners
 from .requests import NODES_URL, RESULTS_PATH, Requests, number_in, number_of
 
 ONCE = ("start_session", "reserve_now", "stop_session")
+# Of HTTP: what says nothing about the request itself.
+TRANSIENT = (401, 408, 429)
+REFUSED_BILL = ": the bill is not taken there, as where another of that session is held"
 
 log = logging.getLogger(__name__)
 
@@ -80,13 +83,15 @@ class Client:
         self.partners.set_endpoints(partner.party, partner.versions_url, endpoints)
         return endpoints
 
-    async def deliver(self, packet: Packet) -> None:
+    async def deliver(self, packet: Packet) -> Outcome | None:
         """Hands a packet to the node, and once more where a stop of that lost what came of it: so what a partner does
-        not send again is kept in the state too. Raises NodeEnded where the bridge ends before."""
+        not send again is kept in the state too. None where it is none. Raises NodeEnded where the bridge ends before.
+        """
         try:
-            await repeated(lambda: self._feed(self.events.deliver(packet)))
+            return await repeated(lambda: self._feed(self.events.deliver(packet)))
         except NotJson:
             log.warning("%s of %s: nested too deep", packet.kind, packet.sender)
+            return None
 
     async def _work(self, lanes: Lanes, urgent_alone: bool) -> None:
         """Sends one request after the other: any, or those alone that are awaited by somebody."""
@@ -94,6 +99,7 @@ class Client:
             packet, failures = await lanes.take(urgent_alone)
             was_answered = False
             try:
+                await self.exchange.rest(self.partners.of(packet.receiver))
                 was_answered = await self._send(packet)
             except NodeEnded:
                 return
@@ -122,19 +128,23 @@ class Client:
         except NoResponse as fault:
             if once and isinstance(fault, NotSent):
                 self._state.query("DELETE FROM value_of WHERE name = ?", name)
+            if isinstance(fault, NotSent) and not isinstance(fault, NoAddress) and packet.kind != "command_result":
+                self.partners.set_endpoints(partner.party, partner.versions_url, {})
             log.warning("%s to %s: lost, %s", packet.kind, partner.party, fault)
             return isinstance(fault, NoAddress)
         if response.status == 404 and packet.kind != "authorize":
             self.partners.set_endpoints(partner.party, partner.versions_url, {})
         answer = answer_of(packet, partner.kind, response, self.events.clock)
         if answer is None or answer.body["status_code"] != SUCCESS:
-            log.warning("%s to %s: HTTP %d, status_code %s", packet.kind, partner.party, response.status,
-                        response.body.get("status_code"))
+            log.warning("%s to %s (%s/%d, %s/%d): HTTP %d, status_code %s%s%s", packet.kind, partner.party,
+                        packet.sender, packet.serial, packet.sender, packet.request, response.status,
+                        response.body.get("status_code"), f": {url}" if answer is None else "",
+                        REFUSED_BILL if packet.kind == "post_cdr" and answer is not None else "")
         if answer is not None:
             if once:
                 self._state.set_value(name, write_json(answer.members()))
             await self.deliver(answer)
-        return response.status < 500
+        return response.status < 500 and response.status not in TRANSIENT
 
     async def _request(self, packet: Packet, partner: Partner) -> tuple[str, Members | None]:
         """The URL and the body of the request that a packet is. Raises NoResponse."""
@@ -149,19 +159,21 @@ class Client:
             return url, {"result": body["result"]}
         if packet.kind in COMMANDS:
             body = {**body, "response_url": self._url + RESULTS_PATH + body["response_url"].rpartition("/")[2]}
-        address = await self.endpoint(partner, form.module, form.role) + path_of(form.path, body)
+        address, path = await self.endpoint(partner, form.module, form.role), path_of(form.path, body)
+        address = address.rstrip("/") + path if path else address
         return address, body.get("location") if packet.kind == "authorize" else body
 
 
 def answer_of(packet: Packet, kind: str, response: Response, clock: Clock) -> Packet | None:
     """The packet by which a partner of a kind answers a request. None where it is lost.
 
-    A 4xx to a question about a token is an answer: who gives it is not offline. A partner of kind `node` tells the
-    serial of its node's packet. Without one its bridge has answered, which counts only as the refusal of a question.
+    A 4xx to a question about a token is an answer, but for one that says nothing of the token: who gives it is not
+    offline. A partner of kind `node` tells the serial of its node's packet. Without one its bridge has answered, which
+    counts only as the refusal of a question.
     """
     question, answering = packet.kind == "authorize", FORMS[packet.kind].answer
     status_code, data = response.body.get("status_code"), response.body.get("data")
-    if question and 400 <= response.status < 500:
+    if question and 400 <= response.status < 500 and response.status not in TRANSIENT:
         status_code = INVALID
     elif response.status >= 300 or not isinstance(status_code, int):
         return None

@@ -1,8 +1,10 @@
 """One HTTP request to a partner and its response, bounded in time and in size, and what a partner's versions list."""
+import logging
 import uuid
 from collections.abc import Mapping
 from contextlib import suppress
 from dataclasses import dataclass
+from email.utils import parsedate_to_datetime
 from urllib.parse import quote
 
 import aiohttp
@@ -20,6 +22,11 @@ MOST_BYTES = 1_000_000
 VERSION = "2.2.1"
 # The characters that a URL may have as they are. All others are percent-encoded.
 PLAIN = "!#$%&'()*+,/:;=?@[]~"
+# What a partner means that answers so: not now. The longest time in seconds for which it is then left alone.
+NOT_NOW = (429, 503)
+LONGEST_REST = 3600.0
+
+log = logging.getLogger(__name__)
 
 
 class NoResponse(Exception):
@@ -62,7 +69,9 @@ class Exchange:
     def __init__(self, clock: Clock, metrics: Metrics) -> None:
         self.clock = clock
         self._metrics = metrics
+        # The address of the details that were lost once, by that of the versions, and when each partner may be asked.
         self._details: dict[str, str] = {}
+        self._rested_at: dict[str, float] = {}
         # A connection is kept for a few seconds alone: one that the partner ends meanwhile would lose a request.
         self._session = aiohttp.ClientSession(
             connector=aiohttp.TCPConnector(limit=0, keepalive_timeout=3), cookie_jar=aiohttp.DummyCookieJar(),
@@ -80,31 +89,56 @@ class Exchange:
         status = "lost"
         sent = {"Authorization": authorization(partner.their_token), "Accept-Encoding": "identity",
                 "X-Request-ID": str(uuid.uuid4()), "X-Correlation-ID": str(uuid.uuid4()), **(headers or {})}
+        ids = f"({sent['X-Request-ID']}, {sent['X-Correlation-ID']})"
+        # The URL may have a driver's token: it is told where a request is lost alone.
+        asked = f"{method} {url} {ids}"
         try:
             response = await self.clock.within(SECONDS, self._ask(method, url, sent, body))
             status = str(response.status)
+            self._note_rest(partner, response)
+            log.info("to %s: %s %s: %s", partner.party, method, ids, status)
             return response
+        except aiohttp.ClientConnectorCertificateError as fault:
+            raise NotSent(f"its certificate is not trusted: {fault.certificate_error}: {asked}") from None
         except (aiohttp.ClientConnectorError, aiohttp.ServerTimeoutError) as fault:
-            raise NotSent(f"no connection: {getattr(fault, 'strerror', None) or 'not in time'}") from None
+            words = getattr(fault, "strerror", None) or "not in time"
+            raise NotSent(f"no connection: {words}: {asked}") from None
+        except NoResponse as fault:
+            raise type(fault)(f"{fault}: {asked}") from None
         except (aiohttp.ClientError, TimeoutError, OSError, ValueError) as fault:
-            raise NoResponse(f"no response: {type(fault).__name__}") from None
+            raise NoResponse(f"no response: {type(fault).__name__}: {asked}") from None
         finally:
             self._metrics.count("ocpi_http_requests_total", partner=partner.party, direction="out", status=status)
+
+    def _note_rest(self, partner: Partner, response: Response) -> None:
+        """Keeps until when a partner wants to be left alone, where it says so."""
+        after = response.headers.get("Retry-After", "")
+        if response.status in NOT_NOW and after:
+            seconds = float(after) if after.isdecimal() else 0.0
+            with suppress(ValueError, OverflowError):
+                seconds = seconds or parsedate_to_datetime(after).timestamp() - self.clock.seconds()
+            self._rested_at[partner.party] = self.clock.seconds() + min(seconds, LONGEST_REST)
+
+    async def rest(self, partner: Partner) -> None:
+        """Waits until a partner may be asked, where it said `Retry-After`."""
+        while (seconds := self._rested_at.get(partner.party, 0.0) - self.clock.seconds()) > 0:
+            await self.clock.sleep(seconds)
 
     async def endpoints(self, partner: Partner) -> Endpoints:
         """Where the modules of a partner stand in its OCPI 2.2.1. Raises NoResponse.
 
-        Where the answer of its details is lost, the next call asks for these alone: a bad link has two requests less
-        often answered one behind the other.
+        Where the answer of its details is lost, the next call asks for these alone, once: a bad link has two requests
+        less often answered one behind the other.
         """
         versions_url = partner.versions_url or ""
-        if versions_url not in self._details:
+        address = self._details.pop(versions_url, None)
+        if address is None:
             versions = await self.ask(partner, "GET", versions_url)
             urls = [one["url"] for one in objects_of(versions.data, "version", "url") if one["version"] == VERSION]
             if not urls:
                 raise OtherVersions(f"its versions list no {VERSION}")
-            self._details[versions_url] = urls[0]
-        details = await self.ask(partner, "GET", self._details[versions_url])
+            address = self._details[versions_url] = urls[0]
+        details = await self.ask(partner, "GET", address)
         self._details.pop(versions_url, None)
         listed = details.data.get("endpoints") if isinstance(details.data, dict) else None
         return {(one["identifier"], one["role"]): one["url"] for one in objects_of(listed, "identifier", "role", "url")}

@@ -73,6 +73,13 @@ class Objects:
                                       party_key(party), identifier.upper(), token_type if module == "tokens" else "")),
                     None)
 
+    def other_bill(self, bill: Members) -> Members | None:
+        """A bill that is held and that another one contradicts: one of its id, or of its session."""
+        bills = self._bodies("module = 'cdrs' AND party = ? AND (identifier = ? OR "
+                             "upper(json_extract(body, '$.session_id')) = ?)", party_key(_party(bill)),
+                             str(bill["id"]).upper(), str(bill.get("session_id")).upper())
+        return next((held for held in bills if held != bill), None)
+
     def page(self, module: str, partner: str, part: Part) -> tuple[int, list[Members]]:
         """How many objects a list has by its dates, and those of its part, by `last_updated` and then by id.
 

@@ -132,7 +132,8 @@ class Server:
         # The path itself may have a driver's token.
         resource = request.match_info.route.resource
         path = "unknown path" if resource is None else resource.canonical
-        logger.info("%s %s %s: %d", asking, request.method, path, response.status)
+        logger.info("%s %s %s (%.80s, %.80s): %d", asking, request.method, path,
+                    *(response.headers.get(name, "") for name in ("X-Request-ID", "X-Correlation-ID")), response.status)
 
 
 def _agree(request: web.Request, header: str, party: str) -> bool:
