@@ -17,11 +17,19 @@ CREATE INDEX IF NOT EXISTS object_of_partner ON object_of (module, partner, last
 CREATE INDEX IF NOT EXISTS object_by_time ON object_of (module, last_updated, identifier);
 CREATE INDEX IF NOT EXISTS living_session ON object_of (evse_uid)
     WHERE module = 'sessions' AND status IN ('PENDING', 'ACTIVE');
+CREATE TABLE IF NOT EXISTS refused_object (
+    module TEXT, party TEXT, identifier TEXT, token_type TEXT, last_updated INTEGER NOT NULL,
+    PRIMARY KEY (module, party, identifier, token_type)) WITHOUT ROWID;
 CREATE TABLE IF NOT EXISTS accepted_request (partner TEXT, number INTEGER, PRIMARY KEY (partner, number)) WITHOUT ROWID;
 
 -- ocpi/objects.py: Claims
 CREATE TABLE IF NOT EXISTS claim (
     evse_uid TEXT PRIMARY KEY, status TEXT NOT NULL, partner TEXT NOT NULL, name TEXT NOT NULL, until INTEGER NOT NULL);
+
+-- ocpi/pulling.py
+CREATE TABLE IF NOT EXISTS list_under_way (
+    party TEXT, module TEXT, page TEXT NOT NULL, pages INTEGER NOT NULL, latest INTEGER NOT NULL,
+    PRIMARY KEY (party, module)) WITHOUT ROWID;
 
 -- ocpi/locations.py
 CREATE TABLE IF NOT EXISTS place (name TEXT PRIMARY KEY, text TEXT NOT NULL, since TEXT NOT NULL);

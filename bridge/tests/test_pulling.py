@@ -1,9 +1,13 @@
 """Pulling: what a partner did not push is asked for page by page, once, and from where the last time ended."""
+import asyncio
 import json
+from dataclasses import replace
+from unittest.mock import patch
 from urllib.parse import unquote
 
 from aiohttp import web
 
+from ocpi_bridge.configuration import PartnerSettings
 from ocpi_bridge.events import Outcome, Packet
 from ocpi_bridge.node.feeder import OutcomeLost
 from ocpi_bridge.ocpi.exchange import NoResponse
@@ -12,14 +16,15 @@ from ocpi_bridge.ocpi.pulling import Pulling
 
 from .client_cases import ClientCase
 from .ocpi_objects import session, token
-from .ocpi_party import Received, answered
-from .running import Members
+from .ocpi_party import OcpiParty, Received, answered
+from .running import Members, eventually
 
 
 class Sessions(ClientCase):
     """A provider's bridge, and an operator whose sessions are listed two a page."""
 
     kind = "ocpi"
+    status_code = 1000
 
     def begin(self) -> None:
         super().begin()
@@ -31,7 +36,7 @@ class Sessions(ClientCase):
         await super().feed(event)
         packet = Packet.of(event["packet"])
         ack = Packet(packet.receiver, packet.sender, len(self.delivered), packet.request, "ack",
-                     {"status_code": 1000, "timestamp": "2025-01-01T10:00:00Z"})
+                     {"status_code": self.status_code, "timestamp": "2025-01-01T10:00:00Z"})
         outcome = Outcome(event, {"done": "stepped", "line": 1, "packets": 1}, (ack,))
         with self.state.transaction():
             self.objects.note(outcome)
@@ -102,9 +107,63 @@ class Sessions(ClientCase):
         with self.assertLogs("ocpi_bridge.ocpi.pulling"):
             self.assertEqual(["S1"], await self.pull())
 
+    async def test_a_turn_reads_so_far_and_the_next_one_goes_on_where_it_stopped(self) -> None:
+        self.has(0, 1, 2, 3, 4)
+        for name, most in (("PAGES_A_TURN", 2), ("SECONDS_A_TURN", -1.0)):
+            with patch(f"ocpi_bridge.ocpi.pulling.{name}", most):
+                self.assertIn(await self.pull(), (["S0", "S1", "S2", "S3"], ["S0", "S1"]))
+            # Also where the bridge is started again.
+            self.begin()
+            asked = len(self.asked("sessions"))
+            await self.pull()
+            self.assertIn("offset=", self.asked("sessions")[asked].raw_path)
+            self.assertEqual(5, len(self.objects.newest("sessions")))
+            self.configuration = replace(self.configuration, state=self.configuration.state.with_suffix(".2"))
+            self.begin()
+
+    async def test_what_the_node_refused_is_not_fed_again_until_it_changes(self) -> None:
+        self.has(0, 1)
+        self.status_code = 2001
+        with self.assertLogs("ocpi_bridge.ocpi.pulling"):
+            self.assertEqual(["S0", "S1"], await self.pull())
+        self.begin()
+        self.state.set_value("pulled sessions of BE/BEC", "0")
+        self.assertEqual([], await self.pull())
+        self.status_code = 1000
+        self.party.lists["sessions"][1] |= {"last_updated": "2025-01-01T10:05:00Z"}
+        self.assertEqual(["S1"], await self.pull())
+
     async def test_a_list_without_an_end_ends(self) -> None:
         async def endless(received: Received) -> web.StreamResponse:
             return answered([], headers={"Link": f'<{self.party.url}/2.2.1/sessions?offset=0>; rel="next"'})
         self.party.answers["sessions"] = endless
         self.assertEqual([], await self.pull())
         self.assertEqual(1, len(self.asked("sessions")))
+
+
+class TwoPartners(Sessions):
+    """The same, and another operator, whose list has no end."""
+
+    async def asyncSetUp(self) -> None:
+        self.other = OcpiParty("AT/OTR", "CPO", "their-token")
+        await self.other.start()
+        self.addAsyncCleanup(self.other.close)
+        await super().asyncSetUp()
+
+        async def endless(received: Received) -> web.StreamResponse:
+            link = f'<{self.other.url}/2.2.1/sessions?page={len(self.other.requests)}>; rel="next"'
+            return answered([session("AT/OTR", token("NL/TNM"), id="S1")], headers={"Link": link})
+        self.other.answers["sessions"] = endless
+        entry = PartnerSettings("AT/OTR", "ocpi", "another-token", "their-token", self.other.versions_url)
+        self.configuration = replace(self.configuration, partners=(entry, *self.configuration.partners))
+        self.begin()
+
+    async def test_one_does_not_wait_for_another(self) -> None:
+        self.has(0, 1, 2)
+        task = asyncio.create_task(self.pulling.run())
+        self.addCleanup(task.cancel)
+
+        async def all_came() -> bool:
+            return {"S0", "S1", "S2"} == {packet.body["id"] for packet in self.delivered if packet.sender == "BE/BEC"}
+        await eventually(all_came, "the sessions of the other partner", 5)
+        self.assertGreater(len(self.other.requests), 3)

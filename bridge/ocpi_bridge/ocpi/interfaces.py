@@ -4,7 +4,6 @@ A request that is a packet is delivered to the node, and answered by what the no
 answers by itself.
 """
 import asyncio
-import logging
 from collections.abc import Awaitable, Callable, Mapping
 from urllib.parse import unquote
 
@@ -36,8 +35,6 @@ MOST_LISTED = 1000
 MOST_UNDER_WAY = 2000
 
 Handler = Callable[[web.Request], Awaitable[web.Response]]
-
-log = logging.getLogger(__name__)
 
 
 class Interfaces:
@@ -157,7 +154,7 @@ class Interfaces:
             raise Refusal(504, SERVER_ERROR, "the answer was lost: send the request again")
         status_code, data = sent.body["status_code"], sent.body.get("data")
         if kind == "post_cdr" and status_code != SUCCESS:
-            warn_of_bill(self._objects, body)
+            self._objects.warn_of_bill(body)
         headers = {"X-Serial": str(sent.serial)}
         if kind == "post_cdr" and status_code == SUCCESS:
             headers["Location"] = f"{self._url}{RECEIVER}/cdrs{path_of(OBJECT_PATH, body)}"
@@ -196,14 +193,6 @@ class Interfaces:
             name = "X-Request-ID" if serial is None else "X-Correlation-ID"
             raise Refusal(200, INVALID, f"{name}: wanted is {partner.party}/NUMBER")
         return serial, number
-
-
-def warn_of_bill(objects: Objects, bill: Members) -> None:
-    """Warns of a bill that the node did not take, where it contradicts one that is held."""
-    held = objects.other_bill(bill)
-    if held is not None:
-        log.warning("bill %s of %s, session %s: refused, since it contradicts bill %s, which is held: ask the operator",
-                    bill["id"], party_of(bill["country_code"], bill["party_id"]), held.get("session_id"), held["id"])
 
 
 def _module(request: web.Request) -> str:

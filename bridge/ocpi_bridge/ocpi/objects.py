@@ -3,6 +3,7 @@
 While a node runs nobody else can read its rows. So the bridge keeps the newest version of each object that its node
 sent or accepted. Beside these stand the EVSEs that commands claim.
 """
+import logging
 from dataclasses import dataclass
 
 from ..clock import milliseconds_of
@@ -17,6 +18,8 @@ ACCEPTED = 1000
 LIVING = "module = 'sessions' AND status IN ('PENDING', 'ACTIVE')"
 # Milliseconds behind all moments.
 FOREVER = 2**62
+
+log = logging.getLogger(__name__)
 
 
 @dataclass(frozen=True)
@@ -73,12 +76,30 @@ class Objects:
                                       party_key(party), identifier.upper(), token_type if module == "tokens" else "")),
                     None)
 
-    def other_bill(self, bill: Members) -> Members | None:
-        """A bill that is held and that another one contradicts: one of its id, or of its session."""
+    def warn_of_bill(self, bill: Members) -> None:
+        """Warns of a bill that the node did not take, where one is held that it contradicts: of its id or session."""
         bills = self._bodies("module = 'cdrs' AND party = ? AND (identifier = ? OR "
                              "upper(json_extract(body, '$.session_id')) = ?)", party_key(_party(bill)),
                              str(bill["id"]).upper(), str(bill.get("session_id")).upper())
-        return next((held for held in bills if held != bill), None)
+        for held in [other for other in bills if other != bill][:1]:
+            log.warning("bill %s of %s, session %s: refused, since it contradicts bill %s, which is held: "
+                        "ask its operator", bill["id"], _party(bill), held.get("session_id"), held["id"])
+
+    def refuse(self, module: str, body: Members) -> None:
+        """Keeps that the node refused a version of an object."""
+        self._state.query("INSERT OR REPLACE INTO refused_object VALUES (?, ?, ?, ?, ?)", *_key(module, body),
+                          milliseconds_of(body["last_updated"]))
+
+    def has(self, module: str, body: Members) -> bool:
+        """Whether a version of an object, or a later one, is held, or whether just this one was refused.
+
+        Raises what it does where a member that it needs is none: KeyError, TypeError, ValueError, OverflowError.
+        """
+        key, updated = _key(module, body), milliseconds_of(body["last_updated"])
+        where = "module = ? AND party = ? AND identifier = ? AND token_type = ?"
+        return bool(self._state.query(
+            f"SELECT 1 FROM object_of WHERE {where} AND last_updated >= ? UNION ALL "
+            f"SELECT 1 FROM refused_object WHERE {where} AND last_updated = ?", *key, updated, *key, updated))
 
     def page(self, module: str, partner: str, part: Part) -> tuple[int, list[Members]]:
         """How many objects a list has by its dates, and those of its part, by `last_updated` and then by id.
@@ -110,6 +131,13 @@ class Objects:
 
     def _bodies(self, where: str, *values: object) -> list[Members]:
         return [read_json(body) for body, in self._state.query(f"SELECT body FROM object_of WHERE {where}", *values)]
+
+
+def _key(module: str, body: Members) -> tuple[str, str, str, str]:
+    """What an object of a module is known by."""
+    identifier = next(own for kept, own in OBJECTS.values() if kept == module)
+    return (module, party_key(_party(body)), str(body[identifier]).upper(),
+            str(body.get("type", "RFID")) if module == "tokens" else "")
 
 
 def _party(body: Members) -> str:
