@@ -10,7 +10,7 @@ from .clock import Clock
 from .configuration import Configuration, OcppSettings
 from .events import Events, Outcome
 from .listening import Listener
-from .node.feeder import Feeder
+from .node.revocable import RevocableFeeder
 from .ocpi.client import Client
 from .ocpi.credentials import Credentials
 from .ocpi.exchange import Exchange
@@ -39,7 +39,7 @@ class Bridge:
         state.set_value("clock.origin", repr(clock.origin))
         events = Events(configuration.node.party, clock)
         metrics = Metrics()
-        self._feeder = feeder = Feeder(configuration.node, events, state, metrics)
+        self._feeder = feeder = RevocableFeeder(configuration.node, events, state, metrics)
         objects = Objects(state)
         warnings = Warnings(state, objects, clock.seconds())
         feeder.before_commit += [objects.note, warnings.note]
@@ -58,7 +58,7 @@ class Bridge:
             state, clock, objects, configuration.node.party, configuration.site,
             central_system.evse_status if ocpp is not None else lambda _: None)
         interfaces = Interfaces(configuration.ocpi.url, events, objects, requests, locations, feeder.feed,
-                                self._client.takes_orders)
+                                self._client.takes_orders, feeder.revoke)
         server = Server(events, partners, Credentials(configuration, partners, exchange), interfaces, metrics)
         admin = Admin(configuration, state, events, feeder, objects, partners, metrics, locations, central_system,
                       self._client.takes_orders)

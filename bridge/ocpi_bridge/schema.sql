@@ -2,9 +2,12 @@
 
 CREATE TABLE IF NOT EXISTS value_of (name TEXT PRIMARY KEY, value TEXT NOT NULL);
 
--- ocpi/requests.py
+-- ocpi/requests.py (request_number is read alone: an earlier bridge wrote it)
 CREATE TABLE IF NOT EXISTS request_number (
     partner TEXT, correlation TEXT, number INTEGER NOT NULL, PRIMARY KEY (partner, correlation)) WITHOUT ROWID;
+CREATE TABLE IF NOT EXISTS request_digest (
+    partner TEXT, correlation TEXT, digest BLOB, number INTEGER NOT NULL,
+    PRIMARY KEY (partner, correlation, digest)) WITHOUT ROWID;
 CREATE TABLE IF NOT EXISTS response_url (
     partner TEXT, number INTEGER, url TEXT NOT NULL, PRIMARY KEY (partner, number)) WITHOUT ROWID;
 

@@ -16,7 +16,7 @@ from ocpi_bridge.clock import Clock
 from ocpi_bridge.configuration import Configuration, NodeSettings, OcpiSettings, PartnerSettings
 from ocpi_bridge.events import Events, Outcome
 from ocpi_bridge.json_text import write_json
-from ocpi_bridge.node.feeder import Feeder
+from ocpi_bridge.node.revocable import RevocableFeeder
 from ocpi_bridge.ocpi.credentials import Credentials
 from ocpi_bridge.ocpi.envelope import authorization
 from ocpi_bridge.ocpi.exchange import Exchange
@@ -54,6 +54,7 @@ class ServerCase(unittest.IsolatedAsyncioTestCase):
     party = "BE/BEC"
     node_partner = "NL/TNM"
     ocpi_partner = "DE/EVC"
+    takes_orders = True
 
     async def asyncSetUp(self) -> None:
         folder = Path(self.enterContext(tempfile.TemporaryDirectory()))
@@ -77,7 +78,7 @@ class ServerCase(unittest.IsolatedAsyncioTestCase):
         await self._start()
 
     async def _start(self) -> None:
-        self.feeder = Feeder(self.configuration.node, self.events, self.state, self.metrics)
+        self.feeder = RevocableFeeder(self.configuration.node, self.events, self.state, self.metrics)
         self.objects = Objects(self.state)
         self.requests = Requests(self.state)
         self.feeder.before_commit.append(self.objects.note)
@@ -95,7 +96,8 @@ class ServerCase(unittest.IsolatedAsyncioTestCase):
         self.unusable: dict[str, str] = {}
         locations = None if site is None else Locations(
             self.state, self.clock, self.objects, self.party, site, self.unusable.get)
-        interfaces = Interfaces(URL_OF_BRIDGE, self.events, self.objects, self.requests, locations, self.feed)
+        interfaces = Interfaces(URL_OF_BRIDGE, self.events, self.objects, self.requests, locations, self.feed,
+                                lambda party: self.takes_orders, self.feeder.revoke)
         credentials = Credentials(self.configuration, partners, exchange)
         application = Server(self.events, partners, credentials, interfaces, self.metrics).application()
         # What the server feeds by: tests put another thing in its place.

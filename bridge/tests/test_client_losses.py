@@ -156,5 +156,5 @@ class Bills(ProviderCase):
         await self.operator.ask("POST", url, cdr(self.operator.party, self.token, "S1"), correlation="correlation-17",
                                 headers={"X-Request-ID": "request-17"})
         log = self.bridge.log()
-        self.assertRegex(log, r"BE/PLO POST .*request-17, correlation-17.*: 200")
+        self.assertRegex(log, r"BE/PLO POST .*: 200 \(request-17, correlation-17\)")
         self.assertRegex(log, r"to BE/PLO: PUT \(NL/TNM/\d+, NL/TNM/\d+\): 200")

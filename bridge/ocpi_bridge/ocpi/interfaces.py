@@ -5,6 +5,8 @@ answers by itself.
 """
 import asyncio
 from collections.abc import Awaitable, Callable, Mapping
+from dataclasses import dataclass
+from functools import partial
 from urllib.parse import unquote
 
 from aiohttp import web
@@ -19,7 +21,7 @@ from .locations import Locations
 from .objects import FOREVER, OBJECTS, Objects, Part
 from .packets import COMMANDS, OBJECT_PATH, path_of
 from .partners import Partner
-from .requests import NODES_URL, RESULTS_PATH, Requests, number_in, number_of
+from .requests import NODES_URL, RESULTS_PATH, Requests, digest_of, number_in, number_of
 
 COMMAND_KINDS = {name: kind for kind, name in COMMANDS.items()}
 OBJECT_KINDS = {module: kind for kind, (module, _) in OBJECTS.items()}
@@ -37,19 +39,30 @@ MOST_UNDER_WAY = 2000
 Handler = Callable[[web.Request], Awaitable[web.Response]]
 
 
+@dataclass
+class UnderWay:
+    """A request that was fed, and by how many who sent it its outcome is awaited."""
+
+    event: Members
+    outcome: "asyncio.Future[Outcome]"
+    awaiting: int = 0
+
+
 class Interfaces:
     """Handles what a registered partner asks for, which is `request["partner"]`."""
 
     def __init__(self, url: str, events: Events, objects: Objects, requests: Requests, locations: Locations | None,
                  feed: Callable[[Members], Awaitable[Outcome]],
-                 takes_orders: Callable[[str], bool] = lambda party: True) -> None:
+                 takes_orders: Callable[[str], bool] = lambda party: True,
+                 revoke: Callable[[Members], bool] = lambda event: False) -> None:
         """`locations` are those of an operator, and None at a provider. `feed` carries out an event, and goes on where
-        nobody waits any more. `takes_orders` says whether the result of one command more may wait for a partner."""
+        nobody waits any more, unless `revoke` takes the event back, which tells whether it could. `takes_orders` says
+        whether the result of one command more may wait for a partner."""
         self._url, self._events, self._clock, self._feed = url, events, events.clock, feed
         self._objects, self._requests, self._locations = objects, requests, locations
-        self._takes_orders = takes_orders
+        self._takes_orders, self._revoke = takes_orders, revoke
         self._patching = asyncio.Lock()
-        self._under_way: dict[tuple[str, int], asyncio.Future[Outcome]] = {}
+        self._under_way: dict[tuple[str, int], UnderWay] = {}
 
     def routes(self) -> list[web.RouteDef]:
         """The routes of an operator or of a provider."""
@@ -104,7 +117,7 @@ class Interfaces:
             raise Refusal(200, INVALID, "last_updated: missing")
         async with self._patching:
             party = party_key(request["partner"].party)
-            if before := [fed for key, fed in self._under_way.items() if key[0] == party]:
+            if before := [fed.outcome for key, fed in self._under_way.items() if key[0] == party]:
                 await asyncio.wait(before)
             return await self._deliver(request, OBJECT_KINDS[_module(request)], {**self._held(request), **changes})
 
@@ -138,7 +151,7 @@ class Interfaces:
     async def _deliver(self, request: web.Request, kind: str, body: Members) -> web.Response:
         """Delivers a packet of a kind and a body, and answers as the node does. Raises Refusal."""
         partner: Partner = request["partner"]
-        serial, number = self._numbers(request.headers, partner)
+        serial, number = await self._numbers(request, partner)
         url = body.get("response_url")
         if kind in COMMANDS and partner.kind == "node" and isinstance(url, str) and len(url) <= LONGEST_URL:
             self._requests.keep_url(partner.party, number, url)
@@ -167,26 +180,38 @@ class Interfaces:
 
     async def _carry_out(self, key: tuple[str, int], event: Members) -> Outcome:
         """Feeds the request of a party and a number. One that comes again meanwhile waits for the same outcome, so
-        that repeats do not add to what keeps a node busy. Raises Refusal where too many wait."""
-        def end(ended: asyncio.Future[Outcome]) -> None:
-            del self._under_way[key]
-            if not ended.cancelled():
-                ended.exception()
-
+        that repeats do not add to what keeps a node busy. One that nobody awaits any more is revoked, if it can be:
+        who asked was told that it was not done. Raises Refusal where too many wait."""
         if key not in self._under_way:
             if len(self._under_way) >= MOST_UNDER_WAY:
                 raise Refusal(503, SERVER_ERROR, "the node is busy: send the request again")
-            self._under_way[key] = asyncio.ensure_future(self._feed(event))
-            self._under_way[key].add_done_callback(end)
-        return await asyncio.shield(self._under_way[key])
+            self._under_way[key] = UnderWay(event, asyncio.ensure_future(self._feed(event)))
+            self._under_way[key].outcome.add_done_callback(partial(self._end, key))
+        fed = self._under_way[key]
+        fed.awaiting += 1
+        try:
+            return await asyncio.shield(fed.outcome)
+        finally:
+            fed.awaiting -= 1
+            if not fed.awaiting and not fed.outcome.done() and self._revoke(fed.event):
+                self._end(key, fed.outcome)
 
-    def _numbers(self, headers: Mapping[str, str], partner: Partner) -> tuple[int, int]:
+    def _end(self, key: tuple[str, int], outcome: asyncio.Future[Outcome]) -> None:
+        """Forgets a request that is under way no more."""
+        if key in self._under_way and self._under_way[key].outcome is outcome:
+            del self._under_way[key]
+        if outcome.done() and not outcome.cancelled():
+            outcome.exception()
+
+    async def _numbers(self, request: web.Request, partner: Partner) -> tuple[int, int]:
         """The serial and the number of a request."""
+        headers = request.headers
         correlation = headers.get("X-Correlation-ID", "")
         if not is_printable(correlation):
             raise Refusal(200, INVALID, "X-Correlation-ID: wanted are characters of printable ASCII")
         if partner.kind == "ocpi":
-            return 0, self._requests.number(partner.party, correlation or None)
+            asked = f"{request.method} {request.rel_url.raw_path_qs}"
+            return 0, self._requests.number(partner.party, correlation or None, digest_of(asked, await request.read()))
         serial = number_in(headers.get("X-Request-ID", ""), partner.party)
         number = number_in(correlation, partner.party)
         if serial is None or number is None:

@@ -1,4 +1,7 @@
 """The numbers of requests, and the addresses to which results of commands are posted."""
+import hashlib
+import json
+import logging
 import re
 
 from ..parties import party_key, same_party
@@ -8,6 +11,8 @@ from ..state import State
 NODES_URL = "https://node.invalid/"
 RESULTS_PATH = "/ocpi/2.2.1/sender/commands/results/"
 
+log = logging.getLogger(__name__)
+
 
 class Requests:
     """Kept in the state, so that a request that comes again after a stop has the number and the address of before."""
@@ -15,23 +20,36 @@ class Requests:
     def __init__(self, state: State) -> None:
         self._state = state
 
-    def number(self, partner: str, correlation: str | None = None) -> int:
-        """The number of a request of a partner that is no such node: a correlation id always has the same one.
+    def number(self, partner: str, correlation: str | None = None, digest: bytes = b"") -> int:
+        """The number of a request of a partner that is no such node: a correlation id over a digest always has the
+        same one.
 
-        Without a correlation id it is new. Numbers rise. It is committed when this returns, or with the transaction
-        in which it is called.
+        Another digest under the id is another request, which OCPI does not know: so that is warned of. Without a
+        correlation id the number is new. Numbers rise. It is committed when this returns, or with the transaction in
+        which it is called.
         """
         with self._state.transaction():
-            rows = self._state.query("SELECT number FROM request_number WHERE partner = ? AND correlation = ?",
-                                     party_key(partner), correlation)
+            if correlation is None:
+                return self._new()
+            key = party_key(partner), correlation
+            where = "FROM request_digest WHERE partner = ? AND correlation = ?"
+            rows = self._state.query(f"SELECT number {where} AND digest = ?", *key, digest)
             if rows:
                 return int(rows[0][0])
-            number = int(self._state.value("last_request") or "0") + 1
-            self._state.set_value("last_request", str(number))
-            if correlation is not None:
-                self._state.query("INSERT INTO request_number VALUES (?, ?, ?)",
-                                  party_key(partner), correlation, number)
+            others = self._state.query(f"SELECT number {where} LIMIT 1", *key)
+            if others:
+                log.warning("%s: X-Correlation-ID %.80s is that of another request too", partner, correlation)
+            # An earlier bridge kept the numbers without digests.
+            old = [] if others else self._state.query("SELECT number FROM request_number WHERE partner = ?"
+                                                    " AND correlation = ?", *key)
+            number = int(old[0][0]) if old else self._new()
+            self._state.query("INSERT INTO request_digest VALUES (?, ?, ?, ?)", *key, digest, number)
             return number
+
+    def _new(self) -> int:
+        number = int(self._state.value("last_request") or "0") + 1
+        self._state.set_value("last_request", str(number))
+        return number
 
     def keep_url(self, partner: str, number: int, url: str) -> None:
         """Keeps the address that a partner of kind `node` gave for the result of its request of that number."""
@@ -42,6 +60,15 @@ class Requests:
         rows = self._state.query("SELECT url FROM response_url WHERE partner = ? AND number = ?",
                                  party_key(partner), number)
         return rows[0][0] if rows else None
+
+
+def digest_of(asked: str, body: bytes) -> bytes:
+    """What tells a request from another: method, path and body, in whatever order its members stand."""
+    try:
+        body = json.dumps(json.loads(body), sort_keys=True).encode()
+    except (ValueError, RecursionError):
+        pass
+    return hashlib.blake2b(f"{asked}\n".encode() + body, digest_size=16).digest()
 
 
 def number_of(text: str) -> int | None:

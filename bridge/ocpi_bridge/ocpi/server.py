@@ -22,6 +22,7 @@ logger = logging.getLogger(__name__)
 # What a partner that is not registered may ask for too. Their messages have no routing headers.
 VERSIONS, DETAILS, CREDENTIALS = "/ocpi/versions", "/ocpi/2.2.1", "/ocpi/2.2.1/credentials"
 CONFIGURATION_PATHS = (VERSIONS, DETAILS, CREDENTIALS)
+IDS = ("X-Request-ID", "X-Correlation-ID")
 LARGEST_BODY = 1_000_000
 # Requests with larger bodies than OCPI's usually are: so many at once are read and carried out, the others wait.
 LARGE_BODY, MOST_LARGE = 8_192, 8
@@ -122,7 +123,7 @@ class Server:
     def _complete(self, request: web.Request, response: web.StreamResponse) -> None:
         """Adds the headers that each response has, and tells metrics and log of it."""
         partner: Partner | None = request.get("partner")
-        for name in ("X-Request-ID", "X-Correlation-ID"):
+        for name in IDS:
             if is_printable(request.headers.get(name, "\n")):
                 response.headers[name] = request.headers[name]
         if partner is not None and request.path not in CONFIGURATION_PATHS:
@@ -132,8 +133,8 @@ class Server:
         # The path itself may have a driver's token.
         resource = request.match_info.route.resource
         path = "unknown path" if resource is None else resource.canonical
-        logger.info("%s %s %s (%.80s, %.80s): %d", asking, request.method, path,
-                    *(response.headers.get(name, "") for name in ("X-Request-ID", "X-Correlation-ID")), response.status)
+        ids = ", ".join(response.headers[name][:80] for name in IDS if name in response.headers)
+        logger.info("%s %s %s: %d%s", asking, request.method, path, response.status, f" ({ids})" if ids else "")
 
 
 def _agree(request: web.Request, header: str, party: str) -> bool:
