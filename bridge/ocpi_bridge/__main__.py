@@ -3,6 +3,7 @@ import argparse
 import asyncio
 import resource
 import sys
+from getpass import getpass
 from pathlib import Path
 
 from .application import run
@@ -16,8 +17,9 @@ def main() -> int:
     parser = argparse.ArgumentParser("ocpi_bridge", description="A node behind OCPI 2.2.1 and OCPP 1.6.")
     parser.add_argument("configuration", metavar="CONFIG", type=Path, help="the configuration, a JSON file")
     parser.add_argument("--json-logs", action="store_true", help="write logs as JSON, an object a line")
-    parser.add_argument("--register", nargs=3, metavar=("PARTY", "URL", "TOKEN"),
-                        help="register at a partner, whose versions stand at URL, by its TOKEN, and end")
+    parser.add_argument("--register", nargs=2, metavar=("PARTY", "URL"),
+                        help="register at a partner, whose versions stand at URL, by its token, and end: standard "
+                             "input has the token")
     words = parser.parse_args()
     most_files = resource.getrlimit(resource.RLIMIT_NOFILE)[1]
     resource.setrlimit(resource.RLIMIT_NOFILE, (most_files, most_files))
@@ -27,7 +29,11 @@ def main() -> int:
     except WrongConfiguration as wrong:
         print(wrong, file=sys.stderr)
         return 2
-    return asyncio.run(register(configuration, *words.register) if words.register else run(configuration))
+    if words.register is None:
+        return asyncio.run(run(configuration))
+    party, url = words.register
+    token = getpass("token: ") if sys.stdin.isatty() else sys.stdin.readline().strip()
+    return asyncio.run(register(configuration, party, url, token))
 
 
 sys.exit(main())

@@ -110,8 +110,9 @@ class TwoBridges(BridgeCase):
 
     async def register(self, url: str, with_token: str) -> "subprocess.CompletedProcess[str]":
         """Has the provider register at the operator."""
-        words = [str(RUN), str(self.provider.folder / "bridge.json"), "--register", "BE/BEC", url, with_token]
-        return await asyncio.to_thread(subprocess.run, words, capture_output=True, text=True, timeout=60)
+        words = [str(RUN), str(self.provider.folder / "bridge.json"), "--register", "BE/BEC", url]
+        return await asyncio.to_thread(subprocess.run, words, input=with_token + "\n", capture_output=True, text=True,
+                                       timeout=60)
 
     async def assert_it_is_used(self) -> None:
         """Sees that a token of the provider reaches the operator, and is acknowledged."""

@@ -65,7 +65,7 @@ class Registration(BridgeCase):
         reply = await self.provider.ask("PUT", self.url, self.provider.credentials())
         self.assert_status(reply, 200, 1000)
         third = str(reply.data["token"])
-        self.assertEqual((401, 200), (await self.reads_sessions(second), await self.reads_sessions(third)))
+        self.assertEqual((200, 401), (await self.reads_sessions(third), await self.reads_sessions(second)))
         self.assert_status(await self.provider.ask("DELETE", self.url, token=third), 200, 1000)
         self.assertEqual([401] * 3, [await self.reads_sessions(each) for each in (first, second, third)])
 
@@ -96,6 +96,17 @@ class Registration(BridgeCase):
         await self.bridge.stop()
         await self.bridge.start()
         self.assertEqual(401, await self.reads_sessions(second))
+
+    async def test_a_change_of_tokens_whose_answer_is_lost_locks_nobody_out(self) -> None:
+        second = self.provider.bridge_token = await self.register()
+        lost = str((await self.provider.ask("PUT", self.url, self.provider.credentials())).data["token"])
+        self.assertEqual(200, await self.reads_sessions(second))
+        await self.bridge.stop()
+        await self.bridge.start()
+        third = str((await self.provider.ask("PUT", self.url, self.provider.credentials())).data["token"])
+        self.assertEqual(401, await self.reads_sessions(lost))
+        for token_of_before, status in ((second, 200), (third, 200), (second, 401), (third, 200)):
+            self.assertEqual(status, await self.reads_sessions(token_of_before))
 
     async def test_a_registered_partner_is_called(self) -> None:
         self.provider.bridge_token = await self.register()
@@ -139,8 +150,9 @@ class RegisteringOurselves(BridgeCase):
 
     async def run_register_of(self, party: str, url: str, with_token: str) -> "subprocess.CompletedProcess[str]":
         """Runs the command for any party, and gives how it ended."""
-        words = [str(RUN), str(self.bridge.folder / "bridge.json"), "--register", party, url, with_token]
-        return await asyncio.to_thread(subprocess.run, words, capture_output=True, text=True, timeout=60)
+        words = [str(RUN), str(self.bridge.folder / "bridge.json"), "--register", party, url]
+        return await asyncio.to_thread(subprocess.run, words, input=with_token + "\n", capture_output=True, text=True,
+                                       timeout=60)
 
     async def test_both_sides_have_their_tokens(self) -> None:
         final = "final-token-for-NL/PLN-51"

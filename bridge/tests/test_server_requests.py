@@ -18,7 +18,8 @@ class Repeats(ServerCase):
     async def test_one_correlation_id_over_two_requests_loses_none(self) -> None:
         with self.assertLogs("ocpi_bridge.ocpi.requests", "WARNING") as logs:
             changed: Members = {"valid": False, "last_updated": "2025-01-01T11:00:00Z"}
-            for uid, members in (("AA01", Members()), ("AA02", Members()), ("AA01", Members()), ("AA01", changed)):
+            asked: list[tuple[str, Members]] = [("AA01", {}), ("AA02", {}), ("AA01", {}), ("AA01", changed)]
+            for uid, members in asked:
                 self.assertEqual((200, 1000), (await self.put(uid, "one", **members)).told)
         numbers = [outcome.event["packet"]["request"] for outcome in self.outcomes if "packet" in outcome.event]
         self.assertEqual([1, 2, 1, 3], numbers)

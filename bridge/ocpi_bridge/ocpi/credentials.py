@@ -72,7 +72,9 @@ class Credentials:
         if current is None or current.is_registered != partner.is_registered:
             raise Refusal(405, INVALID, "another request has registered meanwhile")
         token = self._partners.offer(partner.party)
-        self._partners.register(partner.party, token, told.their_token, told.versions_url, endpoints)
+        # Whoever changes its token, and does not get the answer, goes on with the one that it has.
+        self._partners.register(partner.party, token, told.their_token, told.versions_url, endpoints,
+                                partner.token if partner.is_registered else None)
         return self._own(token)
 
     async def register(self, party: str, url: str, token: str) -> None:

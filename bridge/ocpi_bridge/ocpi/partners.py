@@ -42,13 +42,20 @@ class Partners:
         self._version: int | None = None
         self._partners: dict[str, Partner] = {}
         self._shown: dict[bytes, Partner] = {}
+        self._former: set[str] = set()
         # Tokens are looked up by a digest that nobody else can make: so how long that takes tells nothing of them.
         self._secret = secrets.token_bytes(32)
 
     def by_token(self, token: str) -> Partner | None:
-        """The partner that presents a token. Takes as long whichever it is, and whether it is one at all."""
+        """The partner that presents a token. Takes as long whichever it is, and whether it is one at all.
+
+        A registration's new token ends the one of before when it is used: until then its partner may not have it.
+        """
         self._read()
-        return self._shown.get(self._digest(token))
+        partner = self._shown.get(self._digest(token))
+        if partner is not None and partner.party in self._former and token == self.of(partner.party).token:
+            self._keep(partner.party, former=None)
+        return partner
 
     def of(self, party: str) -> Partner:
         """The partner of a party. Raises KeyError where the configuration has none."""
@@ -67,15 +74,18 @@ class Partners:
         version = self._state.version()
         if version == self._version:
             return
-        self._partners, self._shown = {}, {}
+        self._partners, self._shown, self._former = {}, {}, set()
         for key, settings in self._settings.items():
             kept = self._kept(key)
             partner = self._partners[key] = self._partner(settings, kept)
             unused = None if kept.get("used", settings.token) == settings.token else settings.token
             registering = Partner(settings.party, settings.kind)
-            for known, shown in (partner.token, partner), (kept.get("offer"), registering), (unused, registering):
+            for known, shown in ((kept.get("former"), partner), (partner.token, partner),
+                                 (kept.get("offer"), registering), (unused, registering)):
                 if known:
                     self._shown[self._digest(known)] = replace(shown, token=known)
+            if kept.get("former"):
+                self._former.add(partner.party)
         self._version = version
 
     def _partner(self, settings: PartnerSettings, kept: Members) -> Partner:
@@ -85,15 +95,19 @@ class Partners:
                        {(module, role): url for module, role, url in listed}, known["their_token"] is not None)
 
     def register(self, party: str, token: str, their_token: str | None, versions_url: str | None,
-                 endpoints: Endpoints) -> None:
-        """Keeps both tokens of a registration, in place of what was there, and ends an offer."""
-        self._keep(party, token=token, their_token=their_token, versions_url=versions_url, offer=None,
+                 endpoints: Endpoints, former: str | None = None) -> None:
+        """Keeps both tokens of a registration, in place of what was there, and ends an offer.
+
+        A `former` token shows the partner too, until it uses the new one.
+        """
+        self._keep(party, token=token, their_token=their_token, versions_url=versions_url, offer=None, former=former,
                    used=self._settings[party_key(party)].token)
         self.set_endpoints(party, versions_url, endpoints)
 
     def unregister(self, party: str) -> None:
         """Ends a registration: neither token is used any more."""
-        self._keep(party, token=None, their_token=None, versions_url=None, used=self._settings[party_key(party)].token)
+        self._keep(party, token=None, their_token=None, versions_url=None, former=None,
+                   used=self._settings[party_key(party)].token)
 
     def offer(self, party: str) -> str:
         """A new token, of at most 64 characters, by which the partner may look up this bridge while it registers."""
