@@ -17,11 +17,13 @@ from .ocpi.exchange import Exchange
 from .ocpi.interfaces import Interfaces
 from .ocpi.locations import Locations
 from .ocpi.objects import Objects
+from .ocpi.orders import Orders
 from .ocpi.partners import Partners
 from .ocpi.pulling import Pulling
 from .ocpi.requests import Requests
 from .ocpi.server import Server
 from .ocpp.central_system import CentralSystem
+from .ocpp.late import LateCommands
 from .state import State
 from .warnings import Warnings
 
@@ -47,7 +49,10 @@ class Bridge:
         partners = Partners(configuration, state)
         requests = Requests(state)
         self._exchange = exchange = Exchange(clock, metrics)
-        self._client = Client(configuration, state, partners, exchange, requests, events, feeder.feed)
+        self._orders = orders = Orders(configuration, state, events, objects, requests, feeder.feed)
+        feeder.before_opening.append(orders.note_left)
+        feeder.before_commit.append(orders.note)
+        self._client = Client(configuration, state, partners, exchange, requests, events, feeder.feed, orders)
         self._pulling = Pulling(self._client, objects, state, configuration.is_operator)
         feeder.after_opening.append(self._pulling.wake)
         feeder.after_commit.append(self._send)
@@ -57,16 +62,17 @@ class Bridge:
         locations = None if configuration.site is None else Locations(
             state, clock, objects, configuration.node.party, configuration.site,
             central_system.evse_status if ocpp is not None else lambda _: None)
+        late = LateCommands(state, events, feeder.feed)
         interfaces = Interfaces(configuration.ocpi.url, events, objects, requests, locations, feeder.feed,
-                                self._client.takes_orders, feeder.revoke)
+                                self._client.takes_orders, feeder.revoke, *([late.expect] if ocpp else ()))
         server = Server(events, partners, Credentials(configuration, partners, exchange), interfaces, metrics)
         admin = Admin(configuration, state, events, feeder, objects, partners, metrics, locations, central_system,
                       self._client.takes_orders)
         self._listeners = [Listener("ocpi", configuration.ocpi.listen, server.application()),
                            Listener("admin", configuration.admin, admin.application())]
         if ocpp is not None:
-            feeder.before_commit.append(central_system.note)
-            feeder.after_commit.append(central_system.act)
+            feeder.before_commit += [central_system.note, late.note]
+            feeder.after_commit += [late.act, central_system.act]
             feeder.after_opening.append(central_system.opened)
             self._listeners.append(Listener("ocpp", ocpp.listen, central_system.application()))
 
@@ -107,6 +113,7 @@ class Bridge:
         async with asyncio.TaskGroup() as group:
             group.create_task(self._client.run())
             group.create_task(self._pulling.run())
+            group.create_task(self._orders.run())
 
 
 async def run(configuration: Configuration) -> int:

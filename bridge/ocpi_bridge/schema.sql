@@ -29,6 +29,20 @@ CREATE TABLE IF NOT EXISTS accepted_request (partner TEXT, number INTEGER, PRIMA
 CREATE TABLE IF NOT EXISTS claim (
     evse_uid TEXT PRIMARY KEY, status TEXT NOT NULL, partner TEXT NOT NULL, name TEXT NOT NULL, until INTEGER NOT NULL);
 
+-- ocpi/orders.py
+CREATE TABLE IF NOT EXISTS order_given (
+    request INTEGER PRIMARY KEY, operator TEXT NOT NULL, reference TEXT COLLATE NOCASE, at INTEGER NOT NULL,
+    state TEXT NOT NULL, result_until INTEGER);
+CREATE INDEX IF NOT EXISTS order_result ON order_given (result_until) WHERE result_until IS NOT NULL;
+CREATE INDEX IF NOT EXISTS order_late ON order_given (operator, reference) WHERE state = 'late';
+CREATE TABLE IF NOT EXISTS session_to_stop (
+    operator TEXT, session_id TEXT COLLATE NOCASE, ordered_at INTEGER NOT NULL,
+    PRIMARY KEY (operator, session_id)) WITHOUT ROWID;
+
+-- ocpp/late.py
+CREATE TABLE IF NOT EXISTS late_command (
+    provider TEXT COLLATE NOCASE, number INTEGER, PRIMARY KEY (provider, number)) WITHOUT ROWID;
+
 -- ocpi/pulling.py
 CREATE TABLE IF NOT EXISTS list_under_way (
     party TEXT, module TEXT, page TEXT NOT NULL, pages INTEGER NOT NULL, latest INTEGER NOT NULL,

@@ -12,6 +12,8 @@ from ocpi_bridge.configuration import Configuration, NodeSettings, OcpiSettings,
 from ocpi_bridge.events import Events, Outcome, Packet
 from ocpi_bridge.ocpi.client import Client
 from ocpi_bridge.ocpi.exchange import Exchange
+from ocpi_bridge.ocpi.objects import Objects
+from ocpi_bridge.ocpi.orders import Orders
 from ocpi_bridge.ocpi.partners import Partners
 from ocpi_bridge.ocpi.requests import Requests
 from ocpi_bridge.state import State
@@ -70,9 +72,11 @@ class ClientCase(unittest.IsolatedAsyncioTestCase):
         self.state = State(self.configuration.state)
         clock = Clock(self.clock_factor)
         self.requests = Requests(self.state)
+        events = Events(self.configuration.node.party, clock)
+        self.orders = Orders(self.configuration, self.state, events, Objects(self.state), self.requests, self.feed)
         self.client = Client(
             self.configuration, self.state, Partners(self.configuration, self.state), Exchange(clock, self.metrics),
-            self.requests, Events(self.configuration.node.party, clock), self.feed)
+            self.requests, events, self.feed, self.orders)
         self.addAsyncCleanup(self.client.exchange.close)
         self.addCleanup(self.state.close)
 

@@ -99,13 +99,13 @@ class OcpiParty:
         self._session: aiohttp.ClientSession | None = None
         self.url = ""
 
-    async def start(self) -> None:
-        """Listens at a port that is free."""
+    async def start(self, port: int = 0) -> None:
+        """Listens at a port, or at one that is free."""
         application = web.Application(client_max_size=4_000_000)
         application.router.add_route("*", "/{path:.*}", self._receive)
         self._runner = web.AppRunner(application)
         await self._runner.setup()
-        site = web.TCPSite(self._runner, "127.0.0.1", 0)
+        site = web.TCPSite(self._runner, "127.0.0.1", port)
         await site.start()
         self.url = f"http://127.0.0.1:{self._runner.addresses[0][1]}"
         self._session = aiohttp.ClientSession(connector=aiohttp.TCPConnector(limit=0))

@@ -1,57 +1,168 @@
-"""Commands that wait for the turn of their charge point, or lose its connection before."""
+"""Orders that come late: what is sent, what the provider's node is told, and what is stopped."""
 import asyncio
-import sqlite3
-import tempfile
-import unittest
-from pathlib import Path
 
-from ocpi_bridge.state import State
+from ocpi_bridge.events import Outcome, Packet
 
-from .ocpp_cases import OcppCase
+from .cases import PASSWORD, BridgeCase, ProviderCase
+from .charge_point_frames import ChargePoint
+from .client_cases import ClientCase, fails, unlock, with_serial
+from .ocpi_objects import session, start_session, token
+from .ocpi_party import Received
+from .running import Members, RunningBridge, charge_point, eventually, operator, partner, provider
 
-
-class LateTest(OcppCase):
-    """The clock goes 60 times as fast: a charge point that does not answer is waited for half a second."""
-
-    factor = 60.0
-
-    async def test_a_command_whose_time_is_over_when_its_turn_comes_is_not_asked_for(self) -> None:
-        self.station.answers["ChangeAvailability"] = "silent"
-        waiting = [asyncio.create_task(self.operating.central_system.change_availability(uid, False))
-                   for uid in ("E2", "E2")]
-        await self.station.was_asked("ChangeAvailability")
-        await self.operating.start(2)
-        await self.eventually([("2", "TIMEOUT")], self.operating.results)
-        self.assertEqual(["Unreachable"] * 2, await asyncio.gather(*waiting))
-        await asyncio.sleep(5 / self.factor)
-        await self.station.was_asked("ChangeAvailability")
-        self.assertTrue(self.station.asked.empty())
-        self.assertEqual([], self.operating.sessions())
+START = {"token_uid": "AA01", "token_type": "RFID", "location_id": "LOC1", "evse_uid": "E1", "connector_id": "1"}
 
 
-class ClosedTest(OcppCase):
-    """The clock goes as fast as the machine's."""
+class Age(ClientCase):
+    """A provider's bridge, and an operator that is a node: the age of an order goes with it."""
 
-    async def test_a_command_that_was_not_sent_before_its_connection_ended_is_asked_for_on_the_next_one(self) -> None:
-        self.station.answers["UnlockConnector"] = "silent"
-        await self.operating.command("unlock_connector", 2, location_id="LOC1", evse_uid="E1", connector_id="1")
-        await self.station.was_asked("UnlockConnector")
-        await self.operating.start(3)
-        await asyncio.sleep(0.2)
-        await self.station.socket.close()
-        self.assertEqual({"connectorId": 1, "idTag": "AA01"}, await self.station.was_asked("RemoteStartTransaction"))
-        await self.eventually([("3", "ACCEPTED")], self.operating.results)
-        self.assertEqual("Accepted", (await self.station.begin())["idTagInfo"]["status"])
+    clock_factor = 20.0
+
+    def given(self, packet: Packet, event: str = "submit", at: str | None = None) -> None:
+        """Has the node send a packet for an event."""
+        moment = at or self.client.events.clock.moment()
+        outcome = Outcome({"event": event, "at": moment}, {"done": "stepped"}, (packet,))
+        with self.state.transaction():
+            self.orders.note(outcome)
+
+    async def ages(self, packet: Packet) -> list[int | None]:
+        await self.carry(packet)
+        return [int(received.headers["X-Order-Age"]) if "X-Order-Age" in received.headers else None
+                for received in self.asked()]
+
+    async def test_the_age_of_an_order_goes_with_a_start_and_an_unlocking(self) -> None:
+        self.party.answers["commands"] = with_serial({"result": "ACCEPTED", "timeout": 30})
+        command = self.packet("unlock_connector", 7, unlock(7))
+        self.given(command)
+        await asyncio.sleep(0.25)
+        self.given(command, "tick")
+        self.given(self.packet("stop_session", 8, {}))
+        first, = await self.ages(command)
+        self.assertIsNotNone(first)
+        self.assertTrue(4000 < (first or 0) < 60_000, first)
+        stop = {"response_url": "https://node.invalid/NL/TNM/8", "session_id": "S1"}
+        self.assertIsNone((await self.ages(self.packet("stop_session", 8, stop)))[-1])
+
+    async def test_an_order_whose_outcome_a_stop_lost_is_as_old_as_its_line(self) -> None:
+        command = self.packet("unlock_connector", 7, unlock(7))
+        given = "2025-01-01T10:00:00.000Z"
+        self.orders.note_left([{"event": "tick", "at": given}, {"event": "submit", "at": given}])
+        self.given(command, "tick")
+        self.assertGreater(self.orders.age(command), 60_000)
 
 
-class OlderStateTest(unittest.TestCase):
-    def test_a_file_without_the_moment_of_a_command_is_taken(self) -> None:
-        with tempfile.TemporaryDirectory() as folder:
-            path = Path(folder) / "state.db"
-            State(path).close()
-            with sqlite3.connect(path) as opened:
-                opened.execute("ALTER TABLE ocpp_command DROP COLUMN until")
-            opened.close()
-            state = State(path)
-            self.assertEqual([], state.query("SELECT until FROM ocpp_command"))
-            state.close()
+class ToNodes(BridgeCase):
+    """An operator's bridge, and a provider of kind `node`, whose order is old when it comes."""
+
+    async def asyncSetUp(self) -> None:
+        self.provider = await self.begin_party("NL/PLN", "EMSP")
+        self.bridge = await self.begin_bridge(
+            RunningBridge(self.make_folder(), [operator("BE/BEC", ["E1"]), provider("NL/PLN")], "BE/BEC",
+                          [partner("NL/PLN", "node", self.provider.bridge_token, self.provider.token,
+                                   self.provider.versions_url)], [charge_point("CP1", ["E1"], PASSWORD)]),
+            [self.provider])
+        self.connected = ChargePoint(self.bridge.ocpp_url, "CP1", PASSWORD)
+        self.addAsyncCleanup(self.connected.close)
+        await self.connected.connect()
+
+    async def start(self, number: int, age: int) -> None:
+        """Orders a session, and sees that the node has accepted the command."""
+        reply = await self.provider.command(
+            "START_SESSION", start_session(token("NL/PLN"), f"{self.provider.url}/results/{number}"),
+            correlation=f"NL/PLN/{number}", headers={"X-Request-ID": f"NL/PLN/{number}", "X-Order-Age": str(age)})
+        self.assertEqual("ACCEPTED", reply.data["result"])
+
+    async def result(self, number: int) -> str:
+        received = await self.provider.came("results", lambda request: request.path == f"/results/{number}")
+        return str(received.body["result"])
+
+    async def test_an_old_start_is_asked_of_no_charge_point(self) -> None:
+        await self.start(5, 60_001)
+        self.assertEqual("FAILED", await self.result(5))
+        self.assertTrue(self.connected.was_not_asked())
+        await self.start(6, 59_000)
+        identifier, _ = await self.connected.asked("RemoteStartTransaction")
+        await self.connected.give(identifier, {"status": "Accepted"})
+        self.assertEqual("ACCEPTED", await self.result(6))
+
+    async def test_one_that_waits_for_its_charge_point_is_refused_by_its_repeat(self) -> None:
+        await self.connected.close()
+        for age in (59_000, 69_000):
+            await self.start(5, age)
+        self.assertEqual("FAILED", await self.result(5))
+        await self.connected.connect()
+        self.assertTrue(self.connected.was_not_asked())
+
+
+class ToOthers(ProviderCase):
+    """A provider's bridge, and an operator that is no node. The clock goes thirty times as fast."""
+
+    clock_factor = 30.0
+
+    async def is_told(self, result: str, member: str = "response") -> None:
+        """Waits until the node's newest command has a response, or a result."""
+        async def looks() -> bool:
+            return bool((await self.bridge.admin_get("/commands"))[0][member] == result)
+        await eventually(looks, f"{member} {result}")
+
+    def commands(self, name: str) -> list[Received]:
+        return [received for received in self.operator.requests if received.path.endswith(name)]
+
+    async def start(self) -> str:
+        """Orders a session, and gives its authorization reference."""
+        return str((await self.order("start_session", **START))["body"]["authorization_reference"])
+
+    async def puts_session(self, reference: str, **members: object) -> Members:
+        put: Members = {**session(self.operator.party, self.token), "authorization_reference": reference, **members}
+        self.assert_status(await self.operator.put_session(put), 200, 1000)
+        return put
+
+    async def test_a_start_without_an_answer_is_given_up_and_its_session_stopped(self) -> None:
+        self.operator.answers["commands"] = fails(500)
+        reference = await self.start()
+        await self.is_told("REJECTED")
+        del self.operator.answers["commands"]
+        put = await self.puts_session(reference)
+        stop = await self.operator.came("commands", lambda received: received.path.endswith("/STOP_SESSION"))
+        self.assertEqual(put["id"], stop.body["session_id"])
+        self.assertEqual(1, len(self.commands("/START_SESSION")))
+        self.assertIn("STOP_SESSION is ordered", self.bridge.log())
+        # It is ordered again while the session goes on, and not once it is over.
+        await self.operator.came("commands", lambda received: received.path.endswith("/STOP_SESSION"))
+        await self.puts_session(reference, **{**put, "status": "COMPLETED", "last_updated": "2098-01-01T00:00:00Z"})
+        await asyncio.sleep(1)
+        self.operator.requests.clear()
+        await asyncio.sleep(3)
+        self.assertEqual([], self.commands("/STOP_SESSION"))
+
+    async def test_an_order_that_was_given_while_the_operator_was_down_is_not_sent_later(self) -> None:
+        url = self.operator.url
+        await self.operator.close()
+        await self.start()
+        await self.bridge.stop()
+        await asyncio.sleep(2)
+        await self.bridge.start()
+        await self.is_told("REJECTED")
+        await self.operator.start(int(url.rpartition(":")[2]))
+        await asyncio.sleep(1.5)
+        self.assertEqual([], self.commands("/START_SESSION"))
+
+    async def test_a_command_without_a_result_gets_timeout(self) -> None:
+        await self.start()
+        await self.is_told("ACCEPTED")
+        self.assertIsNone((await self.bridge.admin_get("/commands"))[0]["result"])
+        await self.bridge.stop()
+        await self.bridge.start()
+        await self.is_told("TIMEOUT", "result")
+        # What comes later is answered, and changes nothing.
+        posted = self.commands("/START_SESSION")[0].body["response_url"]
+        self.assert_status(await self.operator.ask("POST", posted, {"result": "ACCEPTED"}), 200, 1000)
+        await self.is_told("TIMEOUT", "result")
+
+    async def test_a_session_whose_start_was_answered_is_not_stopped(self) -> None:
+        reference = await self.start()
+        await self.is_told("ACCEPTED")
+        await self.puts_session(reference)
+        await self.is_told("TIMEOUT", "result")
+        await asyncio.sleep(1)
+        self.assertEqual([], self.commands("/STOP_SESSION"))

@@ -1,10 +1,22 @@
-"""A feeder whose events may be revoked while they wait."""
+"""A feeder whose events may be revoked while they wait, and which tells what a stop left."""
+from collections.abc import Callable
+
+from ..configuration import NodeSettings
+from ..admin.metrics import Metrics
+from ..events import Events
 from ..json_text import Members
+from ..state import State
+from .child import Child
 from .feeder import Feeder
 
 
 class RevocableFeeder(Feeder):
     """Feeds as a feeder does, but for what is revoked before it stands in a line."""
+
+    def __init__(self, settings: NodeSettings, events: Events, state: State, metrics: Metrics) -> None:
+        super().__init__(settings, events, state, metrics)
+        # Called with the events of the line that a stop left, before the node is opened anew.
+        self.before_opening: list[Callable[[list[Members]], None]] = []
 
     def revoke(self, event: Members) -> bool:
         """Takes back an event that nobody awaits any more. False where it stands in a line already, or is done."""
@@ -15,3 +27,9 @@ class RevocableFeeder(Feeder):
                     waiting.outcome.cancel()
                 return True
         return False
+
+    async def _open(self, child: Child) -> None:
+        left = [waiting.event for waiting in self._line.waiting] if self._line is not None else []
+        for listener in self.before_opening:
+            listener(left)
+        await super()._open(child)

@@ -19,11 +19,14 @@ from ..state import State
 from .envelope import INVALID, SUCCESS, routing_headers
 from .exchange import Exchange, NoAddress, NoResponse, NotSent, Response
 from .lanes import AT_ONCE, Lanes
-from .packets import COMMANDS, FORMS, path_of
+from .orders import Orders
+from .packets import AGED, COMMANDS, FORMS, path_of
 from .partners import Endpoints, Partner, Partners
 from .requests import NODES_URL, RESULTS_PATH, Requests, number_in, number_of
 
 ONCE = ("start_session", "reserve_now", "stop_session")
+# How long a request waits for a partner that said `Retry-After`, before it is lost.
+LONGEST_WAIT = 10.0
 # Of HTTP: what says nothing about the request itself.
 TRANSIENT = (401, 408, 429)
 REFUSED_BILL = ": the bill is not taken there, as where another of that session is held"
@@ -35,7 +38,9 @@ class Client:
     """Asks each partner a few requests at a time, and one that fails again and again less often."""
 
     def __init__(self, configuration: Configuration, state: State, partners: Partners, exchange: Exchange,
-                 requests: Requests, events: Events, feed: Callable[[Members], Awaitable[Outcome]]) -> None:
+                 requests: Requests, events: Events, feed: Callable[[Members], Awaitable[Outcome]],
+                 orders: Orders) -> None:
+        self._orders = orders
         self._url, self._state, self._feed = configuration.ocpi.url, state, feed
         self.partners, self.exchange, self.requests, self.events = partners, exchange, requests, events
         self._lanes = {party_key(partner.party): Lanes(events.clock) for partner in configuration.partners}
@@ -99,7 +104,6 @@ class Client:
             packet, failures = await lanes.take(urgent_alone)
             was_answered = False
             try:
-                await self.exchange.rest(self.partners.of(packet.receiver))
                 was_answered = await self._send(packet)
             except NodeEnded:
                 return
@@ -110,23 +114,31 @@ class Client:
     async def _send(self, packet: Packet) -> bool:
         """Sends one request. True where its partner answered, be it by an error, or where it is not asked at all."""
         partner = self.partners.of(packet.receiver)
-        name = f"sent {party_key(partner.party)}/{packet.request}"
-        once = partner.kind == "ocpi" and packet.kind in ONCE
-        kept = self._state.value(name) if once else None
-        if kept is not None:
-            if kept:
-                await self.deliver(Packet.of(read_json(kept)))
-            return True
+        kept = self._state.value(_name(packet)) if partner.kind == "ocpi" and packet.kind in ONCE else None
+        may_ask = kept is None and await self.exchange.may_ask(partner, LONGEST_WAIT)
+        if kept:
+            await self.deliver(Packet.of(read_json(kept)))
+        elif partner.kind == "ocpi" and packet.kind in COMMANDS and self._orders.is_late(packet):
+            await self.deliver(self._orders.give_up(packet))
+        elif may_ask:
+            return await self._ask(packet, partner)
+        return True
+
+    async def _ask(self, packet: Packet, partner: Partner) -> bool:
+        """Asks a partner for what a request says, and hands on its answer. True where it answered."""
+        name = _name(packet) if partner.kind == "ocpi" and packet.kind in ONCE else None
+        headers = {"X-Request-ID": f"{packet.sender}/{packet.serial}",
+                   "X-Correlation-ID": f"{packet.sender}/{packet.request}",
+                   **routing_headers(packet.sender, packet.receiver)}
+        if partner.kind == "node" and packet.kind in AGED:
+            headers["X-Order-Age"] = str(self._orders.age(packet))
         try:
             url, body = await self._request(packet, partner)
-            if once:
+            if name is not None:
                 self._state.set_value(name, "")
-            response = await self.exchange.ask(partner, FORMS[packet.kind].method, url, body, {
-                "X-Request-ID": f"{packet.sender}/{packet.serial}",
-                "X-Correlation-ID": f"{packet.sender}/{packet.request}",
-                **routing_headers(packet.sender, packet.receiver)})
+            response = await self.exchange.ask(partner, FORMS[packet.kind].method, url, body, headers)
         except NoResponse as fault:
-            if once and isinstance(fault, NotSent):
+            if name is not None and isinstance(fault, NotSent):
                 self._state.query("DELETE FROM value_of WHERE name = ?", name)
             if isinstance(fault, NotSent) and not isinstance(fault, NoAddress) and packet.kind != "command_result":
                 self.partners.set_endpoints(partner.party, partner.versions_url, {})
@@ -136,12 +148,9 @@ class Client:
             self.partners.set_endpoints(partner.party, partner.versions_url, {})
         answer = answer_of(packet, partner.kind, response, self.events.clock)
         if answer is None or answer.body["status_code"] != SUCCESS:
-            log.warning("%s to %s (%s/%d, %s/%d): HTTP %d, status_code %s%s%s", packet.kind, partner.party,
-                        packet.sender, packet.serial, packet.sender, packet.request, response.status,
-                        response.body.get("status_code"), f": {url}" if answer is None else "",
-                        REFUSED_BILL if packet.kind == "post_cdr" and answer is not None else "")
+            _warn(packet, response, url, answer)
         if answer is not None:
-            if once:
+            if name is not None:
                 self._state.set_value(name, write_json(answer.members()))
             await self.deliver(answer)
         return response.status < 500 and response.status not in TRANSIENT
@@ -162,6 +171,18 @@ class Client:
         address, path = await self.endpoint(partner, form.module, form.role), path_of(form.path, body)
         address = address.rstrip("/") + path if path else address
         return address, body.get("location") if packet.kind == "authorize" else body
+
+
+def _name(packet: Packet) -> str:
+    """What a command that is sent once is kept under, with its answer."""
+    return f"sent {party_key(packet.receiver)}/{packet.request}"
+
+
+def _warn(packet: Packet, response: Response, url: str, answer: Packet | None) -> None:
+    """Warns of a response that is no success: with its URL where it is no answer."""
+    words = f": {url}" if answer is None else REFUSED_BILL if packet.kind == "post_cdr" else ""
+    log.warning("%s to %s (%s/%d, %s/%d): HTTP %d, status_code %s%s", packet.kind, packet.receiver, packet.sender,
+                packet.serial, packet.sender, packet.request, response.status, response.body.get("status_code"), words)
 
 
 def answer_of(packet: Packet, kind: str, response: Response, clock: Clock) -> Packet | None:

@@ -119,10 +119,12 @@ class Exchange:
                 seconds = seconds or parsedate_to_datetime(after).timestamp() - self.clock.seconds()
             self._rested_at[partner.party] = self.clock.seconds() + min(seconds, LONGEST_REST)
 
-    async def rest(self, partner: Partner) -> None:
-        """Waits until a partner may be asked, where it said `Retry-After`."""
-        while (seconds := self._rested_at.get(partner.party, 0.0) - self.clock.seconds()) > 0:
-            await self.clock.sleep(seconds)
+    async def may_ask(self, partner: Partner, at_most: float = LONGEST_REST) -> bool:
+        """Waits until a partner may be asked that said `Retry-After`, so many seconds at most. Whether it may be."""
+        seconds = self._rested_at.get(partner.party, 0.0) - self.clock.seconds()
+        if seconds > 0:
+            await self.clock.sleep(min(seconds, at_most))
+        return self.clock.seconds() >= self._rested_at.get(partner.party, 0.0)
 
     async def endpoints(self, partner: Partner) -> Endpoints:
         """Where the modules of a partner stand in its OCPI 2.2.1. Raises NoResponse.

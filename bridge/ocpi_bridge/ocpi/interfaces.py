@@ -19,7 +19,8 @@ from .envelope import (INVALID, SERVER_ERROR, SUCCESS, UNKNOWN_LOCATION, UNKNOWN
                        refusal_of)
 from .locations import Locations
 from .objects import FOREVER, OBJECTS, Objects, Part
-from .packets import COMMANDS, OBJECT_PATH, path_of
+from .orders import LATE
+from .packets import AGED, COMMANDS, OBJECT_PATH, path_of
 from .partners import Partner
 from .requests import NODES_URL, RESULTS_PATH, Requests, digest_of, number_in, number_of
 
@@ -54,13 +55,15 @@ class Interfaces:
     def __init__(self, url: str, events: Events, objects: Objects, requests: Requests, locations: Locations | None,
                  feed: Callable[[Members], Awaitable[Outcome]],
                  takes_orders: Callable[[str], bool] = lambda party: True,
-                 revoke: Callable[[Members], bool] = lambda event: False) -> None:
+                 revoke: Callable[[Members], bool] = lambda event: False,
+                 expect_late: Callable[[str, int], None] = lambda party, number: None) -> None:
         """`locations` are those of an operator, and None at a provider. `feed` carries out an event, and goes on where
         nobody waits any more, unless `revoke` takes the event back, which tells whether it could. `takes_orders` says
-        whether the result of one command more may wait for a partner."""
+        whether the result of one command more may wait for a partner, and `expect_late` keeps that a command is late.
+        """
         self._url, self._events, self._clock, self._feed = url, events, events.clock, feed
         self._objects, self._requests, self._locations = objects, requests, locations
-        self._takes_orders, self._revoke = takes_orders, revoke
+        self._takes_orders, self._revoke, self._expect_late = takes_orders, revoke, expect_late
         self._patching = asyncio.Lock()
         self._under_way: dict[tuple[str, int], UnderWay] = {}
 
@@ -156,6 +159,8 @@ class Interfaces:
         if kind in COMMANDS and partner.kind == "node" and isinstance(url, str) and len(url) <= LONGEST_URL:
             self._requests.keep_url(partner.party, number, url)
             body = {**body, "response_url": NODES_URL + request.headers["X-Correlation-ID"]}
+        if kind in AGED and partner.kind == "node" and (number_of(request.headers.get("X-Order-Age", "")) or 0) > LATE:
+            self._expect_late(partner.party, number)
         event = self._events.deliver(Packet(partner.party, self._events.node, serial, number, kind, body))
         if len(write_json(event)) > LONGEST_LINE:
             raise Refusal(413, INVALID, "the body is too long")

@@ -121,6 +121,11 @@ class Objects:
         found = self._bodies(f"evse_uid = ? AND {LIVING} ORDER BY last_updated DESC LIMIT 1", evse_uid.upper())
         return found[0] if found else None
 
+    def living_of(self, party: str, reference: str | None) -> list[Members]:
+        """The sessions of an operator and an authorization reference that are PENDING or ACTIVE."""
+        return self._bodies(f"{LIVING} AND party = ? AND upper(json_extract(body, '$.authorization_reference')) = ?",
+                            party_key(party), (reference or "").upper())
+
     def pending_sessions(self) -> list[Members]:
         """The sessions at EVSEs of the node in which nobody charges so far."""
         return self._bodies(f"{LIVING} AND status = 'PENDING'")

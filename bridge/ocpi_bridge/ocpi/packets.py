@@ -7,6 +7,9 @@ from ..json_text import Members
 COMMANDS = {"start_session": "START_SESSION", "stop_session": "STOP_SESSION", "reserve_now": "RESERVE_NOW",
             "cancel_reservation": "CANCEL_RESERVATION", "unlock_connector": "UNLOCK_CONNECTOR"}
 
+# Commands with which nodes' bridges tell how old the order is: an old one is not asked of a charge point any more.
+AGED = ("start_session", "unlock_connector")
+
 
 @dataclass(frozen=True)
 class Form:

@@ -73,7 +73,8 @@ class Pulling:
         page, pages, latest = await self._page(partner, module)
         headers = routing_headers(self._client.events.node, partner.party)
         for turn in range(1, PAGES_A_TURN + 1):
-            await self._client.exchange.rest(partner)
+            if not await self._client.exchange.may_ask(partner):
+                break
             response = await self._client.exchange.ask(partner, "GET", page, headers=headers)
             for listed in self._listed(partner, module, response):
                 latest = max(latest, await self._hand_on(partner, kind, listed))
