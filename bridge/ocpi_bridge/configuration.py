@@ -74,13 +74,18 @@ class OcppSettings:
 
 @dataclass(frozen=True)
 class PartnerSettings:
-    """A partner of the kind `node` or `ocpi`. `token` is what it presents, `their_token` what it wants to see."""
+    """A partner of the kind `node` or `ocpi`. `token` is what it presents, `their_token` what it wants to see.
+
+    Without `token_base64` tokens stand in headers as they are. With `own_references` a start needs no reference.
+    """
 
     party: str
     kind: str
     token: str
     their_token: str | None
     versions_url: str | None
+    token_base64: bool = True
+    own_references: bool = False
 
 
 @dataclass(frozen=True)
@@ -160,7 +165,9 @@ def _read_by(form: Any, value: Any, path: str, folder: Path) -> Any:
 
 
 def _read_word(word: str, value: Any, path: str, folder: Path) -> Any:
-    """What a word of the form stands for: a number above 0, a text, or a file in a folder that is there."""
+    """What a word of the form stands for: a truth, a number above 0, a text, or a file in a folder that is there."""
+    if word == "truth":
+        return value if isinstance(value, bool) else refuse(path, "neither true nor false")
     if word == "number":
         number = float(value) if isinstance(value, (int, Number)) and not isinstance(value, bool) else 0.0
         return number if 0 < number < float("inf") else refuse(path, "no number above 0")
@@ -214,7 +221,10 @@ def _connector(connector: Members, path: str, evses: dict[str, list[str]]) -> Co
 
 
 def _partners(entries: list[Members], missing: list[str]) -> tuple[PartnerSettings, ...]:
-    """The partners. An operator's are the providers of the setup, each once, and a provider's its operators."""
+    """The partners. An operator's are the providers of the setup, each once, and a provider's its operators.
+
+    Several of kind `ocpi` may present one token: their routing headers tell which of them asks.
+    """
     found: list[PartnerSettings] = []
     for place, entry in enumerate(entries):
         path = f"partners[{place}]"
@@ -224,9 +234,16 @@ def _partners(entries: list[Members], missing: list[str]) -> tuple[PartnerSettin
         for name, other in (("their_token", "versions_url"), ("versions_url", "their_token")):
             if entry[name] is None and entry[other] is not None:
                 refuse(f"{path}.{name}", "missing")
-        if any(entry["token"] == partner.token for partner in found):
+        for name in ("token_base64", "own_references"):
+            if entry[name] is not None and entry["kind"] != "ocpi":
+                refuse(f"{path}.{name}", "only of a partner of kind ocpi")
+        members: Members = {**entry, "party": party, "token_base64": entry["token_base64"] is not False,
+                            "own_references": entry["own_references"] is True}
+        partner = PartnerSettings(**members)
+        if any(partner.token == other.token and ((partner.kind, other.kind) != ("ocpi", "ocpi")
+                                                 or partner.token_base64 != other.token_base64) for other in found):
             refuse(f"{path}.token", "that of another partner")
-        found.append(PartnerSettings(**{**entry, "party": party}))
+        found.append(partner)
     if missing:
         refuse("partners", f"none for {missing[0]}")
     return tuple(found)

@@ -94,6 +94,7 @@ class OcpiParty:
         self.answers: dict[str, Answer] = {}
         self.lists: dict[str, list[Members]] = {"sessions": [], "cdrs": [], "tokens": [], "locations": []}
         self.page_size = 2
+        self.token_base64 = True
         self._endpoints: dict[str, str] = {}
         self._runner: web.AppRunner | None = None
         self._session: aiohttp.ClientSession | None = None
@@ -115,6 +116,10 @@ class OcpiParty:
             await self._session.close()
         if self._runner is not None:
             await self._runner.cleanup()
+
+    def written(self, token: str) -> str:
+        """The value of `Authorization` for a token, as this party writes and reads it."""
+        return token_header(token) if self.token_base64 else f"Token {token}"
 
     def deals_with(self, party: str, versions_url: str) -> None:
         """Tells whom it calls, and where that party lists its versions."""
@@ -142,7 +147,7 @@ class OcpiParty:
         received = Received(request.method, module, request.path, request.raw_path, request.headers.copy(),
                             json.loads(text) if text else None)
         self.requests.append(received)
-        if request.headers.get("Authorization") != token_header(self.token):
+        if request.headers.get("Authorization") != self.written(self.token):
             return web.json_response({"status_code": 2001, "timestamp": now()}, status=401)
         if module in self.answers:
             return await self.answers[module](received)
@@ -191,7 +196,7 @@ class OcpiParty:
         """The headers of a request: those of authorization, of its ids and of routing."""
         country, identifier = self.party.split("/")
         to_country, to_identifier = self.bridge_party.split("/")
-        return {"Authorization": token_header(token or self.bridge_token), "X-Request-ID": str(uuid.uuid4()),
+        return {"Authorization": self.written(token or self.bridge_token), "X-Request-ID": str(uuid.uuid4()),
                 "X-Correlation-ID": correlation or str(uuid.uuid4()), "OCPI-from-country-code": country,
                 "OCPI-from-party-id": identifier, "OCPI-to-country-code": to_country,
                 "OCPI-to-party-id": to_identifier}

@@ -98,6 +98,8 @@ class ConfigurationTest(unittest.TestCase):
             self.refused(no_partner, ("partners", [first, {**second, "party": party}]))
         self.refused("partners[1].kind: neither node nor ocpi", ("partners", [first, {**second, "kind": "hub"}]))
         self.refused("partners[1].token: that of another partner", ("partners", [first, {**second, "token": "A"}]))
+        self.refused("partners[1].token_base64: neither true nor false",
+                     ("partners", [first, {**second, "token_base64": 1}]))
         self.refused("partners[1].token: missing", ("partners", [first, {"party": "DE/ABC", "kind": "ocpi"}]))
         self.refused("partners[1].versions_url: missing", ("partners", [first, {**second, "their_token": "D"}]))
         self.refused("partners[1].their_token: missing", ("partners", [first, {**second, "versions_url": NOBODY}]))

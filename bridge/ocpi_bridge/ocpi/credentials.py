@@ -16,7 +16,7 @@ from ..admin.metrics import Metrics
 from ..clock import Clock
 from ..configuration import Configuration
 from ..json_text import Members
-from ..parties import codes, party_of, same_party
+from ..parties import codes, party_key, party_of
 from ..state import State
 from .envelope import INVALID, Refusal
 from .exchange import VERSION, Exchange, NoResponse, OtherVersions, objects_of
@@ -57,24 +57,29 @@ class Credentials:
             return self._own(partner.token or "")
         if (method == "POST") == partner.is_registered:
             raise Refusal(405, INVALID, "registered already" if partner.is_registered else "not registered")
+        sharing = self._partners.sharing(partner.token or "", partner.token_base64)
         if method == "DELETE":
-            self._partners.unregister(partner.party)
+            with self._partners.together():
+                for each in sharing:
+                    self._partners.unregister(each.party)
             return None
-        told = self._told(partner, body)
+        told = self._told(sharing, body)
         try:
-            endpoints = await self._exchange.clock.within(LOOK_UP_SECONDS, self._exchange.endpoints(told))
+            endpoints = await self._exchange.clock.within(LOOK_UP_SECONDS, self._exchange.endpoints(told[0]))
         except (NoResponse, TimeoutError) as fault:
             # What answers there, if anything, is for the owner alone: it may stand in the owner's own network.
             log.warning("credentials of %s: url: %s", partner.party, str(fault) or "no response in time")
             status_code = UNSUPPORTED_VERSION if isinstance(fault, OtherVersions) else UNUSABLE
             raise Refusal(200, status_code, f"url: no OCPI {VERSION} was found there") from None
-        current = self._partners.by_token(partner.token or "")
-        if current is None or current.is_registered != partner.is_registered:
+        current = [each.is_registered for each in self._partners.sharing(partner.token or "", partner.token_base64)]
+        if current != [each.is_registered for each in sharing]:
             raise Refusal(405, INVALID, "another request has registered meanwhile")
-        token = self._partners.offer(partner.party)
-        # Whoever changes its token, and does not get the answer, goes on with the one that it has.
-        self._partners.register(partner.party, token, told.their_token, told.versions_url, endpoints,
-                                partner.token if partner.is_registered else None)
+        with self._partners.together():
+            token = self._partners.offer(partner.party)
+            for each in told:
+                # Whoever changes its token, and does not get the answer, goes on with the one that it has.
+                self._partners.register(each.party, token, each.their_token, each.versions_url, endpoints,
+                                        each.token if each.is_registered else None)
         return self._own(token)
 
     async def register(self, party: str, url: str, token: str) -> None:
@@ -89,7 +94,7 @@ class Credentials:
             raise NoResponse("its version details list no credentials")
         offered = self._partners.offer(party)
         response = await self._exchange.ask(partner, "POST", address, self._own(offered))
-        told = self._told(partner, response.data)
+        told, = self._told([partner], response.data)
         self._partners.register(party, offered, told.their_token, told.versions_url,
                                 endpoints if told.versions_url == url else {})
 
@@ -100,10 +105,10 @@ class Credentials:
                 "country_code": country, "business_details": {"name": self._configuration.ocpi.business}}
         return {"token": token, "url": f"{self._configuration.ocpi.url}/ocpi/versions", "roles": [role]}
 
-    def _told(self, partner: Partner, body: object) -> Partner:
-        """A partner with the token and the versions URL of its credentials, which may name more parties and roles.
+    def _told(self, partners: list[Partner], body: object) -> list[Partner]:
+        """Those of some partners whom credentials name, with their token and versions URL. They may name others too.
 
-        Raises Refusal where they are no credentials, or another's.
+        Raises Refusal where they are no credentials, or name none of them.
         """
         members = body if isinstance(body, dict) else {}
         for name, longest in (("token", 64), ("url", 255)):
@@ -111,11 +116,15 @@ class Credentials:
             if not isinstance(text, str) or not 0 < len(text) <= longest or not text.isprintable():
                 raise Refusal(200, INVALID, f"{name}: a text of 1 to {longest} characters")
         wanted = "EMSP" if self._configuration.is_operator else "CPO"
-        roles = objects_of(members.get("roles"), "role", "country_code", "party_id")
-        if not any(role["role"] == wanted and same_party(party_of(role["country_code"], role["party_id"]),
-                                                         partner.party) for role in roles):
-            raise Refusal(200, INVALID, f"roles: {wanted} of {partner.party} is not there")
-        return replace(partner, their_token=members["token"], versions_url=members["url"])
+        named = {party_key(party_of(role["country_code"], role["party_id"]))
+                 for role in objects_of(members.get("roles"), "role", "country_code", "party_id")
+                 if role["role"] == wanted}
+        told = [replace(partner, their_token=members["token"], versions_url=members["url"]) for partner in partners
+                if party_key(partner.party) in named]
+        if not told:
+            parties = " or ".join(partner.party for partner in partners)
+            raise Refusal(200, INVALID, f"roles: {wanted} of {parties} is not there")
+        return told
 
 
 async def register(configuration: Configuration, party: str, url: str, token: str) -> int:

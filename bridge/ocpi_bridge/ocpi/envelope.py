@@ -43,17 +43,23 @@ def answer(timestamp: str, data: object = None, status_code: int = SUCCESS, mess
     return web.Response(body=text.encode(), status=http_status, content_type="application/json", headers=headers)
 
 
-def authorization(token: str) -> str:
-    """The header `Authorization` with a credentials token."""
-    return "Token " + base64.b64encode(token.encode()).decode()
+def authorization(token: str, is_base64: bool = True) -> str:
+    """The header `Authorization` with a credentials token: in Base64, as OCPI 2.2.1 wants it, or as it is."""
+    return "Token " + (base64.b64encode(token.encode()).decode() if is_base64 else token)
 
 
-def token_of(header: str | None) -> str:
-    """The credentials token in a header `Authorization`. Raises Refusal (401) where there is none."""
-    scheme, _, encoded = (header or "").partition(" ")
+def written_token(header: str | None) -> str:
+    """The credentials token in a header `Authorization`, as it is written there. Raises Refusal (401)."""
+    scheme, _, written = (header or "").partition(" ")
+    if scheme.lower() != "token":
+        raise Refusal(401, INVALID, "Authorization: wanted is Token and the token in Base64")
+    return written.strip()
+
+
+def read_token(written: str) -> str:
+    """The token that is written in Base64. Raises Refusal (401) where it is not."""
     with suppress(ValueError):
-        if scheme.lower() == "token":
-            return base64.b64decode(encoded.strip(), validate=True).decode()
+        return base64.b64decode(written, validate=True).decode()
     raise Refusal(401, INVALID, "Authorization: wanted is Token and the token in Base64")
 
 

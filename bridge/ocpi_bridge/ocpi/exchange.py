@@ -87,8 +87,9 @@ class Exchange:
         if partner.their_token is None:
             raise NoAddress("not registered")
         status = "lost"
-        sent = {"Authorization": authorization(partner.their_token), "Accept-Encoding": "identity",
-                "X-Request-ID": str(uuid.uuid4()), "X-Correlation-ID": str(uuid.uuid4()), **(headers or {})}
+        sent = {"Authorization": authorization(partner.their_token, partner.token_base64),
+                "Accept-Encoding": "identity", "X-Request-ID": str(uuid.uuid4()),
+                "X-Correlation-ID": str(uuid.uuid4()), **(headers or {})}
         ids = f"({sent['X-Request-ID']}, {sent['X-Correlation-ID']})"
         # The URL may have a driver's token: it is told where a request is lost alone.
         asked = f"{method} {url} {ids}"

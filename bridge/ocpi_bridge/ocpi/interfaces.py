@@ -22,7 +22,7 @@ from .objects import FOREVER, OBJECTS, Objects, Part
 from .orders import LATE
 from .packets import AGED, COMMANDS, OBJECT_PATH, path_of
 from .partners import Partner
-from .requests import NODES_URL, RESULTS_PATH, Requests, digest_of, number_in, number_of
+from .requests import NODES_URL, RESULTS_PATH, Requests, digest_of, number_in, number_of, reference_of
 
 COMMAND_KINDS = {name: kind for kind, name in COMMANDS.items()}
 OBJECT_KINDS = {module: kind for kind, (module, _) in OBJECTS.items()}
@@ -87,9 +87,11 @@ class Interfaces:
 
     async def post_command(self, request: web.Request) -> web.Response:
         kind, body = COMMAND_KINDS[request.match_info["name"]], await _members(request)
-        if kind == "start_session" and request["partner"].kind == "ocpi" and not body.get("authorization_reference"):
+        partner: Partner = request["partner"]
+        if (kind == "start_session" and partner.kind == "ocpi" and not partner.own_references
+                and not body.get("authorization_reference")):
             raise Refusal(200, INVALID, "authorization_reference: missing")
-        if not self._takes_orders(request["partner"].party):
+        if not self._takes_orders(partner.party):
             raise Refusal(503, SERVER_ERROR, "too many results wait for you: send the request again")
         return await self._deliver(request, kind, body)
 
@@ -155,6 +157,8 @@ class Interfaces:
         """Delivers a packet of a kind and a body, and answers as the node does. Raises Refusal."""
         partner: Partner = request["partner"]
         serial, number = await self._numbers(request, partner)
+        if kind == "start_session" and partner.own_references and not body.get("authorization_reference"):
+            body = {**body, "authorization_reference": reference_of(partner.party, number)}
         url = body.get("response_url")
         if kind in COMMANDS and partner.kind == "node" and isinstance(url, str) and len(url) <= LONGEST_URL:
             self._requests.keep_url(partner.party, number, url)

@@ -8,6 +8,7 @@ another process may register.
 import hashlib
 import secrets
 from collections.abc import Mapping
+from contextlib import AbstractContextManager
 from dataclasses import asdict, dataclass, field, replace
 
 from ..configuration import Configuration, PartnerSettings
@@ -30,6 +31,8 @@ class Partner:
     versions_url: str | None = None
     endpoints: Endpoints = field(default_factory=dict)
     is_registered: bool = False
+    token_base64: bool = True
+    own_references: bool = False
 
 
 class Partners:
@@ -41,21 +44,25 @@ class Partners:
         # Which version of the state was read: what it says of each partner, and whom each token shows.
         self._version: int | None = None
         self._partners: dict[str, Partner] = {}
-        self._shown: dict[bytes, Partner] = {}
+        self._shown: dict[bytes, dict[str, Partner]] = {}
         self._former: set[str] = set()
         # Tokens are looked up by a digest that nobody else can make: so how long that takes tells nothing of them.
         self._secret = secrets.token_bytes(32)
 
     def by_token(self, token: str) -> Partner | None:
-        """The partner that presents a token. Takes as long whichever it is, and whether it is one at all.
+        """The partner that presents a token, or the first of those that share it."""
+        return next(iter(self.sharing(token)), None)
+
+    def sharing(self, token: str, is_base64: bool = True) -> list[Partner]:
+        """The partners that present a token, in Base64 or as it is. Takes as long whichever it is.
 
         A registration's new token ends the one of before when it is used: until then its partner may not have it.
         """
         self._read()
-        partner = self._shown.get(self._digest(token))
-        if partner is not None and partner.party in self._former and token == self.of(partner.party).token:
-            self._keep(partner.party, former=None)
-        return partner
+        found = self._shown.get(self._digest(token, is_base64), {})
+        for key in [key for key in found if key in self._former and token == self._partners[key].token]:
+            self._keep(key, former=None)
+        return list(found.values())
 
     def of(self, party: str) -> Partner:
         """The partner of a party. Raises KeyError where the configuration has none."""
@@ -66,8 +73,9 @@ class Partners:
         self._read()
         return list(self._partners.values())
 
-    def _digest(self, token: str) -> bytes:
-        return hashlib.blake2b(token.encode("utf-8", "surrogatepass"), key=self._secret).digest()
+    def _digest(self, token: str, is_base64: bool) -> bytes:
+        return hashlib.blake2b(token.encode("utf-8", "surrogatepass"), key=self._secret,
+                               person=b"base64" if is_base64 else b"as it is").digest()
 
     def _read(self) -> None:
         """Reads the state, where it has changed."""
@@ -79,20 +87,26 @@ class Partners:
             kept = self._kept(key)
             partner = self._partners[key] = self._partner(settings, kept)
             unused = None if kept.get("used", settings.token) == settings.token else settings.token
-            registering = Partner(settings.party, settings.kind)
+            registering = Partner(settings.party, settings.kind, token_base64=settings.token_base64)
             for known, shown in ((kept.get("former"), partner), (partner.token, partner),
                                  (kept.get("offer"), registering), (unused, registering)):
                 if known:
-                    self._shown[self._digest(known)] = replace(shown, token=known)
+                    digest = self._digest(known, settings.token_base64)
+                    self._shown.setdefault(digest, {})[key] = replace(shown, token=known)
             if kept.get("former"):
-                self._former.add(partner.party)
+                self._former.add(key)
         self._version = version
 
     def _partner(self, settings: PartnerSettings, kept: Members) -> Partner:
         known: Members = {**asdict(settings), **kept}
         listed = known.get("endpoints", []) if known.get("details_of") == known["versions_url"] else []
         return Partner(settings.party, settings.kind, known["token"], known["their_token"], known["versions_url"],
-                       {(module, role): url for module, role, url in listed}, known["their_token"] is not None)
+                       {(module, role): url for module, role, url in listed}, known["their_token"] is not None,
+                       settings.token_base64, settings.own_references)
+
+    def together(self) -> AbstractContextManager[None]:
+        """What is kept inside is kept together, or not at all."""
+        return self._state.transaction()
 
     def register(self, party: str, token: str, their_token: str | None, versions_url: str | None,
                  endpoints: Endpoints, former: str | None = None) -> None:

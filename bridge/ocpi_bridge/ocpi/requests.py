@@ -3,6 +3,7 @@ import hashlib
 import json
 import logging
 import re
+import uuid
 
 from ..parties import party_key, same_party
 from ..state import State
@@ -60,6 +61,11 @@ class Requests:
         rows = self._state.query("SELECT url FROM response_url WHERE partner = ? AND number = ?",
                                  party_key(partner), number)
         return rows[0][0] if rows else None
+
+
+def reference_of(party: str, number: int) -> str:
+    """The authorization reference of a start that comes without one: for each request of a party its own."""
+    return str(uuid.uuid5(uuid.NAMESPACE_URL, f"{NODES_URL}{party_key(party)}/{number}"))
 
 
 def digest_of(asked: str, body: bytes) -> bytes:

@@ -13,7 +13,8 @@ from ..listening import Handler
 from ..node.feeder import NodeEnded, OutcomeLost
 from ..parties import codes
 from .credentials import Credentials
-from .envelope import CLIENT_ERROR, INVALID, SERVER_ERROR, Refusal, answer, is_printable, routing_headers, token_of
+from .envelope import (CLIENT_ERROR, INVALID, SERVER_ERROR, Refusal, answer, is_printable, read_token, routing_headers,
+                       written_token)
 from .interfaces import Interfaces
 from .partners import Partner, Partners
 
@@ -96,18 +97,27 @@ class Server:
 
     def _partner(self, request: web.Request) -> Partner:
         """The partner that asks. Raises Refusal: 401, or 2001 where the request is for another party."""
-        partner = self._partners.by_token(token_of(request.headers.get("Authorization")))
-        if partner is None:
-            raise Refusal(401, INVALID, "Authorization: the token is of nobody")
+        partner = self._sender(request)
         if not partner.is_registered and request.path not in CONFIGURATION_PATHS:
             raise Refusal(401, INVALID, f"{partner.party} is not registered")
-        if not _agree(request, "OCPI-from", partner.party):
-            raise Refusal(401, INVALID, f"OCPI-from: the token is of {partner.party}")
         if not _agree(request, "OCPI-to", self._party):
             raise Refusal(200, INVALID, f"OCPI-to: this is {self._party}")
         if not is_printable(unquote(request.rel_url.raw_path)):
             raise Refusal(200, INVALID, "path: wanted are characters of printable ASCII")
         return partner
+
+    def _sender(self, request: web.Request) -> Partner:
+        """The partner whose token comes, or the one of several that share it which the routing headers name. About
+        versions and credentials it may be any of these."""
+        written = written_token(request.headers.get("Authorization"))
+        found = self._partners.sharing(written, False) or self._partners.sharing(read_token(written))
+        if not found:
+            raise Refusal(401, INVALID, "Authorization: the token is of nobody")
+        named = [partner for partner in found if _agree(request, "OCPI-from", partner.party)]
+        if not named or len(named) > 1 and request.path not in CONFIGURATION_PATHS:
+            parties = ", ".join(partner.party for partner in found)
+            raise Refusal(401, INVALID, f"OCPI-from: the token is of {parties}{', and none is named' if named else ''}")
+        return named[0]
 
     async def versions(self, _: web.Request) -> web.Response:
         return answer(self._clock.moment(), self._credentials.versions())
