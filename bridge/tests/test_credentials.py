@@ -41,7 +41,7 @@ class Tokens(unittest.TestCase):
 
     def shown(self, partners: Partners, *tokens: str) -> list[bool | None]:
         """Whether each token shows a registered partner, or nobody."""
-        found = [partners.by_token(each) for each in tokens]
+        found = [next(iter(partners.sharing(each)), None) for each in tokens]
         return [None if each is None else each.is_registered for each in found]
 
     def test_a_partner_that_will_register(self) -> None:
@@ -83,8 +83,8 @@ class Tokens(unittest.TestCase):
         partners = Partners(replace(configuration(self.folder, False, many[0]), partners=many), state)
         partners.all()
         with patch.object(state, "query", side_effect=state.query) as query:
-            self.assertEqual(["BE/007", "BE/062"], [found.party for found in map(
-                partners.by_token, ("token 7", "token 62")) if found])
+            found = [partners.sharing(token_of_one)[0].party for token_of_one in ("token 7", "token 62")]
+        self.assertEqual(["BE/007", "BE/062"], found)
         self.assertLessEqual(query.call_count, 2)
 
     def test_endpoints_are_those_of_the_versions_that_are_known(self) -> None:

@@ -35,7 +35,8 @@ class Orders:
     def __init__(self, configuration: Configuration, state: State, events: Events, objects: Objects,
                  requests: Requests, feed: Callable[[Members], Awaitable[Outcome]]) -> None:
         self._state, self._events, self._objects, self._requests, self._feed = state, events, objects, requests, feed
-        self._others = {party_key(partner.party) for partner in configuration.partners if partner.kind == "ocpi"}
+        self._others = {party_key(partner.party) for partner in configuration.partners
+                        if partner.kind == "ocpi" and not configuration.is_operator}
         # When the orders were given that a stop left in the line that was under way.
         self._left: list[int] = []
 
@@ -111,7 +112,7 @@ class Orders:
 
     async def run(self) -> None:
         """Does what is due, until it is cancelled or the bridge ends."""
-        while True:
+        while self._others:
             await self._events.clock.sleep(LOOK_EVERY)
             try:
                 await self._do_what_is_due()

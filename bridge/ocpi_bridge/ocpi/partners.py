@@ -49,10 +49,6 @@ class Partners:
         # Tokens are looked up by a digest that nobody else can make: so how long that takes tells nothing of them.
         self._secret = secrets.token_bytes(32)
 
-    def by_token(self, token: str) -> Partner | None:
-        """The partner that presents a token, or the first of those that share it."""
-        return next(iter(self.sharing(token)), None)
-
     def sharing(self, token: str, is_base64: bool = True) -> list[Partner]:
         """The partners that present a token, in Base64 or as it is. Takes as long whichever it is.
 
