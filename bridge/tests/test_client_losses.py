@@ -93,6 +93,12 @@ class Losses(ClientCase):
             for words in (f"{url}/UNLOCK_CONNECTOR", "NL/TNM/19", "NL/TNM/7"):
                 self.assertIn(words, logs.output[0])
 
+
+class Certificates(ClientCase):
+    """The same, over TLS, whose beginning takes its time."""
+
+    clock_factor = 0.5
+
     @unittest.skipUnless(shutil.which("openssl"), "there is no openssl, which makes a certificate")
     async def test_a_certificate_that_is_not_trusted_is_told_as_that(self) -> None:
         folder = Path(self.enterContext(tempfile.TemporaryDirectory()))

@@ -95,9 +95,9 @@ class ToNodes(BridgeCase):
 
 
 class ToOthers(ProviderCase):
-    """A provider's bridge, and an operator that is no node. The clock goes thirty times as fast."""
+    """A provider's bridge, and an operator that is no node. The clock goes fifteen times as fast."""
 
-    clock_factor = 30.0
+    clock_factor = 15.0
 
     async def is_told(self, result: str, member: str = "response") -> None:
         """Waits until the node's newest command has a response, or a result."""
@@ -132,7 +132,7 @@ class ToOthers(ProviderCase):
         await self.puts_session(reference, **{**put, "status": "COMPLETED", "last_updated": "2098-01-01T00:00:00Z"})
         await asyncio.sleep(1)
         self.operator.requests.clear()
-        await asyncio.sleep(3)
+        await asyncio.sleep(6)
         self.assertEqual([], self.commands("/STOP_SESSION"))
 
     async def test_an_order_that_was_given_while_the_operator_was_down_is_not_sent_later(self) -> None:
@@ -140,11 +140,11 @@ class ToOthers(ProviderCase):
         await self.operator.close()
         await self.start()
         await self.bridge.stop()
-        await asyncio.sleep(2)
+        await asyncio.sleep(4)
         await self.bridge.start()
         await self.is_told("REJECTED")
         await self.operator.start(int(url.rpartition(":")[2]))
-        await asyncio.sleep(1.5)
+        await asyncio.sleep(2)
         self.assertEqual([], self.commands("/START_SESSION"))
 
     async def test_a_command_without_a_result_gets_timeout(self) -> None:

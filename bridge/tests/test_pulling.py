@@ -165,5 +165,5 @@ class TwoPartners(Sessions):
 
         async def all_came() -> bool:
             return {"S0", "S1", "S2"} == {packet.body["id"] for packet in self.delivered if packet.sender == "BE/BEC"}
-        await eventually(all_came, "the sessions of the other partner", 5)
+        await eventually(all_came, "the sessions of the other partner")
         self.assertGreater(len(self.other.requests), 3)
