@@ -71,10 +71,14 @@ class Bridge:
         self._listeners = [Listener("ocpi", configuration.ocpi.listen, server.application()),
                            Listener("admin", configuration.admin, admin.application())]
         if ocpp is not None:
-            feeder.before_commit += [central_system.note, late.note]
-            feeder.after_commit += [late.act, central_system.act]
-            feeder.after_opening.append(central_system.opened)
-            self._listeners.append(Listener("ocpp", ocpp.listen, central_system.application()))
+            self._serve_charge_points(ocpp.listen, central_system, late)
+
+    def _serve_charge_points(self, listen: str, central_system: CentralSystem, late: LateCommands) -> None:
+        """Has charge points served at an address, by what comes of events."""
+        self._feeder.before_commit += [central_system.note, late.note]
+        self._feeder.after_commit += [late.act, central_system.act]
+        self._feeder.after_opening.append(central_system.opened)
+        self._listeners.append(Listener("ocpp", listen, central_system.application()))
 
     def _send(self, outcome: Outcome) -> None:
         for packet in outcome.packets:
