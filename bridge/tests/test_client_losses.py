@@ -93,6 +93,17 @@ class Losses(ClientCase):
             for words in (f"{url}/UNLOCK_CONNECTOR", "NL/TNM/19", "NL/TNM/7"):
                 self.assertIn(words, logs.output[0])
 
+    async def test_a_drivers_token_stands_in_no_log(self) -> None:
+        dead = f"http://127.0.0.1:{free_port()}"
+        self.party.answers["tokens"] = fails(500)
+        for url in (dead, self.party.url):
+            self.client.partners.set_endpoints("BE/BEC", self.party.versions_url, {("tokens", "RECEIVER"): url})
+            with self.assertLogs("ocpi_bridge", "INFO") as logs:
+                await self.carry(self.packet("put_token", 7, token("NL/TNM", "SHOWN/1")))
+            self.assertIn(f"{url}/NL/TNM/...?type=RFID", logs.output[-1])
+            self.assertNotIn("SHOWN", "".join(logs.output))
+        self.assertEqual(["/NL/TNM/SHOWN%2F1?type=RFID"], [received.raw_path for received in self.asked()])
+
 
 class Certificates(ClientCase):
     """The same, over TLS, whose beginning takes its time."""
@@ -133,6 +144,13 @@ class Operators(ClientCase):
         self.party.answers["tokens"] = fails(404)
         await self.carry(question)
         self.assertEqual([2001], [answer.body["status_code"] for answer in self.delivered])
+
+    async def test_the_token_of_a_question_stands_in_no_log(self) -> None:
+        self.party.answers["tokens"] = fails(500)
+        with self.assertLogs("ocpi_bridge", "INFO") as logs:
+            await self.carry(self.packet("authorize", 5, {"token_uid": "SHOWN", "type": "RFID"}))
+        self.assertIn("/.../authorize?type=RFID", logs.output[-1])
+        self.assertNotIn("SHOWN", "".join(logs.output))
 
     async def test_a_bill_that_is_not_taken_is_warned_of(self) -> None:
         async def refuses(received: Received) -> web.StreamResponse:

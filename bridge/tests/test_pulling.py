@@ -167,3 +167,22 @@ class TwoPartners(Sessions):
             return {"S0", "S1", "S2"} == {packet.body["id"] for packet in self.delivered if packet.sender == "BE/BEC"}
         await eventually(all_came, "the sessions of the other partner")
         self.assertGreater(len(self.other.requests), 3)
+
+
+class Tokens(ClientCase):
+    """An operator's bridge, and a provider one of whose tokens the node refuses."""
+
+    is_operator = True
+    kind = "ocpi"
+
+    async def feed(self, event: Members) -> Outcome:
+        await super().feed(event)
+        return Outcome(event, {"done": "refused", "name": "WrongForm", "field": "issuer"}, ())
+
+    async def test_a_drivers_token_stands_in_no_log(self) -> None:
+        self.party.lists["tokens"] = [token("NL/TNM", "SHOWN")]
+        pulling = Pulling(self.client, Objects(self.state), self.state, is_operator=True)
+        with self.assertLogs("ocpi_bridge", "INFO") as logs:
+            await pulling._pull(self.client.partners.of("NL/TNM"), "put_token")
+        self.assertIn("the node refuses an object", logs.output[-1])
+        self.assertNotIn("SHOWN", "".join(logs.output))

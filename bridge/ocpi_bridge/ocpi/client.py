@@ -133,10 +133,10 @@ class Client:
         if partner.kind == "node" and packet.kind in AGED:
             headers["X-Order-Age"] = str(self._orders.age(packet))
         try:
-            url, body = await self._request(packet, partner)
+            url, told, body = await self._request(packet, partner)
             if name is not None:
                 self._state.set_value(name, "")
-            response = await self.exchange.ask(partner, FORMS[packet.kind].method, url, body, headers)
+            response = await self.exchange.ask(partner, FORMS[packet.kind].method, url, body, headers, told)
         except NoResponse as fault:
             if name is not None and isinstance(fault, NotSent):
                 self._state.query("DELETE FROM value_of WHERE name = ?", name)
@@ -148,15 +148,18 @@ class Client:
             self.partners.set_endpoints(partner.party, partner.versions_url, {})
         answer = answer_of(packet, partner.kind, response, self.events.clock)
         if answer is None or answer.body["status_code"] != SUCCESS:
-            _warn(packet, response, url, answer)
+            _warn(packet, response, told, answer)
         if answer is not None:
             if name is not None:
                 self._state.set_value(name, write_json(answer.members()))
             await self.deliver(answer)
         return response.status < 500 and response.status not in TRANSIENT
 
-    async def _request(self, packet: Packet, partner: Partner) -> tuple[str, Members | None]:
-        """The URL and the body of the request that a packet is. Raises NoResponse."""
+    async def _request(self, packet: Packet, partner: Partner) -> tuple[str, str, Members | None]:
+        """The URL of the request that a packet is, the same as logs tell it, and its body. Raises NoResponse.
+
+        No log tells a driver's token.
+        """
         form, body = FORMS[packet.kind], packet.body
         if packet.kind == "command_result":
             url: str | None = body["response_url"]
@@ -165,12 +168,13 @@ class Client:
                 url = self.requests.url(partner.party, number)
             if url is None:
                 raise NoAddress("its result has no address")
-            return url, {"result": body["result"]}
+            return url, url, {"result": body["result"]}
         if packet.kind in COMMANDS:
             body = {**body, "response_url": self._url + RESULTS_PATH + body["response_url"].rpartition("/")[2]}
-        address, path = await self.endpoint(partner, form.module, form.role), path_of(form.path, body)
-        address = address.rstrip("/") + path if path else address
-        return address, body.get("location") if packet.kind == "authorize" else body
+        address = await self.endpoint(partner, form.module, form.role)
+        url, told = (address.rstrip("/") + path_of(form.path, members) if form.path else address
+                     for members in (body, {**body, "uid": "...", "token_uid": "..."}))
+        return url, told, body.get("location") if packet.kind == "authorize" else body
 
 
 def _name(packet: Packet) -> str:
@@ -178,9 +182,9 @@ def _name(packet: Packet) -> str:
     return f"sent {party_key(packet.receiver)}/{packet.request}"
 
 
-def _warn(packet: Packet, response: Response, url: str, answer: Packet | None) -> None:
-    """Warns of a response that is no success: with its URL where it is no answer."""
-    words = f": {url}" if answer is None else REFUSED_BILL if packet.kind == "post_cdr" else ""
+def _warn(packet: Packet, response: Response, told: str, answer: Packet | None) -> None:
+    """Warns of a response that is no success: with its URL, as it may be told, where it is no answer."""
+    words = f": {told}" if answer is None else REFUSED_BILL if packet.kind == "post_cdr" else ""
     log.warning("%s to %s (%s/%d, %s/%d): HTTP %d, status_code %s%s", packet.kind, packet.receiver, packet.sender,
                 packet.serial, packet.sender, packet.request, response.status, response.body.get("status_code"), words)
 

@@ -79,10 +79,11 @@ class Exchange:
             auto_decompress=False, json_serialize=write_json)
 
     async def ask(self, partner: Partner, method: str, url: str, body: Members | None = None,
-                  headers: Mapping[str, str] | None = None) -> Response:
+                  headers: Mapping[str, str] | None = None, told: str | None = None) -> Response:
         """Sends a request with the token that a partner gave, and gives what is answered. Raises NoResponse.
 
-        Where `headers` have no ids, as of a packet, it has ids of its own.
+        Where `headers` have no ids, as of a packet, it has ids of its own. Where the request is lost, its URL is told:
+        as `told`, if there is something in it that no log may tell.
         """
         if partner.their_token is None:
             raise NoAddress("not registered")
@@ -91,8 +92,7 @@ class Exchange:
                 "Accept-Encoding": "identity", "X-Request-ID": str(uuid.uuid4()),
                 "X-Correlation-ID": str(uuid.uuid4()), **(headers or {})}
         ids = f"({sent['X-Request-ID']}, {sent['X-Correlation-ID']})"
-        # The URL may have a driver's token: it is told where a request is lost alone.
-        asked = f"{method} {url} {ids}"
+        asked = f"{method} {told or url} {ids}"
         try:
             response = await self.clock.within(SECONDS, self._ask(method, url, sent, body))
             status = str(response.status)

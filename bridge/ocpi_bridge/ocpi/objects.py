@@ -82,7 +82,7 @@ class Objects:
                              "upper(json_extract(body, '$.session_id')) = ?)", party_key(_party(bill)),
                              str(bill["id"]).upper(), str(bill.get("session_id")).upper())
         for held in [other for other in bills if other != bill][:1]:
-            log.warning("bill %s of %s, session %s: refused, since it contradicts bill %s, which is held: "
+            log.warning("bill %.80s of %s, session %s: refused, since it contradicts bill %s, which is held: "
                         "ask its operator", bill["id"], _party(bill), held.get("session_id"), held["id"])
 
     def refuse(self, module: str, body: Members) -> None:

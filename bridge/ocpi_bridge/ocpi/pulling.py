@@ -134,7 +134,7 @@ class Pulling:
             outcome = await self._client.deliver(packet)
             if outcome is None or _is_refused(outcome, packet):
                 log.warning("list of %s of %s: the node refuses an object, until it has another last_updated: %.80a",
-                            module, partner.party, str(body.get("id", body.get("uid"))))
+                            module, partner.party, "a token" if kind == "put_token" else str(body.get("id")))
                 self._objects.refuse(module, body)
                 if kind == "post_cdr":
                     self._objects.warn_of_bill(body)
