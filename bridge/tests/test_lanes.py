@@ -27,7 +27,7 @@ PLACE = {"token_uid": "AA01", "token_type": "RFID", "location_id": "LOC1", "evse
 class LanesCase(ClientCase):
     """A client that sends what it is given. `begun` has what came, as it came, and `at_once` the most at once."""
 
-    clock_factor = 10.0
+    clock_factor = 5.0
 
     async def asyncSetUp(self) -> None:
         await super().asyncSetUp()
@@ -105,7 +105,7 @@ class First(LanesCase):
         for request in range(9):
             self.client.send(self.put_token(request, f"T{request}"))
         self.begin_to_send()
-        await self.until(lambda: len(self.begun) == 3)
+        await self.until(lambda: len(self.begun) >= 3)
         self.client.send(self.packet("unlock_connector", 900, unlock(900)))
         await self.until(lambda: self.is_delivered(900))
         self.assertLess(len(self.begun), 9)
@@ -154,12 +154,13 @@ class Order(LanesCase):
                          {received.headers["X-Request-ID"] for received in self.begun})
 
     async def test_a_command_that_is_under_way_is_not_sent_beside_itself(self) -> None:
-        self.answers_after(0.2, "commands")
+        self.answers_after(60, "commands")
         self.begin_to_send()
         for serial in range(1, 5):
             self.client.send(self.packet("start_session", 7, start_session(
                 ocpi_objects.token("NL/TNM"), "https://node.invalid/NL/TNM/7"), serial))
-            await asyncio.sleep(0.03)
+            await self.until(lambda: len(self.begun) == 1)
+        self.ends.set()
         await self.until(lambda: len(self.delivered) == 1)
         await asyncio.sleep(0.3)
         self.assertEqual((1, 1), (self.at_once, len(self.begun)))
@@ -188,7 +189,7 @@ class Failing(LanesCase):
         await asyncio.sleep(0.1)
         for request in range(1, 7):
             self.client.send(self.packet("unlock_connector", request, unlock(request)))
-        await self.until(lambda: len(moments) == 6)
+        await self.until(lambda: len(moments) >= 6)
         pauses = [later - earlier for earlier, later in zip(moments, moments[1:])]
         for pause, least in zip(pauses, (0, 1, 2, 4, 5)):
             self.assertGreaterEqual(pause, least)
@@ -206,7 +207,7 @@ class Failing(LanesCase):
         for request in range(40):
             self.client.send(self.put_token(request, f"T{request}"))
         self.begin_to_send()
-        await self.until(lambda: len(self.begun) == 7)
+        await self.until(lambda: len(self.begun) >= 7)
         self.client.send(self.packet("unlock_connector", 900, unlock(900)))
         await self.until(lambda: self.is_delivered(900))
         self.assertLess(len(self.begun), 20)

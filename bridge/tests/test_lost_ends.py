@@ -85,9 +85,9 @@ class StopTest(OcppCase):
 
 
 class AvailableTest(OcppCase):
-    """The clock goes 60 times as fast."""
+    """The clock goes 20 times as fast."""
 
-    factor = 60.0
+    factor = 20.0
 
     async def test_a_connector_that_stays_available_has_no_session(self) -> None:
         number = (await self.station.begin())["transactionId"]
