@@ -23,9 +23,9 @@ class Alone(unittest.TestCase):
         return Locations(state, Clock(), Objects(state), "BE/BEC", site, lambda _: None)
 
     def seconds(self, locations: Locations, *identifiers: str) -> float:
-        """The processor time of twenty looks, of the best of three."""
+        """The processor time of twenty looks, of the best of ten."""
         taken = []
-        for _ in range(3):
+        for _ in range(10):
             begun = time.process_time()
             for _ in range(20):
                 self.assertIsNotNone(locations.find(*identifiers))
