@@ -15,6 +15,9 @@ Payload = dict[str, Any]
 CONNECTOR = 1
 # In seconds of the machine: how long a car charges that waits to be stopped from afar.
 LONGEST_CHARGE = 20.0
+# Samples that no table of OCPP 1.6 has, as charge points send them beside the register.
+ODD: list[Payload] = [{"value": "50.01", "measurand": "Frequency", "unit": "Hertz"},
+                      {"value": "s" * 3000, "format": "SignedData"}, {"measurand": "Vendor.Power"}]
 
 
 @dataclass
@@ -158,6 +161,8 @@ class ChargePoint:
                             "timestamp": self._connection.moment(), "reason": transaction.reason}
         if happens(self._chance):
             stopped["idTag"] = transaction.id_tag
+        if happens(self._chance, 0.5):
+            stopped["transactionData"] = [{"timestamp": stopped["timestamp"], "sampledValue": ODD}]
         self._running = None
         self._changed.set()
         await self._connection.report("StopTransaction", stopped)
@@ -179,13 +184,14 @@ class ChargePoint:
         await asyncio.sleep(self._chance.uniform(0.0, 0.3))
 
     def _reading(self, transaction: Transaction, energy: int) -> Payload:
-        """A reading of the register, in one of the forms that OCPP allows."""
+        """A reading of the register, in one of the forms that OCPP allows, or beside odd samples."""
         register = transaction.meter_start + energy
         forms: list[list[Payload]] = [
             [{"value": str(register)}],
             [{"value": f"{register / 1000:.3f}", "measurand": "Energy.Active.Import.Register", "unit": "kWh"}],
             [{"value": "230.1", "measurand": "Voltage", "phase": "L1", "unit": "V"},
-             {"value": str(register), "measurand": "Energy.Active.Import.Register", "unit": "Wh"}]]
+             {"value": str(register), "measurand": "Energy.Active.Import.Register", "unit": "Wh"}],
+            [*ODD, {"value": str(register)}, *ODD]]
         return {"connectorId": CONNECTOR, "transactionId": transaction.number, "meterValue": [
             {"timestamp": self._connection.moment(), "sampledValue": self._chance.choice(forms)}]}
 
