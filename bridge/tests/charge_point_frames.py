@@ -9,7 +9,7 @@ import aiohttp
 from .running import Members
 
 # The seconds within which each frame has to come.
-COMES_WITHIN = 20.0
+COMES_WITHIN = 60.0
 
 
 class ChargePoint:

@@ -180,7 +180,7 @@ class OcpiParty:
         return answered(chosen[offset:offset + limit], headers=headers)
 
     async def came(self, module: str, fits: Callable[[Received], bool] = lambda received: True,
-                   within: float = 20.0) -> Received:
+                   within: float = 60.0) -> Received:
         """The first request to a module that fits and was not taken yet. It is taken by this."""
         async def look() -> Received | None:
             for received in self.requests:

@@ -28,7 +28,7 @@ class OcppCase(unittest.IsolatedAsyncioTestCase):
 
     async def eventually(self, wanted: object, look: Callable[[], object]) -> None:
         """Waits until something is as it is wanted."""
-        end = time.monotonic() + 30
+        end = time.monotonic() + 60
         while look() != wanted and time.monotonic() < end:
             await asyncio.sleep(0.02)
         self.assertEqual(wanted, look())

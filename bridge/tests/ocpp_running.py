@@ -29,7 +29,7 @@ TOKEN: Members = {
     "issuer": "TNM", "valid": True, "whitelist": "ALWAYS", "last_updated": "2025-01-01T09:00:00Z"}
 START: Members = {"evse_uid": "E1", "connector_id": "1", "location_id": "LOC1", "token": TOKEN}
 # Seconds of real time in which anything that is awaited has to come.
-COMES_WITHIN = 30.0
+COMES_WITHIN = 60.0
 
 
 async def within(awaited: Awaitable[Result]) -> Result:

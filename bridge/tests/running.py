@@ -29,7 +29,7 @@ LISTENING = re.compile(r"\b(ocpi|ocpp|admin): listening on (127\.0\.0\.1:\d+)")
 
 # The seconds within which a bridge has to listen, and to end. They are long, since tests run side by side.
 STARTS_WITHIN = 60.0
-ENDS_WITHIN = 30.0
+ENDS_WITHIN = 60.0
 
 
 # Of Linux: the signal that a process gets when the one that started it ends.
@@ -87,7 +87,7 @@ def charge_point(identifier: str, evse_uids: Sequence[str], password: str | None
     return entry
 
 
-async def eventually(look: Callable[[], Awaitable[Found | None]], what: str, within: float = 20.0) -> Found:
+async def eventually(look: Callable[[], Awaitable[Found | None]], what: str, within: float = 60.0) -> Found:
     """Looks again and again until what is looked for is there. Raises AssertionError after so many seconds."""
     end = time.monotonic() + within
     while True:

@@ -57,7 +57,7 @@ class LanesCase(ClientCase):
         task = asyncio.create_task(self.client.run())
         self.addCleanup(task.cancel)
 
-    async def until(self, look: Callable[[], bool], within: float = 20.0) -> None:
+    async def until(self, look: Callable[[], bool], within: float = 60.0) -> None:
         async def looks() -> bool:
             return look()
         await eventually(looks, "what was sent", within)
