@@ -223,7 +223,7 @@ class OcpiParty:
     async def _ask_once(self, method: str, url: str, data: bytes | None, headers: Mapping[str, str]) -> Reply:
         assert self._session is not None
         async with self._session.request(method, URL(url, encoded=True), data=data, headers=headers,
-                                         timeout=aiohttp.ClientTimeout(60)) as response:
+                                         timeout=aiohttp.ClientTimeout(240)) as response:
             text = await response.text()
             members = json.loads(text) if response.content_type == "application/json" and text else {}
             return Reply(response.status, response.headers.copy(), members)
@@ -264,6 +264,6 @@ def quoted(text: str) -> str:
                    "".join(f"%{byte:02X}" for byte in character.encode()) for character in text)
 
 
-async def gathered(asked: Sequence[Awaitable[Reply]], within: float) -> list[Reply]:
+async def gathered(asked: Sequence[Awaitable[Reply]], within: float = 400.0) -> list[Reply]:
     """All replies, within so many seconds. Raises TimeoutError."""
     return list(await asyncio.wait_for(asyncio.gather(*asked), within))

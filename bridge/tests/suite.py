@@ -22,7 +22,7 @@ from .running import end_with_parent
 
 BRIDGE = Path(__file__).resolve().parents[1]
 # The seconds that a process may take, and the lines of one that failed which are shown.
-MOST_SECONDS = 480
+MOST_SECONDS = 900
 MOST_LINES = 60
 # Tests mostly wait, so more of them run at once than there are processors.
 AT_ONCE = 2 * (os.cpu_count() or 1)

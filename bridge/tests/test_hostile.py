@@ -10,7 +10,7 @@ from .ocpi_party import OcpiParty, Reply, gathered
 async def held_tokens(party: OcpiParty, uids: list[str]) -> set[str]:
     """Which of these tokens of a party the bridge of an operator holds."""
     url = await party.endpoint("tokens", "RECEIVER")
-    replies = await gathered([party.ask("GET", f"{url}/{party.party}/{uid}") for uid in uids], 120)
+    replies = await gathered([party.ask("GET", f"{url}/{party.party}/{uid}") for uid in uids])
     return {uid for uid, reply in zip(uids, replies) if reply.http_status == 200 and reply.data["uid"] == uid}
 
 
@@ -20,7 +20,7 @@ class ManyAtOnce(OperatorCase):
     async def test_500_requests_are_all_answered_and_kept(self) -> None:
         uids = [f"T{number}" for number in range(500)]
         await self.provider.endpoint("tokens", "RECEIVER")
-        replies = await gathered([self.provider.put_token(token(self.provider.party, uid)) for uid in uids], 120)
+        replies = await gathered([self.provider.put_token(token(self.provider.party, uid)) for uid in uids])
         self.assertEqual({1000}, {reply.status_code for reply in replies})
         self.assert_memory()
         self.bridge.kill()
@@ -31,7 +31,7 @@ class ManyAtOnce(OperatorCase):
         charge_point = await self.begin_charge_point()
         starts = [start_session(self.token, self.response_url("start")) for _ in range(100)]
         await self.provider.endpoint("commands", "RECEIVER")
-        replies = await gathered([self.provider.command("START_SESSION", start) for start in starts], 120)
+        replies = await gathered([self.provider.command("START_SESSION", start) for start in starts])
         self.assertEqual({1000}, {reply.status_code for reply in replies})
         identifier, _ = await charge_point.asked("RemoteStartTransaction")
         await charge_point.give(identifier, {"status": "Accepted"})
@@ -47,7 +47,7 @@ class ManyAtOnce(OperatorCase):
         asked += [self.provider.ask("PUT", f"{url}/NL/PLN/AA01", data=b"{" * 500_000) for _ in range(100)]
         asked += [self.provider.ask("PUT", f"{url}/NL/PLN/AA01", data=b" " * 2_000_000) for _ in range(100)]
         asked += [self.provider.put_token(self.token) for _ in range(200)]
-        statuses = [reply.http_status for reply in await gathered(asked, 120)]
+        statuses = [reply.http_status for reply in await gathered(asked)]
         self.assertEqual({401}, set(statuses[:100]))
         self.assertEqual({400}, set(statuses[100:200]))
         self.assertEqual({413}, set(statuses[200:300]))
@@ -60,7 +60,7 @@ class ManyAtOnce(OperatorCase):
         large = [b"[" + b"{}," * 260_000 + b"{}]", b"[" * 100 + b"1," * 400_000 + b"1" + b"]" * 100]
         asked = [self.provider.ask("PUT", f"{url}/NL/PLN/AA01", data=body) for body in large for _ in range(40)]
         asked += [self.provider.put_token({**self.token, "x": "y" * 800_000}) for _ in range(20)]
-        replies = await gathered(asked, 120)
+        replies = await gathered(asked)
         self.assertEqual([2001] * 80 + [1000] * 20, [reply.status_code for reply in replies])
         self.assert_memory()
 
@@ -75,7 +75,7 @@ class ManyBills(ProviderCase):
         bills = [cdr(party, self.token, each["id"]) for each in sessions]
         url = await self.operator.endpoint("cdrs", "RECEIVER")
         asked = [self.operator.put_session(each) for each in sessions]
-        replies = await gathered(asked + [self.operator.ask("POST", url, bill) for bill in bills], 120)
+        replies = await gathered(asked + [self.operator.ask("POST", url, bill) for bill in bills])
         self.assertEqual({1000}, {reply.status_code for reply in replies})
         self.assert_memory()
         self.bridge.kill()
