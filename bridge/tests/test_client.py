@@ -155,9 +155,10 @@ class OtherProvider(Questions):
 
 
 class Once(ClientCase):
-    """A provider's bridge, and an operator that knows no repeats."""
+    """A provider's bridge, and an operator that knows no repeats. The clock goes as fast as the machine's."""
 
     kind = "ocpi"
+    clock_factor = 1.0
 
     async def test_a_repeat_is_not_sent_and_gets_the_answer_that_came(self) -> None:
         await self.carry(*[self.packet("stop_session", 7, stop(7), serial) for serial in (3, 4)])

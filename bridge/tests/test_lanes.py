@@ -170,7 +170,7 @@ class Order(LanesCase):
         for request in range(2500):
             self.client.send(self.packet("unlock_connector", request, unlock(request)))
         self.begin_to_send()
-        await self.until(lambda: len(self.delivered) == 2500, 60)
+        await self.until(lambda: len(self.delivered) == 2500, 400)
 
 
 class Failing(LanesCase):
