@@ -1,7 +1,7 @@
 //! Why a store refused, or a file was not read, in words, and what to do about it.
 
 use node_store::{Cause, StoreFault};
-use ocpi_text::E4;
+use ocpi_text::{E4, Moment};
 use std::alloc::{AllocError, Global};
 use std::io::ErrorKind;
 use stored_rows::BadReason;
