@@ -27,8 +27,8 @@ pub record Started (w : World) (p reference o id : List ℕ) : Type 0 where
   pub same : key spelled ≡ reference
 
 -- the past of a session is orderly: it begins PENDING, its statuses follow one another, each version is later than the
--- one before it, its energy never falls, its cost is that of its energy at the site's price at its start, and what it is of stays.
--- The newest is what is stored
+-- one before it, its energy never falls, its cost is that of its energy at the site's price at its start, and what it is
+-- of stays. The newest is what is stored
 pub record GoesInOrder (p : Place) (s : operator.State) (id : List ℕ) : Type 0 where
   pub orderly : IsOrderly (price_at s.site) (past_of id p.versions)
   pub newest : get s.rows.charged.sessions id ≡ last_or None (past_of id p.versions)
