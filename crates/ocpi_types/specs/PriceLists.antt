@@ -1,7 +1,7 @@
 -- Prices that hold from moments on (profile of OCPI 2.2.1, Sessions: Session object, total_cost).
-use Rattle.std.specs.Prelude.{ℕ, List, Option, None, AllPairs, filter, length, nat_le, ◌<◌, ◌≤◌}
+use Rattle.std.specs.Prelude.{ℕ, List, Option, None, AllPairs, filter, length, nat_le, slice_index_or, ◌≡◌, ◌+◌, ◌<◌, ◌≤◌}
 use Rattle.std.specs.List.{last_or}
-use Rattle.ocpi_types.specs.declared.prices.PriceFrom.{PriceFrom}
+use Rattle.ocpi_types.specs.declared.price_lists.PriceFrom.{PriceFrom}
 
 -- the first begins earlier than the second
 abbrev pub IsEarlier : PriceFrom → PriceFrom → Type 0
@@ -19,3 +19,10 @@ begun_by at ps = filter (λ p. nat_le p.start_date_time at) ps
 -- the last of those
 abbrev pub last_begun : ℕ → List PriceFrom → Option PriceFrom
 last_begun at ps = last_or None (begun_by at ps)
+
+-- an entry begins by a moment, and the next, where there is one, does not
+pub record IsLastBegun (at : ℕ) (ps : List PriceFrom) (i : ℕ) (p : PriceFrom) : Type 0 where
+  pub within : i < length ps
+  pub is : p ≡ slice_index_or ps i p
+  pub begins : p.start_date_time ≤ at
+  pub next : i + 1 < length ps → at < (slice_index_or ps (i + 1) p).start_date_time

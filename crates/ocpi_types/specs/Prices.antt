@@ -1,7 +1,7 @@
 -- The price of a site, which may change at moments (profile of OCPI 2.2.1, Sessions: Session object, total_cost).
 use Rattle.std.specs.Prelude.{ℕ, ℤ, Option, Some, None}
 use Rattle.ocpi_types.specs.PriceLists.{last_begun}
-use Rattle.ocpi_types.specs.declared.prices.PriceFrom.{PriceFrom}
+use Rattle.ocpi_types.specs.declared.price_lists.PriceFrom.{PriceFrom}
 use Rattle.ocpi_types.specs.declared.site.Site.{Site}
 
 -- the price of an entry, and another where there is none

@@ -14,7 +14,7 @@ use crate::copies::{ListItem, copy_all};
 use crate::id_set::IdSet;
 use crate::parties::Parties;
 use crate::price::PricePerKwh;
-use crate::prices::Prices;
+use crate::price_lists::Prices;
 use ocpi_text::{CiText, FreeText, Moment};
 use std::alloc::{AllocError, Global};
 use std::marker::Model;

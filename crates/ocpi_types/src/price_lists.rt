@@ -30,7 +30,7 @@ pub struct Prices {
 
 impl Model for Prices {
     ghost use Rattle.std.specs.Prelude.{List};
-    ghost use Rattle.ocpi_types.specs.declared.prices.PriceFrom.{PriceFrom};
+    ghost use Rattle.ocpi_types.specs.declared.price_lists.PriceFrom.{PriceFrom};
     ghost use Rattle.ocpi_types.specs.PriceLists.{ArePrices};
 
     ghost Value = { List PriceFrom };
