@@ -45,7 +45,10 @@ pub fn free_evse(
             Some(evse.uid)
         }
         Some(_name) => match site.claim_of(evse_uid.key()) {
-            None => Some(*evse_uid),
+            None => {
+                site.evses_differ();
+                Some(*evse_uid)
+            }
             Some(_claim) => None,
         },
     }

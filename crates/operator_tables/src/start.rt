@@ -152,7 +152,10 @@ fn free_place(
     match &command.evse_uid {
         None => site.free_place(at, &command.evse_uid, &command.connector_id),
         Some(_name) => match site.claim_of(place.evse_uid.key()) {
-            None => Some(*place),
+            None => {
+                site.evses_differ();
+                Some(*place)
+            }
             Some(_claim) => None,
         },
     }

@@ -112,6 +112,20 @@ module _ (locations : List Location) where
           | f ∷ fs ↦ λ at first. first f refl
         ] h.1 first
 
+    -- where no two EVSEs have one uid, that of a uid is the first of what has it
+    pub first_named : OneEvseEach locations → (uid : List ℕ) (P : Evse → Type 0) (e : Evse) → ((f : Evse) → P f → IsNamed (Some uid) f.uid) → IsEvseFor l (Some uid) e → IsFirst l P e
+    first_named one uid P e names is =
+        let p = place l.evses e is.listed in
+        record {
+          place = p.0;
+          stands = p.1;
+          none_before = λ i f less here passes.
+              let same : (at, i) ≡ (at, p.0) = one (key uid) (at, i) (at, p.0) (record { evse = f; at = record { location = l; stands = stands; within = here }; same = names f passes })
+              (record { evse = e; at = record { location = l; stands = stands; within = p.1 }; same = is.named }) in
+              let equal : i ≡ p.0 = ap (λ (q : Position). q.1) same in
+              absurd (omega arith);
+        }
+
     module _ (flags : List (List Bool)) (test : List ℕ → Bool) (m : Marks locations flags test) where
       -- an EVSE at a position whose flag is set passes the test
       pub marked_there : (j : ℕ) (e : Evse) → IsFlag flags (at, j) true → IsEvseAt locations (at, j) e → IsTrue (test (key e.uid))
@@ -188,20 +202,6 @@ module _ (locations : List Location) where
     module _ (one : OneEvseEach locations) (at : ℕ) (l : Location) (stands : slice_get locations at ≡ Some l) (uid : List ℕ) where
       stands_there : (e : Evse) → IsEvseFor l (Some uid) e → (j : ℕ) × IsEvseAt locations (at, j) e × HasEvse locations (at, j) (key uid)
       stands_there e is = let p = position_of at l stands (Some uid) e is in (p.0, p.1, record { evse = e; at = p.1; same = is.named })
-
-      -- it is the first of what has its uid
-      pub first_named : (P : Evse → Type 0) (e : Evse) → ((f : Evse) → P f → IsNamed (Some uid) f.uid) → IsEvseFor l (Some uid) e → IsFirst l P e
-      first_named P e names is =
-          let p = place l.evses e is.listed in
-          record {
-            place = p.0;
-            stands = p.1;
-            none_before = λ i f less here passes.
-                let same : (at, i) ≡ (at, p.0) = one (key uid) (at, i) (at, p.0) (record { evse = f; at = record { location = l; stands = stands; within = here }; same = names f passes })
-                (record { evse = e; at = record { location = l; stands = stands; within = p.1 }; same = is.named }) in
-                let equal : i ≡ p.0 = ap (λ (q : Position). q.1) same in
-                absurd (omega arith);
-          }
 
       pub unknown_uid : get index (key uid) ≡ None → (e : Evse) → IsEvseFor l (Some uid) e → ⊥
       unknown_uid none e is =

@@ -38,6 +38,7 @@ ghost use Rattle.site_book.specs.Sites.{
   IsPlaceOf,
   IsRefused,
 };
+ghost use Rattle.site_book.specs.Positions.{OneEvseEach};
 ghost use Rattle.site_book.specs.Sites.{is_claimed, is_free, works, with_service, IsWorkingEvse, IsFreeEvse};
 
 use crate::claim::{Claim, SiteFault};
@@ -327,6 +328,14 @@ impl SiteBook {
     /// That only EVSEs of the site are claimed, which the type keeps.
     pub fn claims_are_of_site(&self)
         ensures { (uid : List ℕ) → IsTrue (is_claimed self.now.claims uid) → IsEvse self.now.site.locations uid }
+    {
+        // The invariant is known once a field is looked at.
+        let _indexes = &self.indexes;
+    }
+
+    /// That no two EVSEs of the site have one uid, which the type keeps.
+    pub fn evses_differ(&self)
+        ensures { OneEvseEach self.now.site.locations }
     {
         // The invariant is known once a field is looked at.
         let _indexes = &self.indexes;

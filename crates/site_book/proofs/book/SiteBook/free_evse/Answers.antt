@@ -14,4 +14,5 @@ returns-in-None-clause-first c = rw c.in-None.is (IfSome_then c.free_at.result c
 
 pub returns-else-not-is_free-clause-first : goal.returns-else-not-is_free-clause-first
 returns-else-not-is_free-clause-first c =
-    rw c.in-Some.is (rw (← c.self.view_is) (first_named _ _ _ _ c.self.invariant.2.evses_found c.self.invariant.1 _ _ (rw (← c.self.view_is) at c.requires) _ _ _ (λ (f : Evse) free. free.named) c.in_ok-evse-in-Some.ensures.found))
+    rw c.in-Some.is
+    (rw (← c.self.view_is) (first_named _ _ _ (rw (← c.self.view_is) at c.requires) c.self.invariant.1 _ _ _ (λ (f : Evse) free. free.named) c.in_ok-evse-in-Some.ensures.found))
