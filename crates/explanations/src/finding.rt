@@ -175,8 +175,11 @@ impl Search {
                 }
                 Ok(false)
             }
-            (Form::LaterMoment, Value::String(text)) if !self.is_later(text) => {
-                self.tell_not_later(text)
+            (Form::LaterMoment, Value::String(text)) => {
+                if !self.is_later(text) {
+                    return self.tell_not_later(text);
+                }
+                Ok(false)
             }
             _ => Ok(false),
         }
