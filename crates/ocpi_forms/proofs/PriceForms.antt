@@ -1,9 +1,9 @@
 -- The prices of a site are read just where the tree has their form.
-use Rattle.std.proofs.Common.{◌≡◌, ℕ, zero, suc, ℤ, ◌+◌, ◌-◌, ◌<◌, ◌≤◌, arith, Bool, true, false, cond, Option, Some, None, List, [], ◌∷◌, ◌++◌, length, All, AllPairs, ltb-true, lt-ltb, Ok, Err, refl, sym, subst, ap, ◌∙◌}
+use Rattle.std.proofs.Common.{◌≡◌, ℕ, suc, ℤ, ◌+◌, ◌-◌, ◌<◌, arith, Bool, true, false, cond, Option, Some, None, List, [], ◌∷◌, ◌++◌, length, All, AllPairs, ltb-true, lt-ltb, Ok, Err, refl, sym, subst, ap, ◌∙◌}
 use Rattle.std.specs.Prelude.{unwrap_or, slice_get}
 use Rattle.std.specs.List.{last_or}
 use Rattle.std.proofs.lemmas.Bool.{and_parts}
-use Rattle.std.proofs.lemmas.List.Elements.{All-nil, All-cons, All-head, All-tail}
+use Rattle.std.proofs.lemmas.List.Elements.{All-nil, All-cons}
 use Rattle.std.proofs.lemmas.List.Kept.{AllPairs-cons}
 use Rattle.serde_json.specs.Data.{Data, Items}
 use Rattle.ocpi_types.specs.Limits.{IsPrice}
@@ -18,7 +18,7 @@ use Rattle.json_text.specs.Lists.{counted_in}
 use Rattle.ocpi_forms.specs.SitePrices.{price_in, is_later, start_in, price_from_at, price_element, listed_prices_in, prices_in}
 use Rattle.ocpi_forms.specs.SiteForm.{IsPriceFrom, HasPrices}
 use Rattle.json_text.proofs.Exact.{Exact, done, ok_is, bind_ok, both_steps, passed, at_most, moment_exact, e4_exact, optional_exact}
-use Rattle.json_text.proofs.Elements.{record_beside, AllNew, ExactBeside, IsListing, listing_exact}
+use Rattle.json_text.proofs.Elements.{record_beside, AllNew, IsListing, listing_exact}
 
 -- ---- a price
 
@@ -187,5 +187,5 @@ prices_exact =
       sound = λ d ps e.
           let a = bind_ok (optional listed_prices_in field.Prices d) _ ps e in
           subst (HasPrices d) (ok_is _ ps a.2) (has_prices d a.0 (optional_list.sound d a.0 a.1));
-      complete = λ d ps p. rw (optional_list.complete d p.listed (as_listed d p.listed (subst ArePrices p.all p.are) p.form)) (ap done (sym p.all));
+      complete = λ d ps p. rw (optional_list.complete d p.listed (as_listed d p.listed (subst ArePrices p.all p.are) p.form)) (ap (λ zs. done zs) (sym p.all));
     }

@@ -1,13 +1,12 @@
 -- A site line is read just where the tree has its form.
-use Rattle.std.proofs.Common.{◌≡◌, ℕ, ℤ, Bool, true, false, cond, List, [], ◌∷◌, ◌++◌, length, map, Ok, Err, refl, sym, subst, ap, ◌∙◌, arith}
-use Rattle.std.proofs.lemmas.Bool.{and_parts}
+use Rattle.std.proofs.Common.{◌≡◌, ℕ, List, [], ◌∷◌, ◌++◌, length, map, Ok, refl, sym, subst, ap, ◌∙◌, arith}
 use Rattle.std.proofs.lemmas.List.{append_assoc, append-nil}
 use Rattle.std.proofs.lemmas.Grind.{flat_map-append}
 use Rattle.serde_json.specs.Data.{Data, Items}
 use Rattle.ocpi_text.specs.Text.{key}
 use Rattle.ocpi_text.specs.Party.{party_at}
 use Rattle.ocpi_types.specs.Apart.{DifferFrom}
-use Rattle.ocpi_types.specs.Limits.{IsCount, IsPrice}
+use Rattle.ocpi_types.specs.Limits.{IsCount}
 use Rattle.ocpi_types.specs.Connectors.{connector_keys, AreConnectors}
 use Rattle.ocpi_types.specs.Locations.{evse_keys, location_keys, site_evse_keys, AreLocations}
 use Rattle.ocpi_types.specs.Parties.{AreParties}
@@ -16,14 +15,13 @@ use Rattle.ocpi_types.specs.declared.site.Connector.{Connector}
 use Rattle.ocpi_types.specs.declared.site.Evse.{Evse}
 use Rattle.ocpi_types.specs.declared.site.Location.{Location}
 use Rattle.ocpi_forms.specs.declared.sites.LocationPlace.{LocationPlace}
-use Rattle.json_text.specs.declared.fault.JsonFault.TheVariants.{WrongForm}
-use Rattle.json_text.specs.Fields.{as_text, formed, ci_in, free_in, moment_in, party_in, e4_in, record_in, each_after}
+use Rattle.json_text.specs.Fields.{as_text, formed, ci_in, free_in, moment_in, party_in, record_in, each_after}
 use Rattle.json_text.specs.Lists.{new_ci_in, counted_in}
 use Rattle.ocpi_forms.specs.Sites.{connector_at, connector_element, connectors_in, evse_at, evse_element, evses_in, location_place_at, location_at, location_element, locations_in, site_at, provider_at, providers_in, parties_at, site_line_at, site_of_line}
 use Rattle.ocpi_forms.specs.SitePrices.{price_in, prices_in}
-use Rattle.json_text.specs.Form.{Required, IsFree, IsParty, IsE4, IsRecord, IsList}
+use Rattle.json_text.specs.Form.{Required, IsFree, IsParty, IsRecord, IsList}
 use Rattle.ocpi_forms.specs.SiteForm.{IsConnector, IsEvse, IsLocation, IsSite, HasParties, IsSiteLine, IsSiteLineTree}
-use Rattle.json_text.proofs.Exact.{Exact, done, ok_is, bind_ok, both_steps, passed, at_most, text_exact, formed_ok, ci_exact, free_exact, moment_exact, party_exact, e4_exact, inner_exact, as_record_exact}
+use Rattle.json_text.proofs.Exact.{Exact, ok_is, bind_ok, both_steps, text_exact, formed_ok, ci_exact, free_exact, moment_exact, party_exact, inner_exact, as_record_exact}
 use Rattle.ocpi_forms.proofs.PriceForms.{price_exact, prices_exact}
 use Rattle.json_text.proofs.Elements.{record_beside, beside, AllNew, ExactBeside, IsListing, listing_exact, new_ci_exact, new_among_sound, new_among_complete, Apart, differ_from_new, new_from_differ}
 

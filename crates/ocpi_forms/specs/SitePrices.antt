@@ -1,6 +1,6 @@
 -- Reading the prices of a site, entry by entry, in the order in which faults are told (profile of OCPI 2.2.1, Sessions:
 -- Session object, total_cost).
-use Rattle.std.specs.Prelude.{ℕ, ℤ, pos, List, [], ◌∷◌, Bool, true, Option, Some, None, unwrap_or, nat_lt, int_le, ◌&&◌, Ok, Err, if◌then◌else◌}
+use Rattle.std.specs.Prelude.{ℕ, ℤ, pos, List, [], Bool, true, Option, Some, None, unwrap_or, nat_lt, int_le, ◌&&◌, Ok, Err, if◌then◌else◌}
 use Rattle.std.specs.List.{last_or}
 use Rattle.serde_json.specs.Data.{Data}
 use Rattle.ocpi_types.specs.declared.field.Field.{Field}

@@ -106,5 +106,6 @@ pub(crate) fn prices_of(alloc: Global, object: &Tree<'_>) -> Result<Prices, Json
     if is_absent(object, Field::Prices) {
         return Ok(Prices::empty(alloc));
     }
-    listed_prices_of(alloc, object, Field::Prices)
+    let prices = listed_prices_of(alloc, object, Field::Prices)?;
+    Ok(prices)
 }
