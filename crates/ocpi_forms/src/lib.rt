@@ -58,6 +58,7 @@ mod on_heap;
 mod records;
 mod replies;
 mod sessions;
+mod site_prices;
 mod sites;
 mod status;
 mod tokens;
