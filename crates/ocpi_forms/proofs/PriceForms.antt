@@ -59,6 +59,10 @@ pub last_is : {X : Type 0} (xs : List X) → slice_get xs (length xs - 1) ≡ la
 last_is [] = refl
 last_is (x ∷ xs) = let place : suc (length xs) - 1 ≡ length xs = omega arith in ap (slice_get (x ∷ xs)) place ∙ last_behind x xs
 
+-- so an entry is compared with the one before
+pub later_than : (before : List PriceFrom) (o : Option PriceFrom) (at : ℕ) → o ≡ slice_get before (length before - 1) → is_later o at ≡ is_later (last_or None before) at
+later_than before o at e = ap (λ p. is_later p at) (e ∙ last_is before)
+
 start_cond : (z y : ℕ) (b : Bool) → cond b (done z) (Err (WrongForm field.StartDateTime)) ≡ Ok y → (b ≡ true) × (z ≡ y)
 start_cond z y true e = (refl, ok_is z y e)
 start_cond z y false e = absurd cc

@@ -38,7 +38,7 @@ fn is_later(before: &[PriceFrom], at: Moment) -> bool
     ensures { result ≡ is_later (last_or None before.now) at }
 {
     match before.last() {
-        Some(last) => last.start_date_time < at,
+        Some(entry) => entry.start_date_time < at,
         None => true,
     }
 }
