@@ -1,5 +1,5 @@
-//! The prices of a site: its own, and those that take its place from moments on. Each reader gives the first fault in the
-//! order of the members.
+//! The prices of a site: its own, and those that take its place from moments on. Each reader gives the first fault in
+//! the order of the members.
 
 ghost use Rattle.std.specs.Prelude.{◌≡◌, None};
 ghost use Rattle.std.specs.List.{last_or};
