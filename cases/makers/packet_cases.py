@@ -510,22 +510,25 @@ def price(start, token="0.30"):
 
 
 def try_prices(tree):
-    """Prices from moments on: each moment is later than the one before, by milliseconds, and entries are read in their order."""
+    """Prices from moments on: each moment is later than the one before, by milliseconds. Entries are read in order."""
     prices = ["site", "prices"]
     first = price("2025-01-01T10:00:00Z")
     many = [price(f"2025-01-01T00:{second // 60:02}:{second % 60:02}Z") for second in range(1001)]
     try_counts(tree, prices, many)
     for later in ("2025-01-01T10:00:00.001Z", "2025-01-01T10:00:01Z", "9999-12-31T23:59:59.999Z"):
         case(line_of(replaced(tree, prices, [first, price(later)])), "taken")
-    for no_later in ("2025-01-01T10:00:00Z", "2025-01-01t10:00:00.0009", "2025-01-01T09:59:59.999Z", "1970-01-01T00:00:00Z"):
+    same, earlier = ["2025-01-01T10:00:00Z", "2025-01-01t10:00:00.0009"], ["2025-01-01T09:59:59.999Z", "1970-01-01T00:00:00Z"]
+    for no_later in same + earlier:
         for second in (price(no_later), price(no_later, "10001"), {"start_date_time": no_later}):
             refused(line_of(replaced(tree, prices, [first, second])), wrong_form("start_date_time"))
     # Each is compared with the one before, not with the first.
-    for third, wanted in (("2025-01-01T10:00:02Z", "refused " + str(wrong_form("start_date_time"))), ("2025-01-01T10:00:03Z", "taken")):
-        case(line_of(replaced(tree, prices, [first, price("2025-01-01T10:00:02Z"), price(third)])), wanted)
+    second, third = price("2025-01-01T10:00:02Z"), price("2025-01-01T10:00:03Z")
+    case(line_of(replaced(tree, prices, [first, second, third])), "taken")
+    refused(line_of(replaced(tree, prices, [first, second, second])), wrong_form("start_date_time"))
     # A fault of an entry comes before one of a later entry.
-    for entry, fault in ((first | {"price": None}, missing("price")), (first | {"price": Number("10000.0001")}, wrong_form("price"))):
-        for second in (first, {}, None, price("2025-01-02T10:00:00Z")):
+    too_dear = first | {"price": Number("10000.0001")}
+    for entry, fault in ((first | {"price": None}, missing("price")), (too_dear, wrong_form("price"))):
+        for second in (first, {}, third):
             refused(line_of(replaced(tree, prices, [entry, second])), fault)
     refused(line_of(replaced(tree, prices, [None, {}])), wrong_form("prices"))
     refused(line_of(replaced(tree, prices, [first, {"price": None}])), missing("start_date_time"))

@@ -1,5 +1,5 @@
 -- The prices of a site are read just where the tree has their form.
-use Rattle.std.proofs.Common.{◌≡◌, ℕ, suc, ℤ, ◌+◌, ◌-◌, ◌<◌, arith, Bool, true, false, cond, Option, Some, None, List, [], ◌∷◌, ◌++◌, length, All, AllPairs, ltb-true, lt-ltb, Ok, Err, refl, sym, subst, ap, ◌∙◌}
+use Rattle.std.proofs.Common.{◌≡◌, ℕ, suc, ℤ, ◌-◌, ◌<◌, arith, Bool, true, false, cond, Option, Some, None, List, [], ◌∷◌, ◌++◌, length, All, AllPairs, ltb-true, lt-ltb, Ok, Err, refl, sym, subst, ap, ◌∙◌}
 use Rattle.std.specs.Prelude.{unwrap_or, slice_get}
 use Rattle.std.specs.List.{last_or}
 use Rattle.std.proofs.lemmas.Bool.{and_parts}
@@ -58,6 +58,10 @@ last_behind x (y ∷ ys) = last_behind y ys
 pub last_is : {X : Type 0} (xs : List X) → slice_get xs (length xs - 1) ≡ last_or None xs
 last_is [] = refl
 last_is (x ∷ xs) = let place : suc (length xs) - 1 ≡ length xs = omega arith in ap (slice_get (x ∷ xs)) place ∙ last_behind x xs
+
+-- so an entry is compared with the one before
+pub later_than : (before : List PriceFrom) (o : Option PriceFrom) (at : ℕ) → o ≡ slice_get before (length before - 1) → is_later o at ≡ is_later (last_or None before) at
+later_than before o at e = ap (λ p. is_later p at) (e ∙ last_is before)
 
 start_cond : (z y : ℕ) (b : Bool) → cond b (done z) (Err (WrongForm field.StartDateTime)) ≡ Ok y → (b ≡ true) × (z ≡ y)
 start_cond z y true e = (refl, ok_is z y e)

@@ -1,5 +1,5 @@
-//! The prices of a site: its own, and those that take its place from moments on. Each reader gives the first fault in the
-//! order of the members.
+//! The prices of a site: its own, and those that take its place from moments on. Each reader gives the first fault in
+//! the order of the members.
 
 ghost use Rattle.std.specs.Prelude.{◌≡◌, None};
 ghost use Rattle.std.specs.List.{last_or};
@@ -38,7 +38,7 @@ fn is_later(before: &[PriceFrom], at: Moment) -> bool
     ensures { result ≡ is_later (last_or None before.now) at }
 {
     match before.last() {
-        Some(last) => last.start_date_time < at,
+        Some(entry) => entry.start_date_time < at,
         None => true,
     }
 }
