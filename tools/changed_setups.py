@@ -189,6 +189,10 @@ NO_PARTY = f"it is of or to a party that the setup has not: {SETUP_OF_STORE}"
 NO_EVSE = f"the setup's site has no such EVSE: {SETUP_OF_STORE}"
 NO_CONNECTOR = f"the setup's site has the EVSE, and no such connector of it: {SETUP_OF_STORE}"
 OTHER_LOCATION = f"the setup's site has the EVSE, at another location than it names: {SETUP_OF_STORE}"
+# When the session of the stages begins, by the play's own clock, and the second behind it.
+BEGAN, AFTER = "2025-01-01T10:00:19Z", "2025-01-01T10:00:20Z"
+
+
 def other_price(began):
     return (
         f"it began at {began}, and its cost 3.0864 for 12.3456 kWh is not that of the setup's price then, 0.3000 a kWh: another "

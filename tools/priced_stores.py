@@ -111,7 +111,7 @@ def trials(program, room):
         status, _, said = node(program, store, [setup(entries)])
         number, words = named_session(store, said)
         yield f"that {name} price is another", (status, number in shares[run]), (3, True)
-        numbers = f"began at {moment(run, number or 0, 1)[:-1]}.000Z, and its cost {decimal(cost(number or 0, PRICES[run]))} for {decimal(energy(number or 0))} kWh"
+        numbers = f"began at {moment(run, number or 0, 1)}, and its cost {decimal(cost(number or 0, PRICES[run]))} for {decimal(energy(number or 0))} kWh"
         yield f"the session that is named where {name} price is another", words.startswith(f"it {numbers} is not"), True
         yield f"the rows where {name} price is another", stored(store) == before, True
     more = [setup(ENTRIES), *lines_of(2, range(NUMBER + 1, NUMBER + 2))]
