@@ -89,7 +89,7 @@ module _ (setup : List Node) (is_setup : IsSetup setup) (w : World) (hs : Histor
       let same = past_is o p s at id in
       record {
         orderly = subst (λ l. IsOrderly (price_at s.site) l) (sym same)
-            (subst (λ (z : Site). IsOrderly z.price (pasts.past id at.trace.events)) (sym (site_is o p s at)) law.0);
+            (subst (λ (z : Site). IsOrderly (price_at z) (pasts.past id at.trace.events)) (sym (site_is o p s at)) law.0);
         newest = ap (λ (z : operator.State). get z.rows.charged.sessions id) (sym at.state_is) ∙ law.1 ∙ ap (last_or None) (sym same);
       }
 

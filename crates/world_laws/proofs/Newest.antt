@@ -1,5 +1,5 @@
 -- Of an orderly past each version is the last, or comes before it and is of the same session.
-use Rattle.std.proofs.Common.{◌≡◌, ◌⊎◌, ◌<◌, ℤ, List, [], ◌∷◌, cond, inl, inr, refl, sym, subst, ◌∙◌, arith}
+use Rattle.std.proofs.Common.{◌≡◌, ◌⊎◌, ◌<◌, ℕ, ℤ, List, [], ◌∷◌, cond, inl, inr, refl, sym, subst, ◌∙◌, arith}
 use Rattle.std.specs.Prelude.{Some, None, Contains}
 use Rattle.std.specs.List.{last_or}
 use Rattle.std.proofs.lemmas.Slice.Eq.{bytes_eq-Decides}
