@@ -384,7 +384,7 @@ module _ (s : State) (at : ℕ) (sender : List ℕ) (n : ℕ) (one_claim : OneCl
       one_of_uid s apart l e f listed may.place.listed also.place.listed (sym own.own.2 ∙ ap (λ (r : Reservation). key r.evse_uid) same ∙ other.own.2)
   one_taken c l e f listed may also (reserve.Own own) (reserve.First none first) = absurd (none e own)
   one_taken c l e f listed may also (reserve.First none first) (reserve.Own own) = absurd (none f own)
-  one_taken c l e f listed may also (reserve.First none first) (reserve.First no second) = one_first l (reserve.IsReservable s.rows (key sender) c l) e f may also first second
+  one_taken c l e f listed may also (reserve.First none first) (reserve.First also_none second) = one_first l (reserve.IsReservable s.rows (key sender) c l) e f may also first second
 
   one_hold : (c : ReserveNow) → AtMostOne (Holds c)
   one_hold c d e h g =
