@@ -206,7 +206,7 @@ module _ (s t : State) (e : Event) (fine : IsConsistent s) (d : Does s e t) wher
       let follows : MayFollow (price_at s.site) v w = subst (λ o. IsNextOf (price_at s.site) o w) has next in
       no_turn v.status w.status final follows.turn
 
-  final_kept : (id : List ℕ) (v : Session) → stored s id ≡ Some v → IsFinal v.status → stored t id ≡ Some v
+  pub final_kept : (id : List ℕ) (v : Session) → stored s id ≡ Some v → IsFinal v.status → stored t id ≡ Some v
   final_kept id v has final = stays s t e d id fine (λ w i. none_after id v w has final i) ∙ has
 
   -- a bill of the event, and one from before, are of different sessions
@@ -249,7 +249,7 @@ module _ (s t : State) (e : Event) (fine : IsConsistent s) (d : Does s e t) wher
     | inr bill ↦ bill_id x i bill ∙ sym (bill_id y j (sym alike ∙ bill))
   ]
 
-  billed_stays : AreBilledOnce s → AreBilledOnce t
+  pub billed_stays : AreBilledOnce s → AreBilledOnce t
   billed_stays h = record {
     each = λ id v has complete. elim (session_from id v has) [
       | inl old ↦ (let (x, had, bills) = h.each id v old complete in (x, record_stays (key x.id) x had, bills))
