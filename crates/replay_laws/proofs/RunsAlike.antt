@@ -13,16 +13,15 @@ use Rattle.stored_laws.proofs.Starting.{nodes_can_start_again}
 use Rattle.world_steps.specs.World.{NodeState}
 
 -- what had happened at a node behind an answer
-entries_by : Replay → NodeEventKind → NodeAnswer → List Entry
+abbrev entries_by : Replay → NodeEventKind → NodeAnswer → List Entry
 entries_by r k (Stepped packets changed t) = r.entries ++ record { event = k; packets = packets } ∷ []
 entries_by r k PassedOver = r.entries
 entries_by r k (Declined why) = r.entries
 
-next : Replay → NodeEventKind → NodeAnswer → Replay
+abbrev next : Replay → NodeEventKind → NodeAnswer → Replay
 next r k a = record { setup = r.setup; member = r.member; state = left_by r.state a; entries = entries_by r k a }
 
 next_is : (r : Replay) (k : NodeEventKind) (a : NodeAnswer) → IsReplay r → MayAnswer r.state k a → IsReplay (next r k a)
-unfolding next, entries_by
 next_is r k (Stepped packets changed t) is may =
     goes_on nodes_can_start_again nodes_keep_openings r.setup r.member r.state t r.entries (r.entries ++ record { event = k; packets = packets } ∷ []) k (Ok (outcome.Stepped changed)) is
     (packets, may, refl) tt tt
@@ -30,7 +29,6 @@ next_is r k PassedOver is may = is
 next_is r k (Declined why) is may = is
 
 pub runs_are_one : RunsAreOne
-unfolding next, entries_by
 runs_are_one r [] [] [] t u is places h g = (refl, h ∙ sym g)
 runs_are_one r [] [] (b ∷ ys) t u is places h g = absurd g
 runs_are_one r [] (a ∷ xs) ys t u is places h g = absurd h
