@@ -143,19 +143,24 @@ def add_costs():
 
 
 def add_resumed():
-    """A stored version is the newest of its session again, where it has its cost and is no reservation's."""
+    """A stored version is the newest of its session again, where it has its cost, has no energy while it is PENDING, and is
+    no reservation's."""
     fresh()
     for status in ("PENDING", "ACTIVE", "COMPLETED", "INVALID"):
-        stored = session(status=status, kwh=10_000, cost=2_500, last_updated=moment(7))
+        charged = {} if status == "PENDING" else {"kwh": 10_000, "cost": 2_500}
+        stored = session(status=status, last_updated=moment(7), **charged)
         with_row("session resume price=0.25", "session", "BE/BEC/S1", stored, "resumed")
         case("session tell", text(stored))
-        with_row("session resume price=0.2501", "session", "BE/BEC/S1", stored, "handed back")
+        # (nothing costs nothing at any price)
+        with_row("session resume price=0.2501", "session", "BE/BEC/S1", stored, "handed back" if charged else "resumed")
         case("session copy", text(stored))
         with_row("session resume price=0.25", "session", "BE/BEC/S1", stored | {"total_cost": None}, "handed back")
         wanted = {
             "PENDING": text(stored | {"status": "ACTIVE", "start_date_time": moment(8), "last_updated": moment(8)}),
         }.get(status, "other state")
         case(f"session activate at={moment(8)} price=0.25", wanted)
+    early = session(status="PENDING", kwh=10_000, cost=2_500)
+    with_row("session resume price=0.25", "session", "BE/BEC/S1", early, "handed back")
     with_row("session resume price=0.25", "session", "BE/BEC/S1", session(status="RESERVATION"), "handed back")
     active = session(status="ACTIVE", kwh=10_000, cost=2_500)
     with_row("session resume price=0.25", "session", "BE/BEC/S1", active, "resumed")
