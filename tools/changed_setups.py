@@ -150,6 +150,16 @@ def with_site(**members):
     return lambda nodes: nodes[0]["site"].update(members)
 
 
+def later(moment, price=0.3):
+    """An entry of `prices`."""
+    return {"start_date_time": moment, "price": price}
+
+
+def with_prices(*entries, **members):
+    """The operator's prices change at moments."""
+    return with_site(prices=[*entries], **members)
+
+
 def with_place(location="LOC1", uid="E1", connector="1"):
     """Its location, its first EVSE or a connector of that has another name."""
     return lambda nodes: nodes[0]["site"].update(site(location, evse(uid, connector, "2"), evse("E2", "1")))
@@ -179,9 +189,20 @@ NO_PARTY = f"it is of or to a party that the setup has not: {SETUP_OF_STORE}"
 NO_EVSE = f"the setup's site has no such EVSE: {SETUP_OF_STORE}"
 NO_CONNECTOR = f"the setup's site has the EVSE, and no such connector of it: {SETUP_OF_STORE}"
 OTHER_LOCATION = f"the setup's site has the EVSE, at another location than it names: {SETUP_OF_STORE}"
-OTHER_PRICE = (
-    "its cost 3.0864 for 12.3456 kWh is not that of the setup's price 0.3000 a kWh: another price made it; "
-    f"{SETUP_OF_STORE}"
+# When the session of the stages begins, by the play's own clock, and the second behind it.
+BEGAN, AFTER = "2025-01-01T10:00:19Z", "2025-01-01T10:00:20Z"
+
+
+def other_price(began):
+    return (
+        f"it began at {began}, and its cost 3.0864 for 12.3456 kWh is not that of the setup's price then, 0.3000 a kWh: another "
+        f"price made it; {SETUP_OF_STORE}, and change a price by an entry of `prices` alone"
+    )
+
+
+OTHER_CURRENCY = (
+    "the session has not ended, and is in another currency than the setup's: give the currency of the store until all its "
+    "sessions have ended"
 )
 OTHER_PARTY = "it is of another party than this node's: name the party whose store this is"
 OTHER_ROLE = "a node of this role stores no such row: name the party whose store this is"
@@ -199,9 +220,17 @@ def taken(*stages):
 CHANGES = [
     (OPERATOR, "another price", with_site(price=0.3), {
         **taken("nothing", "tokens", "a reservation", "an open start", "a session without energy"),
-        "a session": (SESSION, OTHER_PRICE), "an ended session": (SESSION, OTHER_PRICE),
+        "a session": (SESSION, other_price(BEGAN)), "an ended session": (SESSION, other_price(BEGAN)),
     }),
-    (OPERATOR, "another currency", with_site(currency="CHF"), taken("tokens", "an open start", "a session", "an ended session")),
+    (OPERATOR, "another price from a later moment on", with_prices(later("2025-01-01T11:00:00Z")), taken(*STAGES)),
+    (OPERATOR, "another price from the start of the session on", with_prices(later(BEGAN)), {
+        **taken("a session without energy"), "a session": (SESSION, other_price(BEGAN)), "an ended session": (SESSION, other_price(BEGAN)),
+    }),
+    (OPERATOR, "the price of before until after the start", with_prices(later("1970-01-01T00:00:00Z", 0.25), later(AFTER), price=0.4), taken(*STAGES)),
+    (OPERATOR, "another currency", with_site(currency="CHF"), {
+        **taken("tokens", "an open start", "an ended session"), "a session without energy": (SESSION, OTHER_CURRENCY),
+        "a session": (SESSION, OTHER_CURRENCY),
+    }),
     (OPERATOR, "another name of an EVSE", with_place(uid="E9"), {
         **taken("nothing", "tokens", "an ended session"), "an EVSE out of service": (SERVICE, NO_EVSE), "a reservation": (RESERVATION, NO_EVSE),
         "an open start": (OPEN, NO_EVSE), "a session without energy": (SESSION, NO_EVSE), "a session": (SESSION, NO_EVSE),

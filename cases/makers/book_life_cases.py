@@ -36,8 +36,8 @@ def add_lives():
     case("session tell", text(session()))
     case("session copy", text(session()))
     active = session(status="ACTIVE", start_date_time=moment(5), last_updated=moment(5))
-    case(f"session activate at={moment(5)}", text(active))
-    case(f"session activate at={moment(6)}", "other state")
+    case(f"session activate at={moment(5)} price=0.25", text(active))
+    case(f"session activate at={moment(6)} price=0.25", "other state")
     case(f"session void at={moment(6)}", "other state")
     for at, kwh, stamp in (
         (moment(300), 300_000, moment(300)),
@@ -74,7 +74,7 @@ def add_ends():
     case(f"session void at={moment(0)}", text(session(status="INVALID", end_date_time=moment(0), last_updated=moment(0, 1))))
     begin(session())
     active = session(status="ACTIVE", start_date_time=moment(-60), last_updated=moment(0, 1))
-    case(f"session activate at={moment(-60)}", text(active))
+    case(f"session activate at={moment(-60)} price=0.25", text(active))
     ended = active | {"status": "COMPLETED", "end_date_time": moment(-60), "last_updated": moment(0, 2)}
     case(f"session complete at={moment(-90)}", text(ended))
 
@@ -91,16 +91,16 @@ def add_last_moments():
         case("session tell", still)
     begin(session(), before)
     active = session(status="ACTIVE", start_date_time=moment(0), last_updated=LAST_MOMENT)
-    case(f"session activate at={moment(0)}", text(active))
+    case(f"session activate at={moment(0)} price=0.25", text(active))
     case(f"session meter at={moment(1)} kwh=1", "1 StampEnd")
     case(f"session meter at={moment(1)} kwh=1000000.0001", "no such reading")
     case(f"session complete at={moment(1)}", "1 StampEnd")
     with_row(f"session bill at={moment(1)}", "cdr", "BE/BEC/C1", cdr(), "1 StampEnd")
     case("session tell", text(active))
     begin(session(), before)
-    case(f"session activate at={LAST_MOMENT}", text(active | {"start_date_time": LAST_MOMENT}))
+    case(f"session activate at={LAST_MOMENT} price=0.25", text(active | {"start_date_time": LAST_MOMENT}))
     begin(session(), first)
-    case(f"session activate at={first}", text(active | {"start_date_time": first, "last_updated": "1970-01-01T00:00:00.001Z"}))
+    case(f"session activate at={first} price=0.25", text(active | {"start_date_time": first, "last_updated": "1970-01-01T00:00:00.001Z"}))
     case(f"session complete at={LAST_MOMENT}", text(session(
         status="COMPLETED", start_date_time=first, end_date_time=LAST_MOMENT, last_updated=LAST_MOMENT
     )))
@@ -124,7 +124,7 @@ def add_costs():
     for kwh, price, cost in COSTS:
         fresh()
         begin(session(), price=decimal(price))
-        case(f"session activate at={moment(0)}", text(session(status="ACTIVE", last_updated=moment(0, 1))))
+        case(f"session activate at={moment(0)} price={decimal(price)}", text(session(status="ACTIVE", last_updated=moment(0, 1))))
         metered = session(kwh=kwh, cost=cost, status="ACTIVE", last_updated=moment(0, 2))
         case(f"session meter at={moment(0)} kwh={decimal(kwh)}", text(metered))
         case(f"session meter at={moment(0)} kwh=1000000.0001", "no such reading")
@@ -143,19 +143,24 @@ def add_costs():
 
 
 def add_resumed():
-    """A stored version is the newest of its session again, where it has its cost and is no reservation's."""
+    """A stored version is the newest of its session again, where it has its cost, has no energy while it is PENDING, and is
+    no reservation's."""
     fresh()
     for status in ("PENDING", "ACTIVE", "COMPLETED", "INVALID"):
-        stored = session(status=status, kwh=10_000, cost=2_500, last_updated=moment(7))
+        charged = {} if status == "PENDING" else {"kwh": 10_000, "cost": 2_500}
+        stored = session(status=status, last_updated=moment(7), **charged)
         with_row("session resume price=0.25", "session", "BE/BEC/S1", stored, "resumed")
         case("session tell", text(stored))
-        with_row("session resume price=0.2501", "session", "BE/BEC/S1", stored, "handed back")
+        # (nothing costs nothing at any price)
+        with_row("session resume price=0.2501", "session", "BE/BEC/S1", stored, "handed back" if charged else "resumed")
         case("session copy", text(stored))
         with_row("session resume price=0.25", "session", "BE/BEC/S1", stored | {"total_cost": None}, "handed back")
         wanted = {
             "PENDING": text(stored | {"status": "ACTIVE", "start_date_time": moment(8), "last_updated": moment(8)}),
         }.get(status, "other state")
-        case(f"session activate at={moment(8)}", wanted)
+        case(f"session activate at={moment(8)} price=0.25", wanted)
+    early = session(status="PENDING", kwh=10_000, cost=2_500)
+    with_row("session resume price=0.25", "session", "BE/BEC/S1", early, "handed back")
     with_row("session resume price=0.25", "session", "BE/BEC/S1", session(status="RESERVATION"), "handed back")
     active = session(status="ACTIVE", kwh=10_000, cost=2_500)
     with_row("session resume price=0.25", "session", "BE/BEC/S1", active, "resumed")
@@ -178,7 +183,7 @@ def add_bills():
     for end, hours in ((1800, 5_000), (0, 0), (1, 2), (36, 100), (3600, 10_000), (86_400 * 365, 8_760 * 10_000)):
         fresh()
         begin(session())
-        case(f"session activate at={moment(0)}", text(session(status="ACTIVE", last_updated=moment(0, 1))))
+        case(f"session activate at={moment(0)} price=0.25", text(session(status="ACTIVE", last_updated=moment(0, 1))))
         metered = session(kwh=123_456, cost=30_864, status="ACTIVE", last_updated=moment(0, 2))
         case(f"session meter at={moment(0)} kwh=12.3456", text(metered))
         stamp = moment(end) if end else moment(0, 3)
@@ -190,7 +195,7 @@ def add_bills():
     fresh()
     begin(session(authorization_reference=None), first)
     bill(moment(0), "other state")
-    case(f"session activate at={first}", text(session(
+    case(f"session activate at={first} price=0.25", text(session(
         authorization_reference=None, status="ACTIVE", start_date_time=first, last_updated="1970-01-01T00:00:00.001Z"
     )))
     hours = 253_402_300_799_999 // 360

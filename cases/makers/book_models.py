@@ -34,8 +34,12 @@ def with_row(words, kind, key, tree):
     return f"{words} kind={kind} key={key}\t{text(tree)}"
 
 
+# Prices of a kilowatt-hour, in ten-thousandths.
+PRICES = (0, 1, 2_500, 3_333, 100_000_000)
+
+
 class Sessions:
-    """One session after the other."""
+    """One session after the other. The price at which it is charged is that of the moment at which its charging begins."""
 
     def __init__(self, draw):
         self.draw, self.version, self.price = draw, None, 0
@@ -60,6 +64,8 @@ class Sessions:
         if call == "meter" and kwh < version["energy"]:
             return line, "no such reading"
         if call == "activate":
+            self.price = draw.choice(PRICES)
+            line += f" price={decimal(self.price)}"
             version |= {"status": "ACTIVE", "start": at}
         elif call == "meter":
             version |= {"energy": kwh}
@@ -70,7 +76,7 @@ class Sessions:
         return line, self.told(version)
 
     def start(self):
-        at, self.price = self.draw.randrange(0, 4_000_000), self.draw.choice((0, 1, 2_500, 3_333, 100_000_000))
+        at, self.price = self.draw.randrange(0, 4_000_000), self.draw.choice(PRICES)
         self.version = {"status": "PENDING", "start": at, "end": None, "energy": 0, "updated": at}
         line = f"session start at={moment(0, at)} price={decimal(self.price)}"
         return with_row(line, "session", "BE/BEC/S1", session()), self.told(self.version)

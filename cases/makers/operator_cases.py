@@ -6,7 +6,8 @@ nothing.
 The cases of what charge points report, of time and of restarts are in `operator_time_cases`, those of sessions in
 `operator_charge_cases` and `operator_session_cases`, those of bills that are taken back in `operator_credit_cases`,
 those of tokens and authorizations in `operator_token_cases` and `operator_deadline_cases`, those of the last numbers and
-of a tick that does much in `operator_limit_cases` and `operator_charge_limit_cases`.
+of a tick that does much in `operator_limit_cases` and `operator_charge_limit_cases`, and those of which EVSE is taken in
+`operator_choice_cases`.
 """
 from operator_case import (
     CASES,
@@ -27,6 +28,7 @@ from operator_case import (
 )
 from operator_charge_cases import add_charge_cases
 from operator_charge_limit_cases import add_charge_limit_cases
+from operator_choice_cases import add_choice_cases
 from operator_credit_cases import add_credit_cases
 from operator_deadline_cases import add_deadline_cases
 from operator_limit_cases import add_limit_cases
@@ -479,5 +481,6 @@ def cases():
     add_limit_cases()
     open_site_of_connectors()
     add_connectors()
+    add_choice_cases()
     end()
     return LINES, WANTED

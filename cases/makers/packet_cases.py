@@ -469,7 +469,8 @@ SITE = (
     '{"at":"2025-01-01T10:00:00Z","party":"BE/BEC","providers":["NL/TNM","DE/EMP"],"site":{"currency":"EUR",'
     '"locations":[{"address":"Korenmarkt 1","city":"Gent","country":"BEL","evses":[{"connectors":[{"format":"SOCKET",'
     '"id":"1","power_type":"AC_3_PHASE","standard":"IEC_62196_T2"}],"evse_id":"BE*BEC*E1","uid":"E1"}],"id":"LOC1",'
-    '"latitude":"51.05421","longitude":"3.72180"}],"price":0.25}}'
+    '"latitude":"51.05421","longitude":"3.72180"}],"price":0.25,"prices":[{"price":0.30,'
+    '"start_date_time":"2025-01-01T10:00:00Z"}]}}'
 )
 
 
@@ -500,6 +501,38 @@ def add_sites():
     refused(line_of(replaced(tree, locations, [location, other])), wrong_form("uid"))
     case(line_of(replaced(tree, evses, [evse, second])), "taken")
     case(line_of(replaced(tree, locations, [location, other | {"evses": [second]}])), "taken")
+    try_prices(tree)
+
+
+def price(start, token="0.30"):
+    """A price from a moment on."""
+    return {"start_date_time": start, "price": Number(token)}
+
+
+def try_prices(tree):
+    """Prices from moments on: each moment is later than the one before, by milliseconds. Entries are read in order."""
+    prices = ["site", "prices"]
+    first = price("2025-01-01T10:00:00Z")
+    many = [price(f"2025-01-01T00:{second // 60:02}:{second % 60:02}Z") for second in range(1001)]
+    try_counts(tree, prices, many)
+    for later in ("2025-01-01T10:00:00.001Z", "2025-01-01T10:00:01Z", "9999-12-31T23:59:59.999Z"):
+        case(line_of(replaced(tree, prices, [first, price(later)])), "taken")
+    same, earlier = ["2025-01-01T10:00:00Z", "2025-01-01t10:00:00.0009"], ["2025-01-01T09:59:59.999Z", "1970-01-01T00:00:00Z"]
+    for no_later in same + earlier:
+        for second in (price(no_later), price(no_later, "10001"), {"start_date_time": no_later}):
+            refused(line_of(replaced(tree, prices, [first, second])), wrong_form("start_date_time"))
+    # Each is compared with the one before, not with the first.
+    second, third = price("2025-01-01T10:00:02Z"), price("2025-01-01T10:00:03Z")
+    case(line_of(replaced(tree, prices, [first, second, third])), "taken")
+    refused(line_of(replaced(tree, prices, [first, second, second])), wrong_form("start_date_time"))
+    # A fault of an entry comes before one of a later entry.
+    too_dear = first | {"price": Number("10000.0001")}
+    for entry, fault in ((first | {"price": None}, missing("price")), (too_dear, wrong_form("price"))):
+        for second in (first, {}, third):
+            refused(line_of(replaced(tree, prices, [entry, second])), fault)
+    refused(line_of(replaced(tree, prices, [None, {}])), wrong_form("prices"))
+    refused(line_of(replaced(tree, prices, [first, {"price": None}])), missing("start_date_time"))
+    refused(line_of(replaced(tree, prices, [first, 1])), wrong_form("prices"))
 
 
 def try_counts(tree, path, items):

@@ -277,6 +277,21 @@ class NewText:
         return text
 
 
+class LaterMoment(NewText):
+    """A moment that is later than the one before."""
+
+    def __init__(self):
+        super().__init__(Moment())
+
+    def read(self, value, name):
+        text = self.form.read(value, name)
+        moment = text.strip('"').removesuffix("Z")
+        if self.seen and moment <= max(self.seen):
+            raise wrong_form(name)
+        self.seen.add(moment)
+        return text
+
+
 class Scope(Record):
     """An object within which new texts differ."""
 
@@ -460,11 +475,18 @@ LOCATION = Record(
     Member("evses", Items(EVSE, least=1, most=1000)),
 )
 
+PRICE = Member("price", Decimal(negative=False, most_units=100_000_000))
+
+PRICE_START = LaterMoment()
+
+PRICE_FROM = Record(Member("start_date_time", PRICE_START), PRICE)
+
 SITE = Scope(
     Member("currency", String(3)),
-    Member("price", Decimal(negative=False, most_units=100_000_000)),
+    PRICE,
+    Member("prices", Items(PRICE_FROM, least=0, most=1000), optional=True),
     Member("locations", Items(LOCATION, least=1, most=1000)),
-    new_texts=[LOCATION_ID, EVSE_UID],
+    new_texts=[LOCATION_ID, EVSE_UID, PRICE_START],
 )
 
 NEW_PARTY = NewText(Party())

@@ -5,6 +5,7 @@ A stop before a store is opened leaves it as it was, or as a new one where there
 is opened: it leaves version 1 with its texts, or version 2 with those in their place. One while a commit is made leaves what was
 before or what is then; one behind that leaves what is then. All that holds however the stop tears what was not synced.
 """
+import datetime
 import json
 import pathlib
 import re
@@ -43,6 +44,7 @@ from stored_case import (
     token_row,
 )
 from stored_charge import SETUP, rows_of_charge
+from stored_rules import Site
 
 CRATES = pathlib.Path(__file__).resolve().parents[2] / "crates"
 STRANGER = "AT/XXX"
@@ -153,12 +155,19 @@ def found_bad(party, shows):
     line("\t".join(["reopen " + party, *told]), "bad rows, as told")
 
 
+def millis(told):
+    """The milliseconds from 1970 to a moment."""
+    return int(datetime.datetime.fromisoformat(told.replace("Z", "+00:00")).timestamp() * 1000)
+
+
 def with_numbers(reason, row):
-    """The reason as it is told of that row, in ten-thousandths: another price with the row's energy and cost, and the site's price."""
+    """The reason as it is told of that row: another price with the row's start, its energy and cost, and the site's price then."""
     if reason != "OtherPrice":
         return reason
-    numbers = {"kwh": row[2]["kwh"], "cost": row[2]["total_cost"]["excl_vat"], "price": str(SITE["site"]["price"])}
-    told = ["%s: E4 { units: %d }" % (name, Decimal(number) * 10**4) for name, number in numbers.items()]
+    price = Site(SITE).price(row[2]["start_date_time"])
+    numbers = {"kwh": row[2]["kwh"], "cost": row[2]["total_cost"]["excl_vat"], "price": str(price)}
+    told = ["start_date_time: Moment { millis: %d }" % millis(row[2]["start_date_time"])]
+    told += ["%s: E4 { units: %d }" % (name, Decimal(number) * 10**4) for name, number in numbers.items()]
     return "OtherPrice { %s }" % ", ".join(told)
 
 
@@ -192,7 +201,8 @@ REASONS = {
     "SessionAtNoConnector": "UnknownConnector", "ReservationElsewhere": "OtherLocation", "StartWithoutEvse": "WithoutPlace",
     "StartWithoutConnector": "WithoutPlace", "ClaimedTwice": "ClaimedTwice", "OpenUnanswered": "Unanswered",
     "ResultUnanswered": "Unanswered", "OpenWithResult": "OpenWithResult", "PushedTwice": "PushedTwice",
-    "OfReservation": "ReservationStatus", "CostMissing": "WithoutCost", "OtherPrice": "OtherPrice", "BilledTwice": "BilledTwice",
+    "OfReservation": "ReservationStatus", "CostMissing": "WithoutCost", "OtherPrice": "OtherPrice",
+    "ChargedEarly": "EnergyWhilePending", "OtherMoney": "OtherCurrency", "BilledTwice": "BilledTwice",
     "CreditedTwice": "CreditedTwice", "BilledEarly": "BilledEarly", "Unbilled": "Unbilled", "CreditWithoutBill": "CreditWithoutBill",
 }
 # Those of which a store was told.
@@ -234,6 +244,8 @@ def bad_operators():
     bad(Operators, "OtherPrice", sessions, session(1, kwh="12.3456", cost="3.0865"))
     bad(Operators, "OtherPrice", sessions, cdrs, session(1, "COMPLETED", "12.3456", "3.7036"), bill(1), shows=[2])
     bad(Operators, "WithoutCost", sessions, session(1, cost=None))
+    bad(Operators, "EnergyWhilePending", sessions, session(1, "PENDING", "0.0004", "0.0001"))
+    bad(Operators, "OtherCurrency", sessions, session(1, currency="SEK"))
     bad(Operators, "ReservationStatus", sessions, session(1, "RESERVATION"))
     bad(Operators, "BilledTwice", sessions, cdrs, done, bill(1), bill(2, 1), shows=[3, 4])
     bad(Operators, "BilledEarly", sessions, cdrs, session(1, "ACTIVE"), bill(1))

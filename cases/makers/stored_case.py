@@ -8,7 +8,8 @@ from provider_case import OPERATORS, PROVIDER
 from stored_rules import operator_faults, provider_faults
 
 SITE = {"at": moment("10:00:00"), "party": OPERATOR, "providers": PROVIDERS,
-        "site": {"currency": "EUR", "locations": [location("LOC1", ["E1", "E2"]), location("LOC2", ["E3"])], "price": 0.25}}
+        "site": {"currency": "EUR", "locations": [location("LOC1", ["E1", "E2"]), location("LOC2", ["E3"])], "price": 0.25,
+                 "prices": [{"price": 0.5, "start_date_time": moment("10:00:40")}, {"price": 0.75, "start_date_time": moment("10:00:50")}]}}
 LINES, WANTED = [], []
 # The faults that some rows had alone, by the crate whose definition names them.
 ALONE = set()
@@ -137,11 +138,11 @@ def own_row(kind, tree):
 
 
 def session(number=1, status="ACTIVE", kwh="0.0000", cost="0.0000", evse="E1", connector="1", owner="NL/TNM", party=OPERATOR,
-            name=None, where="LOC1"):
+            name=None, where="LOC1", began="10:00:05", currency="EUR"):
     tree = {
         **halves(party), "auth_method": "WHITELIST", "cdr_token": named(token(party=owner)), "connector_id": connector,
-        "currency": "EUR", "evse_uid": evse, "id": session_id(number) if name is None else name, "kwh": Decimal(kwh),
-        "last_updated": moment("10:00:10"), "location_id": where, "start_date_time": moment("10:00:05"), "status": status,
+        "currency": currency, "evse_uid": evse, "id": session_id(number) if name is None else name, "kwh": Decimal(kwh),
+        "last_updated": moment("10:00:10"), "location_id": where, "start_date_time": moment(began), "status": status,
     }
     if status in ("COMPLETED", "INVALID"):
         tree["end_date_time"] = moment("10:00:10")

@@ -208,12 +208,23 @@ def sessions(node):
     counted = [count("session", 19), count("cdr", 19)]
     for status in ("PENDING", "ACTIVE", "INVALID"):
         for kwh, right, wrong in (("0.0000", "0.0000", "0.0001"), ("12.3456", "3.0864", "3.0863"), ("0.0007", "0.0001", "0.0002")):
+            if status == "PENDING" and kwh != "0.0000":
+                beside(node, [*counted, session(1, status)], [*counted, session(1, status, kwh, right)], "ChargedEarly")
+                continue
             beside(node, [*counted, session(1, status, kwh, right)], [*counted, session(1, status, kwh, wrong)], "OtherPrice")
         beside(node, [*counted, session(1, status)], [*counted, session(1, status, cost=None)], "CostMissing")
         beside(node, [*counted, session(1, status)], [*counted, session(1, "RESERVATION")], "OfReservation")
     beside(node, [*counted, *charged(1, kwh="0.0003")], [*counted, *charged(1, kwh="0.0003", cost="0.0001")], "OtherPrice")
     beside(node, [*counted, session(1)], [*counted, session(1, "RESERVATION", cost=None)], "OfReservation", "CostMissing")
     beside(node, [*counted, session(1)], [*counted, session(1, "RESERVATION", cost="0.0001")], "OfReservation", "OtherPrice")
+    # Prices of the moments: the site's own counts before its first entry, and each entry from its own moment on.
+    for began, right, wrong in (("10:00:39", "0.2500", "0.5000"), ("10:00:40", "0.5000", "0.2500"), ("10:00:50", "0.7500", "0.5000")):
+        charge = {"kwh": "1.0000", "began": began}
+        beside(node, [*counted, session(1, cost=right, **charge)], [*counted, session(1, cost=wrong, **charge)], "OtherPrice")
+    # Currencies: one that has ended keeps its own.
+    for status in ("PENDING", "ACTIVE"):
+        beside(node, [*counted, session(1, status)], [*counted, session(1, status, currency="SEK")], "OtherMoney")
+    makes(node, [*counted, session(1, "INVALID", currency="SEK")])
     # Bills.
     two = [*counted, session(1, "COMPLETED"), session(10, "COMPLETED"), bill(1, 10), bill(2, 1)]
     beside(node, two, [*two, bill(3, 10)], "BilledTwice")

@@ -97,7 +97,7 @@ class Site:
     def __init__(self, line):
         self.operator = line["party"].upper()
         self.providers = [name.upper() for name in line["providers"]]
-        self.price = line["site"]["price"]
+        self.site = line["site"]
         self.evses = {}
         for location in line["site"]["locations"]:
             for evse in location["evses"]:
@@ -115,9 +115,15 @@ class Site:
         """The EVSE is of the site, and not at that location."""
         return self.has(evse) and self.evses[evse.upper()][0] != location.upper()
 
-    def cost(self, kwh):
-        """In ten-thousandths, rounded down."""
-        return int(Decimal(kwh) * 10**4) * int(Decimal(str(self.price)) * 10**4) // 10**4
+    def price(self, at):
+        """That of the last entry that begins by the moment, and the site's own where there is none."""
+        begun = [it["price"] for it in self.site.get("prices") or [] if it["start_date_time"] <= at]
+        return begun[-1] if begun else self.site["price"]
+
+    def cost(self, tree):
+        """Of a session, in ten-thousandths, rounded down."""
+        price = self.price(tree["start_date_time"])
+        return int(Decimal(tree["kwh"]) * 10**4) * int(Decimal(str(price)) * 10**4) // 10**4
 
 
 def claims(kind, key, tree):
@@ -200,13 +206,17 @@ def bill_faults(rows, site):
     records = [tree for _, tree in of_kind(rows, "cdr")]
     told = [(tree["id"].upper(), tree["session_id"].upper(), tree["credit"]) for tree in records]
     ended = [tree["id"].upper() for tree in sessions if tree["status"] == "COMPLETED"]
-    costs = [(tree["kwh"], tree["total_cost"]["excl_vat"]) for tree in sessions if "total_cost" in tree]
+    costs = [(tree, tree["total_cost"]["excl_vat"]) for tree in sessions if "total_cost" in tree]
     if any(tree["status"] == "RESERVATION" for tree in sessions):
         yield "OfReservation"
     if len(costs) < len(sessions):
         yield "CostMissing"
-    if any(int(Decimal(cost) * 10**4) != site.cost(kwh) for kwh, cost in costs):
+    if any(tree["status"] == "PENDING" and Decimal(tree["kwh"]) for tree in sessions):
+        yield "ChargedEarly"
+    if any(int(Decimal(cost) * 10**4) != site.cost(tree) for tree, cost in costs):
         yield "OtherPrice"
+    if any(tree["status"] in ("PENDING", "ACTIVE") and tree["currency"] != site.site["currency"] for tree in sessions):
+        yield "OtherMoney"
     yield from {again(one[2]) for one, other in pairs(told) if one[0] != other[0] and one[1:] == other[1:]}
     if any(session not in ended for _, session, _ in told):
         yield "BilledEarly"

@@ -6,22 +6,15 @@ use Rattle.std.specs.Prelude.{◌⊎◌}
 abbrev pub Branch : {X : Type 0} → Type 0 → (X → Type 0) → (X → Type 0) → X → Type 0
 Branch P Then Else x = (P × Then x) ⊎ ((P → ⊥) × Else x)
 
--- what follows is alike
-abbrev pub Alike : {X : Type 0} → (X → X → Type 0) → (X → Type 0) → Type 0
-Alike {X = X} Same P = (x y : X) → P x → P y → Same x y
-
 -- at most one of all follows
 abbrev pub AtMostOne : {X : Type 0} → (X → Type 0) → Type 0
-AtMostOne P = Alike (λ x y. x ≡ y) P
-
-pub alike_branch : {X P : Type 0} {Then Else : X → Type 0} (Same : X → X → Type 0) → Alike Same Then → Alike Same Else → (x y : X) → Branch P Then Else x → Branch P Then Else y → Same x y
-alike_branch Same then other x y (inl h) (inl g) = then x y h.1 g.1
-alike_branch Same then other x y (inl h) (inr g) = absurd (g.0 h.0)
-alike_branch Same then other x y (inr h) (inl g) = absurd (h.0 g.0)
-alike_branch Same then other x y (inr h) (inr g) = other x y h.1 g.1
+AtMostOne {X = X} P = (x y : X) → P x → P y → x ≡ y
 
 pub one_branch : {X P : Type 0} {Then Else : X → Type 0} → AtMostOne Then → AtMostOne Else → (x y : X) → Branch P Then Else x → Branch P Then Else y → x ≡ y
-one_branch then other x y h g = alike_branch (λ x y. x ≡ y) then other x y h g
+one_branch then other x y (inl h) (inl g) = then x y h.1 g.1
+one_branch then other x y (inl h) (inr g) = absurd (g.0 h.0)
+one_branch then other x y (inr h) (inl g) = absurd (h.0 g.0)
+one_branch then other x y (inr h) (inr g) = other x y h.1 g.1
 
 -- what is that very thing
 pub one_is : {X : Type 0} (z x y : X) → x ≡ z → y ≡ z → x ≡ y

@@ -1,6 +1,12 @@
--- A command is decided in one way, unless it leaves an EVSE to be picked.
-use Rattle.std.proofs.Common.{◌≡◌, ℕ, List, inl, inr, sym, ap, subst, ◌∙◌}
-use Rattle.std.specs.Prelude.{◌⊎◌, None, Some, IsSome}
+-- A command is decided in one way.
+use Rattle.std.proofs.Common.{◌≡◌, ◌<◌, ℕ, Bool, true, false, List, inl, inr, refl, sym, ap, subst, ◌∙◌, arith}
+use Rattle.std.proofs.lemmas.Bool.{cases_lt}
+use Rattle.std.proofs.lemmas.Option.{same_Some}
+use Rattle.std.specs.BTreeMap.Range.{IsLeBy}
+use Rattle.std.specs.Ordering.{is_gt, ordering_reverse}
+use Rattle.std.specs.Prelude.{Contains, None, Some, slice_get}
+use Rattle.std.specs.declared.cmp.Ordering.{Ordering}
+use Rattle.std.specs.declared.cmp.Ordering.TheVariants.{Less, Equal, Greater}
 use Rattle.std.specs.FinMap.{get}
 use Rattle.ocpi_text.specs.Text.{key}
 use Rattle.ocpi_types.specs.declared.commands.CancelReservation.{CancelReservation}
@@ -20,10 +26,11 @@ use Rattle.ocpi_types.specs.declared.words.CommandResultType.TheVariants as resu
 use Rattle.reservation_book.specs.Refusals.{IsHere, IsInTime}
 use Rattle.reservation_book.specs.declared.standing.Standing.{Standing}
 use Rattle.session_state.specs.Pasts.{IsFinal}
-use Rattle.site_book.specs.Sites.{IsEvseFor, IsLocation}
+use Rattle.site_book.specs.Sites.{IsEvseFor, IsFirst, IsLocation}
 use Rattle.site_book.specs.declared.claim.Claim.{Claim}
 use Rattle.site_book.specs.declared.claim.Claim.TheVariants.{Reserved}
 use Rattle.tables.proofs.Options.{not_both}
+use Rattle.tables.specs.Keys.{text_cmp, text_exact, text_total}
 use Rattle.operator_rows.specs.State.{IsFree, OneClaimEach, State}
 use Rattle.operator_tables.specs.Cancel as cancel
 use Rattle.operator_tables.specs.Decides.{Decides}
@@ -35,12 +42,35 @@ use Rattle.operator_tables.specs.Unlock as unlock
 use Rattle.operator_tables.specs.declared.decision.Decision.{Decision}
 use Rattle.operator_tables.specs.declared.decision.Decision.TheVariants as decision
 use Rattle.answer_laws.specs.Nodes.{SiteDiffers}
-use Rattle.answer_laws.specs.Picks.{DecisionsDifferByPicks, NamedEvsesLeaveOnePick, NamesEvse, TakesEvse}
-use Rattle.answer_laws.proofs.Branching.{Alike, AtMostOne, Branch, alike_branch, one_branch, one_is}
-use Rattle.answer_laws.proofs.OperatorPlaces.{one_chosen, one_location, one_named}
+use Rattle.answer_laws.specs.Decisions.{CommandsHaveOneDecision}
+use Rattle.answer_laws.proofs.Branching.{AtMostOne, Branch, one_branch, one_is}
+use Rattle.answer_laws.proofs.OperatorPlaces.{one_chosen, one_location, one_of_uid}
 
 abbrev Is : Decision → Decision → Type 0
 Is e d = d ≡ e
+
+-- of two keys neither is less
+same_least : (a b : List ℕ) → IsLeBy text_cmp a b → IsLeBy text_cmp b a → a ≡ b
+same_least a b h g = go (text_cmp a b) refl
+  where
+    go : (r : Ordering) → text_cmp a b ≡ r → a ≡ b
+    go Less e =
+        let above : text_cmp b a ≡ Greater = text_total.antisymm b a ∙ ap ordering_reverse e in
+        absurd (let f : true ≡ false = sym (ap is_gt above) ∙ g in cc)
+    go Equal e = text_exact a b e
+    go Greater e = absurd (let f : true ≡ false = sym (ap is_gt e) ∙ h in cc)
+
+-- the first of a list that passes a test is one
+one_first : (l : Location) (P : Evse → Type 0) (e f : Evse) → P e → P f → IsFirst l P e → IsFirst l P f → e ≡ f
+one_first l P e f passes also h g = elim (cases_lt h.place g.place) [
+  | inl before ↦ absurd (g.none_before h.place e before h.stands passes)
+  | inr at_most ↦ elim (cases_lt g.place h.place) [
+    | inl before ↦ absurd (h.none_before g.place f before g.stands also)
+    | inr at_least ↦
+        let same : h.place ≡ g.place = omega arith in
+        same_Some e f (sym h.stands ∙ ap (slice_get l.evses) same ∙ g.stands)
+  ]
+]
 
 module _ (s : State) (at : ℕ) (sender : List ℕ) (n : ℕ) (one_claim : OneClaimEach s.rows) (apart : SiteDiffers s) where
   abbrev Located : List ℕ → Type 0
@@ -134,10 +164,10 @@ module _ (s : State) (at : ℕ) (sender : List ℕ) (n : ℕ) (one_claim : OneCl
   FindsOpen c = (l : Location) × (e : Evse) × (k : Connector) × IsOpen c l e k
 
   abbrev TakesHeld : StartSession → Decision → Type 0
-  TakesHeld c d = (f : FindsHeld c) × (d ≡ decision.Started (place_of f.1 f.2) (Some f.3.id))
+  TakesHeld c d = (f : FindsHeld c) × start.IsLeastHeld s.rows sender c f.0 f.1 × (d ≡ decision.Started (place_of f.1 f.2) (Some f.3.id))
 
   abbrev TakesOpen : StartSession → Decision → Type 0
-  TakesOpen c d = (f : FindsOpen c) × (d ≡ decision.Started (place_of f.1 f.2) None)
+  TakesOpen c d = (f : FindsOpen c) × IsFirst f.0 (start.MayStart s.rows c) f.1 × (d ≡ decision.Started (place_of f.1 f.2) None)
 
   abbrev Serviced : StartSession → Type 0
   Serviced c = (l : Location) × start.IsPlaced s.site sender c l × HasService s.rows l c.evse_uid
@@ -206,60 +236,67 @@ module _ (s : State) (at : ℕ) (sender : List ℕ) (n : ℕ) (one_claim : OneCl
         no_held c l placed none.none_held,
         inr (λ f. none.none_free f.1 f.2 (place_at c l f.0 f.1 f.2 placed f.3.may) f.3.works f.3.free, inl ((l, placed, none.service), is)),
       ))
-  start_is c d (start.Held l e k may works x held is) =
+  start_is c d (start.Held l e k may works x held least is) =
       let found : FindsHeld c = (l, e, k, x, record { may = may; works = works; held = held }) in
-      there_is c l e k d may (inl (found, (found, is)))
-  start_is c d (start.Free l e k may works none free is) =
+      there_is c l e k d may (inl (found, (found, least, is)))
+  start_is c d (start.Free l e k may works none free first is) =
       let found : FindsOpen c = (l, e, k, record { may = may; works = works; free = free }) in
-      there_is c l e k d may (inr (no_held c l may.reached.placed none, inl (found, (found, is))))
+      there_is c l e k d may (inr (no_held c l may.reached.placed none, inl (found, (found, first, is))))
 
-  -- a start that names its EVSE finds one place
-  one_start_place : (c : StartSession) → IsSome c.evse_uid → (l m : Location) (e f : Evse) (j k : Connector) → start.MayTake s.site s.rows sender c l e j → start.MayTake s.site s.rows sender c m f k →
-      (l ≡ m) × (e ≡ f) × (j ≡ k)
-  one_start_place c named l m e f j k h g =
-      let here : l ≡ m = same_place c l m h.reached.placed g.reached.placed in
-      let first : start.IsPlace m c e j = subst (λ (z : Location). start.IsPlace z c e j) here h.reached.place in
-      let second : start.IsPlace m c f k = g.reached.place in
-      let listed = g.reached.placed.location.listed in
-      let evses : e ≡ f = one_named s apart c.evse_uid m e f named listed (record { listed = first.listed; named = first.named }) (record { listed = second.listed; named = second.named }) in
-      let third : start.IsPlace m c f j = subst (λ (z : Evse). start.IsPlace m c z j) evses first in
-      (here, evses, one_chosen s apart c.connector_id m f j k listed second.listed third.chosen second.chosen)
+  -- a connector of an EVSE that a start takes is one
+  one_start_connector : (c : StartSession) (l m : Location) (e f : Evse) (j k : Connector) → start.MayTake s.site s.rows sender c l e j → start.MayTake s.site s.rows sender c m f k → e ≡ f → j ≡ k
+  one_start_connector c l m e f j k h g same =
+      let first : start.IsPlace m c f j = subst (λ (z : Evse). start.IsPlace m c z j) same (place_at c m l e j g.reached.placed h) in
+      one_chosen s apart c.connector_id m f j k g.reached.placed.location.listed g.reached.place.listed first.chosen g.reached.place.chosen
 
-  one_held : (c : StartSession) → IsSome c.evse_uid → AtMostOne (TakesHeld c)
-  one_held c named d e h g =
+  one_held : (c : StartSession) → AtMostOne (TakesHeld c)
+  one_held c d e h g =
       let a = h.0 in
       let b = g.0 in
-      let one = one_start_place c named a.0 b.0 a.1 b.1 a.2 b.2 a.4.may b.4.may in
-      let here : key b.3.reservation.evse_uid ≡ key a.1.uid = b.4.held.here ∙ ap (λ (z : Evse). key z.uid) (sym one.1) in
+      let placed = b.4.may.reached.placed in
+      let same : a.0 ≡ b.0 = same_place c a.0 b.0 a.4.may.reached.placed placed in
+      let place = place_at c b.0 a.0 a.1 a.2 placed a.4.may in
+      let held : IsHeldFor s.rows sender c.token b.0 a.1 a.3 = subst (λ (z : Location). IsHeldFor s.rows sender c.token z a.1 a.3) same a.4.held in
+      let least : start.IsLeastHeld s.rows sender c b.0 a.1 = subst (λ (z : Location). start.IsLeastHeld s.rows sender c z a.1) same h.1 in
+      let keys : key a.1.uid ≡ key b.1.uid = same_least (key a.1.uid) (key b.1.uid) (least b.1 b.2 b.3 b.4.may.reached.place b.4.works b.4.held) (g.1 a.1 a.2 a.3 place a.4.works held) in
+      let evses : a.1 ≡ b.1 = one_of_uid s apart b.0 a.1 b.1 placed.location.listed place.listed b.4.may.reached.place.listed keys in
+      let connectors : a.2 ≡ b.2 = one_start_connector c a.0 b.0 a.1 b.1 a.2 b.2 a.4.may b.4.may evses in
+      let here : key b.3.reservation.evse_uid ≡ key a.1.uid = b.4.held.here ∙ sym keys in
       let first : Claim = Reserved a.3.provider a.3.id in
       let second : Claim = Reserved b.3.provider b.3.id in
       let claims : first ≡ second = one_claim (key a.1.uid) first second (a.3.reservation, a.4.held.is_for.stands, a.4.held.here) (b.3.reservation, b.4.held.is_for.stands, here) in
       let ids : a.3.id ≡ b.3.id = cc in
-      h.1 ∙ (λ i. decision.Started (place_of (one.1 i) (one.2 i)) (Some (ids i))) ∙ sym g.1
+      h.2 ∙ (λ i. decision.Started (place_of (evses i) (connectors i)) (Some (ids i))) ∙ sym g.2
 
-  one_open : (c : StartSession) → IsSome c.evse_uid → AtMostOne (TakesOpen c)
-  one_open c named d e h g =
+  may_start : (c : StartSession) (f : FindsOpen c) → start.MayStart s.rows c f.1
+  may_start c f = record { named = f.3.may.reached.place.named; works = f.3.works; free = f.3.free }
+
+  one_open : (c : StartSession) → AtMostOne (TakesOpen c)
+  one_open c d e h g =
       let a = h.0 in
       let b = g.0 in
-      let one = one_start_place c named a.0 b.0 a.1 b.1 a.2 b.2 a.3.may b.3.may in
-      h.1 ∙ (λ i. decision.Started (place_of (one.1 i) (one.2 i)) None) ∙ sym g.1
+      let same : a.0 ≡ b.0 = same_place c a.0 b.0 a.3.may.reached.placed b.3.may.reached.placed in
+      let first : IsFirst b.0 (start.MayStart s.rows c) a.1 = subst (λ (z : Location). IsFirst z (start.MayStart s.rows c) a.1) same h.1 in
+      let evses : a.1 ≡ b.1 = one_first b.0 (start.MayStart s.rows c) a.1 b.1 (may_start c a) (may_start c b) first g.1 in
+      let connectors : a.2 ≡ b.2 = one_start_connector c a.0 b.0 a.1 b.1 a.2 b.2 a.3.may b.3.may evses in
+      h.2 ∙ (λ i. decision.Started (place_of (evses i) (connectors i)) None) ∙ sym g.2
 
-  one_start : (c : StartSession) → IsSome c.evse_uid → AtMostOne (start.StartLine s.site s.rows sender c)
-  one_start c named d e h g =
-      one_branch (one_is _) (one_branch (one_branch (one_branch (one_is _) (one_branch (one_held c named) (one_branch (one_open c named) (one_branch (one_is _) (one_is _))))) (one_is _)) (one_is _)) d e
+  one_start : (c : StartSession) → AtMostOne (start.StartLine s.site s.rows sender c)
+  one_start c d e h g =
+      one_branch (one_is _) (one_branch (one_branch (one_branch (one_is _) (one_branch (one_held c) (one_branch (one_open c) (one_branch (one_is _) (one_is _))))) (one_is _)) (one_is _)) d e
       (start_is c d h) (start_is c e g)
 
   -- ---- RESERVE_NOW
 
-  record IsPick (c : ReserveNow) (l : Location) (e : Evse) : Type 0 where
+  record IsReserved (c : ReserveNow) (l : Location) (e : Evse) : Type 0 where
     pub may : reserve.MayHold s.site s.rows at sender n c l e
     pub reservable : reserve.IsReservable s.rows (key sender) c l e
 
-  abbrev Picks : ReserveNow → Type 0
-  Picks c = (l : Location) × (e : Evse) × IsPick c l e
+  abbrev FindsReserved : ReserveNow → Type 0
+  FindsReserved c = (l : Location) × (e : Evse) × IsReserved c l e
 
   abbrev Holds : ReserveNow → Decision → Type 0
-  Holds c d = (f : Picks c) × (d ≡ decision.Reserved (key c.reservation_id) (reserve.reservation_at c f.0 f.1))
+  Holds c d = (f : FindsReserved c) × reserve.IsTaken s.rows (key sender) c f.0 f.1 × (d ≡ decision.Reserved (key c.reservation_id) (reserve.reservation_at c f.0 f.1))
 
   abbrev ReserveServiced : ReserveNow → Type 0
   ReserveServiced c = (l : Location) × reserve.IsPlaced s.site sender c l × HasService s.rows l c.evse_uid
@@ -271,7 +308,7 @@ module _ (s : State) (at : ℕ) (sender : List ℕ) (n : ℕ) (one_claim : OneCl
   HereIs c = (l : Location) × reserve.IsPlaced s.site sender c l × IsHere s.rows.booked.reservations (reserve.reservation_key sender c) (key l.id)
 
   abbrev HoldIs : ReserveNow → Decision → Type 0
-  HoldIs c d = Branch (Picks c) (Holds c) (Branch (ReserveServiced c) (Is (decision.Noted (key c.reservation_id) result.EvseOccupied)) (Is (decision.Noted (key c.reservation_id) result.EvseInoperative))) d
+  HoldIs c d = Branch (FindsReserved c) (Holds c) (Branch (ReserveServiced c) (Is (decision.Noted (key c.reservation_id) result.EvseOccupied)) (Is (decision.Noted (key c.reservation_id) result.EvseInoperative))) d
 
   abbrev SoundIs : ReserveNow → Decision → Type 0
   SoundIs c d = Branch (reserve.IsVoid at c) (Is (decision.Answered response.Rejected))
@@ -295,8 +332,8 @@ module _ (s : State) (at : ℕ) (sender : List ℕ) (n : ℕ) (one_claim : OneCl
       let reached = may.timely.asked.reached in
       at_evse c l e d reached (inr (may.timely.asked.sound, inl (may.timely.in_time, inl ((l, reached.placed, may.here), is))))
 
-  pick_at : (c : ReserveNow) (l : Location) → reserve.IsPlaced s.site sender c l → (f : Picks c) → reserve.IsReservable s.rows (key sender) c l f.1
-  pick_at c l placed f = subst (λ (z : Location). reserve.IsReservable s.rows (key sender) c z f.1) (same_location c f.0 l f.2.may.timely.asked.reached.placed placed) f.2.reservable
+  reserved_at : (c : ReserveNow) (l : Location) → reserve.IsPlaced s.site sender c l → (f : FindsReserved c) → reserve.IsReservable s.rows (key sender) c l f.1
+  reserved_at c l placed f = subst (λ (z : Location). reserve.IsReservable s.rows (key sender) c z f.1) (same_location c f.0 l f.2.may.timely.asked.reached.placed placed) f.2.reservable
 
   reserve_is : (c : ReserveNow) (d : Decision) → reserve.ReserveLine s.site s.rows at sender n c d → ReserveIs c d
   reserve_is c d (reserve.Mismatched wrong is) = inr (wrong, is)
@@ -328,82 +365,50 @@ module _ (s : State) (at : ℕ) (sender : List ℕ) (n : ℕ) (one_claim : OneCl
   reserve_is c d (reserve.Inoperative l e may out is) =
       let placed = may.timely.asked.reached.placed in
       hold_is c l e d may (inr (
-        λ f. let pick = pick_at c l placed f in out (f.1, pick.place, pick.works),
+        λ f. let there = reserved_at c l placed f in out (f.1, there.place, there.works),
         inr (λ f. out (subst (λ (z : Location). HasService s.rows z c.evse_uid) (same_location c f.0 l f.1 placed) f.2), is),
       ))
   reserve_is c d (reserve.Occupied l e may works none is) =
       let reached = may.timely.asked.reached in
-      hold_is c l e d may (inr (λ f. none f.1 (pick_at c l reached.placed f), inl ((l, reached.placed, (e, reached.place, works)), is)))
-  reserve_is c d (reserve.Held l e may free is) =
-      let found : Picks c = (l, e, record { may = may; reservable = free }) in
-      hold_is c l e d may (inl (found, (found, is)))
+      hold_is c l e d may (inr (λ f. none f.1 (reserved_at c l reached.placed f), inl ((l, reached.placed, (e, reached.place, works)), is)))
+  reserve_is c d (reserve.Held l e may free taken is) =
+      let found : FindsReserved c = (l, e, record { may = may; reservable = free }) in
+      hold_is c l e d may (inl (found, (found, taken, is)))
 
-  one_hold : (c : ReserveNow) → IsSome c.evse_uid → AtMostOne (Holds c)
-  one_hold c named d e h g =
+  -- the EVSE that is taken at a location is one: a reservation is on one EVSE
+  one_taken : (c : ReserveNow) (l : Location) (e f : Evse) → Contains s.site.locations l → reserve.IsReservable s.rows (key sender) c l e → reserve.IsReservable s.rows (key sender) c l f →
+      reserve.IsTaken s.rows (key sender) c l e → reserve.IsTaken s.rows (key sender) c l f → e ≡ f
+  one_taken c l e f listed may also (reserve.Own own) (reserve.Own other) =
+      let found : Some own.own.0 ≡ Some other.own.0 = sym own.own.1 ∙ other.own.1 in
+      let same : own.own.0 ≡ other.own.0 = cc in
+      one_of_uid s apart l e f listed may.place.listed also.place.listed (sym own.own.2 ∙ ap (λ (r : Reservation). key r.evse_uid) same ∙ other.own.2)
+  one_taken c l e f listed may also (reserve.Own own) (reserve.First none first) = absurd (none e own)
+  one_taken c l e f listed may also (reserve.First none first) (reserve.Own own) = absurd (none f own)
+  one_taken c l e f listed may also (reserve.First none first) (reserve.First also_none second) = one_first l (reserve.IsReservable s.rows (key sender) c l) e f may also first second
+
+  one_hold : (c : ReserveNow) → AtMostOne (Holds c)
+  one_hold c d e h g =
       let a = h.0 in
       let b = g.0 in
       let placed = b.2.may.timely.asked.reached.placed in
       let same : a.0 ≡ b.0 = same_location c a.0 b.0 a.2.may.timely.asked.reached.placed placed in
-      let evses : a.1 ≡ b.1 = one_named s apart c.evse_uid b.0 a.1 b.1 named placed.location.listed (pick_at c b.0 placed a).place b.2.reservable.place in
-      h.1 ∙ (λ i. decision.Reserved (key c.reservation_id) (reserve.reservation_at c (same i) (evses i))) ∙ sym g.1
+      let taken : reserve.IsTaken s.rows (key sender) c b.0 a.1 = subst (λ (z : Location). reserve.IsTaken s.rows (key sender) c z a.1) same h.1 in
+      let evses : a.1 ≡ b.1 = one_taken c b.0 a.1 b.1 placed.location.listed (reserved_at c b.0 placed a) b.2.reservable taken g.1 in
+      h.2 ∙ (λ i. decision.Reserved (key c.reservation_id) (reserve.reservation_at c (same i) (evses i))) ∙ sym g.2
 
-  one_reserve : (c : ReserveNow) → IsSome c.evse_uid → AtMostOne (reserve.ReserveLine s.site s.rows at sender n c)
-  one_reserve c named d e h g =
-      one_branch (one_branch (one_branch (one_branch (one_is _) (one_branch (one_branch (one_branch (one_hold c named) (one_branch (one_is _) (one_is _))) (one_is _)) (one_is _))) (one_is _)) (one_is _)) (one_is _) d e
+  one_reserve : (c : ReserveNow) → AtMostOne (reserve.ReserveLine s.site s.rows at sender n c)
+  one_reserve c d e h g =
+      one_branch (one_branch (one_branch (one_branch (one_is _) (one_branch (one_branch (one_branch (one_hold c) (one_branch (one_is _) (one_is _))) (one_is _)) (one_is _))) (one_is _)) (one_is _)) (one_is _) d e
       (reserve_is c d h) (reserve_is c e g)
-
-  -- ---- where an EVSE is left to pick
-
-  abbrev OrPicked : Decision → Decision → Type 0
-  OrPicked d e = (d ≡ e) ⊎ (TakesEvse d × TakesEvse e)
-
-  is_alike : (z : Decision) → Alike OrPicked (Is z)
-  is_alike z d e h g = inl (one_is z d e h g)
-
-  both_take : (x y d e : Decision) → TakesEvse x → TakesEvse y → d ≡ x → e ≡ y → OrPicked d e
-  both_take x y d e first second h g = inr (subst TakesEvse (sym h) first, subst TakesEvse (sym g) second)
-
-  both_take_held : (c : StartSession) → Alike OrPicked (TakesHeld c)
-  both_take_held c d e h g = both_take _ _ d e tt tt h.1 g.1
-
-  both_take_open : (c : StartSession) → Alike OrPicked (TakesOpen c)
-  both_take_open c d e h g = both_take _ _ d e tt tt h.1 g.1
-
-  both_hold : (c : ReserveNow) → Alike OrPicked (Holds c)
-  both_hold c d e h g = both_take _ _ d e tt tt h.1 g.1
-
-  alike_start : (c : StartSession) → Alike OrPicked (start.StartLine s.site s.rows sender c)
-  alike_start c d e h g =
-      alike_branch OrPicked (is_alike _)
-      (alike_branch OrPicked (alike_branch OrPicked (alike_branch OrPicked (is_alike _)
-      (alike_branch OrPicked (both_take_held c) (alike_branch OrPicked (both_take_open c) (alike_branch OrPicked (is_alike _) (is_alike _))))) (is_alike _)) (is_alike _)) d e
-      (start_is c d h) (start_is c e g)
-
-  alike_reserve : (c : ReserveNow) → Alike OrPicked (reserve.ReserveLine s.site s.rows at sender n c)
-  alike_reserve c d e h g =
-      alike_branch OrPicked
-      (alike_branch OrPicked (alike_branch OrPicked (alike_branch OrPicked (is_alike _) (alike_branch OrPicked (alike_branch OrPicked
-      (alike_branch OrPicked (both_hold c) (alike_branch OrPicked (is_alike _) (is_alike _))) (is_alike _)) (is_alike _))) (is_alike _)) (is_alike _)) (is_alike _) d e
-      (reserve_is c d h) (reserve_is c e g)
-
-  alike_decisions : (c : Command) → Alike OrPicked (Decides s.site s.rows at sender n c)
-  alike_decisions (command.StartSession c) d e h g = alike_start c d e h g
-  alike_decisions (command.StopSession c) d e h g = inl (one_stop c d e h g)
-  alike_decisions (command.ReserveNow c) d e h g = alike_reserve c d e h g
-  alike_decisions (command.CancelReservation c) d e h g = inl (one_cancel c d e h g)
-  alike_decisions (command.UnlockConnector c) d e h g = inl (one_unlock c d e h g)
 
   -- ---- any command
 
-  pub one_decision : (c : Command) → NamesEvse c → AtMostOne (Decides s.site s.rows at sender n c)
-  one_decision (command.StartSession c) named d e h g = one_start c named d e h g
-  one_decision (command.StopSession c) named d e h g = one_stop c d e h g
-  one_decision (command.ReserveNow c) named d e h g = one_reserve c named d e h g
-  one_decision (command.CancelReservation c) named d e h g = one_cancel c d e h g
-  one_decision (command.UnlockConnector c) named d e h g = one_unlock c d e h g
+  pub one_decision : (c : Command) → AtMostOne (Decides s.site s.rows at sender n c)
+  one_decision (command.StartSession c) d e h g = one_start c d e h g
+  one_decision (command.StopSession c) d e h g = one_stop c d e h g
+  one_decision (command.ReserveNow c) d e h g = one_reserve c d e h g
+  one_decision (command.CancelReservation c) d e h g = one_cancel c d e h g
+  one_decision (command.UnlockConnector c) d e h g = one_unlock c d e h g
 
-pub decisions_differ_by_picks : DecisionsDifferByPicks
-decisions_differ_by_picks s at sender n c d e sound apart h g = alike_decisions s at sender n sound.sound.one_claim apart c d e h g
-
-pub named_evses_leave_one_pick : NamedEvsesLeaveOnePick
-named_evses_leave_one_pick s at q sound apart named c d e carries new h g first second = one_decision s at q.from q.request sound.sound.one_claim apart c (named c carries) d e h g
+pub commands_have_one_decision : CommandsHaveOneDecision
+commands_have_one_decision s at sender n c d e sound apart h g = one_decision s at sender n sound.sound.one_claim apart c d e h g

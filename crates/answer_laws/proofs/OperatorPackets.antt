@@ -30,10 +30,9 @@ use Rattle.operator_steps.specs.Steps.{Acknowledges, Comes, IsRequestBody, Packe
 use Rattle.session_tables.specs.Answers.{BeginsByAnswer, Decided}
 use Rattle.session_tables.specs.declared.beginning.Beginning.{Beginning}
 use Rattle.answer_laws.specs.Nodes.{SiteDiffers}
-use Rattle.answer_laws.specs.Picks.{HasOnePick}
 use Rattle.answer_laws.proofs.Branching.{AtMostOne, Branch, one_branch, one_is}
 use Rattle.answer_laws.proofs.OperatorBeginnings.{one_by_answer, one_decided}
-use Rattle.answer_laws.proofs.OperatorDecisions.{decisions_differ_by_picks}
+use Rattle.answer_laws.proofs.OperatorDecisions.{commands_have_one_decision}
 use Rattle.answer_laws.proofs.OperatorPlaces.{one_provider}
 use Rattle.answer_laws.proofs.OperatorSessions.{one_beginning}
 
@@ -122,32 +121,29 @@ module _ (s : State) (fine : IsConsistent s) (apart : SiteDiffers s) (at : ℕ) 
     line_is work (packets.Answered a carries h) = line_by (body.Authorization a) work carries (inl ((h.awaited, h.stands), h))
     line_is work (packets.Unasked a carries none is) = line_by (body.Authorization a) work carries (inr (λ f. none f.0 f.1, is))
 
-    one_new_command : HasOnePick s at q → (c : Command) → q.body ≡ body.Command c → get s.rows.commands.replies (key q.from, q.request) ≡ None → AtMostOne (NewCommand c)
-    one_new_command pick c carries new v w h g =
-        let same : h.0 ≡ g.0 = elim (decisions_differ_by_picks s at q.from q.request c h.0 g.0 fine apart h.1 g.1) [
-          | inl one ↦ one
-          | inr both ↦ pick c h.0 g.0 carries new h.1 g.1 both.0 both.1
-        ] in
+    one_new_command : (c : Command) → AtMostOne (NewCommand c)
+    one_new_command c v w h g =
+        let same : h.0 ≡ g.0 = commands_have_one_decision s at q.from q.request c h.0 g.0 fine apart h.1 g.1 in
         h.2 ∙ ap (λ (d : Decision). quiet (decided_acts at s.rows.request to (key q.from) q.request c d)) same ∙ sym g.2
 
     one_new_token : (t : Token) → AtMostOne (NewToken t)
     one_new_token t v w h g = h.2 ∙ ap quiet (one_token to t h.0 g.0 h.1 g.1) ∙ sym g.2
 
-    one_kind : HasOnePick s at q → (b : Body) → q.body ≡ b → AtMostOne (LineIs b)
-    one_kind pick (body.Command c) carries v w h g = one_kept (NewCommand c) (one_new_command pick c carries) v w h g
-    one_kind pick (body.PutToken t) carries v w h g = one_kept (NewToken t) (λ new. one_new_token t) v w h g
-    one_kind pick (body.Ack a) carries v w h g = one_branch (one_is (quiet (acknowledged q.request ∷ []))) (one_is (quiet [])) v w h g
-    one_kind pick (body.Authorization a) carries v w h g = one_branch (one_answered a) (one_is (quiet [])) v w h g
-    one_kind pick (body.CommandResponse r) carries v w h g = absurd h
-    one_kind pick (body.CommandResult r) carries v w h g = absurd h
-    one_kind pick (body.Authorize a) carries v w h g = absurd h
-    one_kind pick (body.PutSession x) carries v w h g = absurd h
-    one_kind pick (body.PostCdr c) carries v w h g = absurd h
+    one_kind : (b : Body) → AtMostOne (LineIs b)
+    one_kind (body.Command c) v w h g = one_kept (NewCommand c) (λ new. one_new_command c) v w h g
+    one_kind (body.PutToken t) v w h g = one_kept (NewToken t) (λ new. one_new_token t) v w h g
+    one_kind (body.Ack a) v w h g = one_branch (one_is (quiet (acknowledged q.request ∷ []))) (one_is (quiet [])) v w h g
+    one_kind (body.Authorization a) v w h g = one_branch (one_answered a) (one_is (quiet [])) v w h g
+    one_kind (body.CommandResponse r) v w h g = absurd h
+    one_kind (body.CommandResult r) v w h g = absurd h
+    one_kind (body.Authorize a) v w h g = absurd h
+    one_kind (body.PutSession x) v w h g = absurd h
+    one_kind (body.PostCdr c) v w h g = absurd h
 
-    one_line : HasOnePick s at q → AtMostOne (PacketLine s at q to)
-    one_line pick v w h g = one_kind pick q.body refl v w (line_is v h) (line_is w g)
+    one_line : AtMostOne (PacketLine s at q to)
+    one_line v w h g = one_kind q.body v w (line_is v h) (line_is w g)
 
-  pub one_packet : HasOnePick s at q → AtMostOne (Comes s at q)
-  one_packet pick v w h g =
+  pub one_packet : AtMostOne (Comes s at q)
+  one_packet v w h g =
       let to : h.provider ≡ g.provider = one_provider s apart q.from h.provider g.provider h.from g.from in
-      one_line g.provider pick v w (subst (λ (z : List ℕ). PacketLine s at q z v) to h.line) g.line
+      one_line g.provider v w (subst (λ (z : List ℕ). PacketLine s at q z v) to h.line) g.line

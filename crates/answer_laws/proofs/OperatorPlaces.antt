@@ -1,6 +1,6 @@
 -- A place of a site is found by its ids.
-use Rattle.std.proofs.Common.{◌≡◌, ℕ, true, false, List, [], ◌∷◌, sym, subst, ◌∙◌}
-use Rattle.std.specs.Prelude.{Option, None, Some, Contains, slice_get, IsSome}
+use Rattle.std.proofs.Common.{◌≡◌, ℕ, List, [], ◌∷◌, refl, sym, subst, ◌∙◌}
+use Rattle.std.specs.Prelude.{Option, None, Some, Contains, slice_get}
 use Rattle.ocpi_text.specs.Text.{key}
 use Rattle.ocpi_types.specs.Apart.{AllDiffer}
 use Rattle.ocpi_types.specs.Locations.{site_evse_keys}
@@ -8,7 +8,7 @@ use Rattle.ocpi_types.specs.declared.site.Connector.{Connector}
 use Rattle.ocpi_types.specs.declared.site.Evse.{Evse}
 use Rattle.ocpi_types.specs.declared.site.Location.{Location}
 use Rattle.site_book.proofs.Apart.{one_evse_each, place}
-use Rattle.site_book.specs.Sites.{IsChosen, IsEvseFor, IsEvseOf, IsLocation}
+use Rattle.site_book.specs.Sites.{IsChosen, IsEvseOf, IsLocation}
 use Rattle.node_steps.specs.Peers.{IsPeer}
 use Rattle.operator_rows.specs.State.{State}
 use Rattle.session_tables.proofs.Finding.{same_connector}
@@ -48,11 +48,10 @@ module _ (s : State) (apart : SiteDiffers s) where
       let here : Contains f.connectors j = subst (λ (x : Evse). Contains x.connectors j) one.1 h.listed in
       (one.0, one.1, same_connector f.connectors (apart.places.connectors m f g.of_site.listed g.of_site.within) j k here g.listed (h.same ∙ sym g.same))
 
-  -- an EVSE of a location that is named is one
-  pub one_named : (named : Option (List ℕ)) (l : Location) (e f : Evse) → IsSome named → Contains s.site.locations l → IsEvseFor l named e → IsEvseFor l named f → e ≡ f
-  one_named None l e f is listed h g = absurd (let bad : false ≡ true = is in cc)
-  one_named (Some name) l e f is listed h g =
-      (one_evse s.site.locations (key name) l l e f apart.places.locations.evses_apart (record { listed = listed; within = h.listed; same = h.named }) (record { listed = listed; within = g.listed; same = g.named })).1
+  -- an EVSE of a location is known by its uid
+  pub one_of_uid : (l : Location) (e f : Evse) → Contains s.site.locations l → Contains l.evses e → Contains l.evses f → key e.uid ≡ key f.uid → e ≡ f
+  one_of_uid l e f listed h g same =
+      (one_evse s.site.locations (key f.uid) l l e f apart.places.locations.evses_apart (record { listed = listed; within = h; same = same }) (record { listed = listed; within = g; same = refl })).1
 
   -- the connector that is named, or the first, is one
   pub one_chosen : (named : Option (List ℕ)) (l : Location) (e : Evse) (j k : Connector) → Contains s.site.locations l → Contains l.evses e → IsChosen named e.connectors j → IsChosen named e.connectors k → j ≡ k

@@ -21,7 +21,6 @@ use Rattle.world_steps.specs.Steps.{OperatorDoes}
 use Rattle.world_steps.specs.World.{Operates, Provides}
 use Rattle.answer_laws.specs.Answers.{OperatorsHaveOneStep}
 use Rattle.answer_laws.specs.Nodes.{SiteDiffers}
-use Rattle.answer_laws.specs.Picks.{LeavesOnePick}
 use Rattle.answer_laws.proofs.Branching.{AtMostOne, Branch, one_branch, one_is}
 use Rattle.answer_laws.proofs.OperatorPackets.{one_packet}
 use Rattle.answer_laws.proofs.OperatorPlaces.{one_provider}
@@ -96,13 +95,13 @@ module _ (s : State) (apart : SiteDiffers s) (at : ℕ) (session : List ℕ) whe
 -- ---- any input
 
 module _ (s : State) (fine : IsConsistent s) (apart : SiteDiffers s) where
-  pub one_asked : (i : Input) → LeavesOnePick s i → AtMostOne (Asks s i)
-  one_asked (Arrives at q) pick v w h g = one_packet s fine apart at q pick v w h g
-  one_asked (Serves evse in_service) pick v w h g = one_quiet (ServiceLine s evse in_service) (one_service s evse in_service) v w h g
-  one_asked (Reports at report) pick v w h g = one_report s fine apart at report v w h g
-  one_asked (Credits at session) pick v w h g = one_quiet (CreditLine s at session) (one_credit s apart at session) v w h g
-  one_asked (Ticks at) pick v w h g = one_moment s fine apart at v w h g
-  one_asked Restarts pick v w h g = absurd h
+  pub one_asked : (i : Input) → AtMostOne (Asks s i)
+  one_asked (Arrives at q) v w h g = one_packet s fine apart at q v w h g
+  one_asked (Serves evse in_service) v w h g = one_quiet (ServiceLine s evse in_service) (one_service s evse in_service) v w h g
+  one_asked (Reports at report) v w h g = one_report s fine apart at report v w h g
+  one_asked (Credits at session) v w h g = one_quiet (CreditLine s at session) (one_credit s apart at session) v w h g
+  one_asked (Ticks at) v w h g = one_moment s fine apart at v w h g
+  one_asked Restarts v w h g = absurd h
 
   one_event : (x y : Event) (t u : State) → x.input ≡ y.input → event_out x t ≡ event_out y u → (x ≡ y) × (t ≡ u)
   one_event x y t u same out = (λ i. record { input = same i; changes = (out i).changes; packets = (out i).packets }, λ i. (out i).state)
@@ -110,20 +109,20 @@ module _ (s : State) (fine : IsConsistent s) (apart : SiteDiffers s) where
   no_work : (x y : Event) (work : Work) → x.input ≡ y.input → Asks s x.input work → y.input ≡ Restarts → ⊥
   no_work x y work same asks is = subst (λ (i : Input). Asks s i work) (same ∙ is) asks
 
-  pub one_done : (x y : Event) (t u : State) → x.input ≡ y.input → LeavesOnePick s y.input → OperatorDoes s x t → OperatorDoes s y u → (x ≡ y) × (t ≡ u)
-  one_done x y t u same pick h g = one_event x y t u same (by h g)
+  pub one_done : (x y : Event) (t u : State) → x.input ≡ y.input → OperatorDoes s x t → OperatorDoes s y u → (x ≡ y) × (t ≡ u)
+  one_done x y t u same h g = one_event x y t u same (by h g)
     where
       by : OperatorDoes s x t → OperatorDoes s y u → event_out x t ≡ event_out y u
       by (steps.Done a) (steps.Done b) =
           let there : Asks s y.input a.work = subst (λ (i : Input). Asks s i a.work) same a.line in
-          a.out_is ∙ ap (acted s) (one_asked y.input pick a.work b.work there b.line) ∙ sym b.out_is
+          a.out_is ∙ ap (acted s) (one_asked y.input a.work b.work there b.line) ∙ sym b.out_is
       by (steps.Done a) (steps.Restarted is out) = absurd (no_work x y a.work same a.line is)
       by (steps.Restarted is out) (steps.Done b) = absurd (no_work y x b.work (sym same) b.line is)
       by (steps.Restarted is out) (steps.Restarted also left) = out ∙ sym left
 
 pub operators_have_one_step : OperatorsHaveOneStep
-operators_have_one_step s (Operates t) (Operates u) x y sound apart same pick h g =
-    let one = one_done s sound apart x y t u same pick h g in
+operators_have_one_step s (Operates t) (Operates u) x y sound apart same h g =
+    let one = one_done s sound apart x y t u same h g in
     (one.0, ap Operates one.1)
-operators_have_one_step s (Provides t) n x y sound apart same pick h g = absurd h
-operators_have_one_step s (Operates t) (Provides u) x y sound apart same pick h g = absurd g
+operators_have_one_step s (Provides t) n x y sound apart same h g = absurd h
+operators_have_one_step s (Operates t) (Provides u) x y sound apart same h g = absurd g

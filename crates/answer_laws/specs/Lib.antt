@@ -1,3 +1,3 @@
 pub mod Nodes
-pub mod Picks
+pub mod Decisions
 pub mod Answers

@@ -1,7 +1,7 @@
 //! The laws of answers.
 
 ghost use Rattle.answer_laws.specs.Answers.{OperatorsHaveOneStep, ProvidersHaveOneStep, RefusalsHaveOneReason};
-ghost use Rattle.answer_laws.specs.Picks.{DecisionsDifferByPicks, NamedEvsesLeaveOnePick};
+ghost use Rattle.answer_laws.specs.Decisions.{CommandsHaveOneDecision};
 
 /// What a provider does by an input is one thing: the rows that it changes, the packets that it sends, and the provider
 /// behind it.
@@ -9,8 +9,7 @@ pub fn providers_have_one_step()
     ensures { ProvidersHaveOneStep }
 {}
 
-/// So is what an operator does, where the rules leave one EVSE at most that it may take for a new START_SESSION or
-/// RESERVE_NOW. Of several they leave open which one it takes (OCPI 2.2.1, Commands: StartSession, ReserveNow).
+/// So is what an operator does.
 pub fn operators_have_one_step()
     ensures { OperatorsHaveOneStep }
 {}
@@ -20,13 +19,8 @@ pub fn refusals_have_one_reason()
     ensures { RefusalsHaveOneReason }
 {}
 
-/// Where two decisions on one command differ, each takes an EVSE: nothing else is left open.
-pub fn decisions_differ_by_picks()
-    ensures { DecisionsDifferByPicks }
-{}
-
-/// A START_SESSION or a RESERVE_NOW that names its EVSE leaves one at most. A start that names no connector takes the
-/// first of its EVSE.
-pub fn named_evses_leave_one_pick()
-    ensures { NamedEvsesLeaveOnePick }
+/// A command is decided in one way, also which of several EVSEs a START_SESSION or a RESERVE_NOW takes that names none
+/// (OCPI 2.2.1, Commands: StartSession, ReserveNow). A start that names no connector takes the first of its EVSE.
+pub fn commands_have_one_decision()
+    ensures { CommandsHaveOneDecision }
 {}

@@ -6,7 +6,7 @@ use crate::shapes::{Member, Shape, has_data};
 use crate::showing::{show_text, show_value};
 use json::Value;
 use ocpi_json::JsonFault;
-use ocpi_text::{CiText, Party};
+use ocpi_text::{CiText, Moment, Party};
 use ocpi_types::{Field, IdSet};
 use std::alloc::{AllocError, Global};
 
@@ -32,6 +32,8 @@ struct Search {
     evses: IdSet,
     connectors: IdSet,
     nodes: Vec<Party>,
+    /// The moment of the price of a site that was looked at last.
+    start: Option<Moment>,
     /// What was found there and what is wanted, once the member is found.
     told: String,
 }
@@ -67,16 +69,18 @@ impl Search {
             evses: IdSet::new(alloc),
             connectors: IdSet::new(alloc),
             nodes: Vec::new(alloc),
+            start: None,
             told: String::new(alloc),
         }
     }
 
-    /// The ids that must differ within an object of that shape are none yet.
+    /// The ids that must differ within an object of that shape are none yet, and no price was looked at.
     fn enter(&mut self, shape: Shape) {
         match shape {
             Shape::Site => {
                 self.locations = IdSet::new(self.alloc);
                 self.evses = IdSet::new(self.alloc);
+                self.start = None;
             }
             Shape::Evse => self.connectors = IdSet::new(self.alloc),
             _ => {}
@@ -119,6 +123,19 @@ impl Search {
         Ok(false)
     }
 
+    /// Whether a moment is later than that of the price before. The next is compared with it.
+    fn is_later(&mut self, text: &str) -> bool {
+        let Ok(start) = Moment::read(text) else {
+            return true;
+        };
+        let is_later = match self.start {
+            Some(before) => before < start,
+            None => true,
+        };
+        self.start = Some(start);
+        is_later
+    }
+
     /// Where a value is at fault, says what was found and what is wanted, and answers whether it is.
     fn judge(
         &mut self,
@@ -158,6 +175,12 @@ impl Search {
                 }
                 Ok(false)
             }
+            (Form::LaterMoment, Value::String(text)) => {
+                if !self.is_later(text) {
+                    return self.tell_not_later(text);
+                }
+                Ok(false)
+            }
             _ => Ok(false),
         }
     }
@@ -175,6 +198,14 @@ impl Search {
         self.told.push_str("found ")?;
         show_text(id, &mut self.told)?;
         self.told.push_str(" a second time; wanted another, as no two may be equal in any case")?;
+        Ok(true)
+    }
+
+    fn tell_not_later(&mut self, moment: &str) -> Result<bool, AllocError> {
+        self.told.push_str("found ")?;
+        show_text(moment, &mut self.told)?;
+        self.told
+            .push_str("; wanted a moment later than that of the entry before")?;
         Ok(true)
     }
 

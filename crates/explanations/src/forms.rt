@@ -36,6 +36,8 @@ pub enum Form {
     FreeText(usize),
     Party,
     Moment,
+    /// A moment later than that of the object before in its list.
+    LaterMoment,
     Whole,
     StatusCode,
     Decimal,
@@ -96,7 +98,7 @@ fn is_text_of(form: Form, text: &str) -> bool {
         Form::NewId(Scope::Nodes) | Form::Party => Party::read(text).is_ok(),
         Form::NewId(_) => CiText::<36>::new(text).is_ok(),
         Form::FreeText(most) => is_free(text, most),
-        Form::Moment => Moment::read(text).is_ok(),
+        Form::Moment | Form::LaterMoment => Moment::read(text).is_ok(),
         Form::Word(_) | Form::Name(_) => true,
         _ => false,
     }
@@ -189,7 +191,7 @@ fn fixed_words(form: Form) -> &'static str {
     match form {
         Form::NewId(Scope::Nodes) | Form::Party => "a party, as BE/BEC",
         Form::NewId(_) => "a text of at most 36 printable ASCII characters",
-        Form::Moment => "a moment in UTC, as 2025-01-01T10:00:00Z",
+        Form::Moment | Form::LaterMoment => "a moment in UTC, as 2025-01-01T10:00:00Z",
         Form::Whole => "a whole number of at most 18 digits",
         Form::StatusCode => "a whole number from 1000 to 9999",
         Form::Decimal => "a number without an exponent, below 100000000000 in magnitude",

@@ -26,10 +26,16 @@ pub(crate) const NODE: [Member; 2] = [
     Maybe(Field::Site, Form::Object(Shape::Site)),
 ];
 
-pub(crate) const SITE: [Member; 3] = [
+pub(crate) const SITE: [Member; 4] = [
     Needed(Field::Currency, Form::FreeText(3)),
     Needed(Field::Price, Form::Price),
+    Maybe(Field::Prices, Form::Objects(Shape::PriceFrom, 0, 1000)),
     Needed(Field::Locations, Form::Objects(Shape::Location, 1, 1000)),
+];
+
+pub(crate) const PRICE_FROM: [Member; 2] = [
+    Needed(Field::StartDateTime, Form::LaterMoment),
+    Needed(Field::Price, Form::Price),
 ];
 
 pub(crate) const LOCATION: [Member; 7] = [

@@ -73,6 +73,7 @@ pub(crate) fn quoted_name(field: Field) -> &'static str
         Field::PartyId => "\"party_id\":",
         Field::PowerType => "\"power_type\":",
         Field::Price => "\"price\":",
+        Field::Prices => "\"prices\":",
         Field::Provider => "\"provider\":",
         Field::Providers => "\"providers\":",
         Field::Request => "\"request\":",

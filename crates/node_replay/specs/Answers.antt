@@ -19,6 +19,6 @@ MayAnswer s k (Stepped packets changed t) = Leads s k packets changed t
 MayAnswer s k PassedOver = Passes s k
 MayAnswer s k (Declined why) = Refuses s k why
 
--- the rules leave the node one answer at most (of several equal EVSEs they leave open which one is taken)
+-- the rules leave the node one answer at most
 abbrev pub HasOneAnswer : NodeState → NodeEventKind → Type 0
 HasOneAnswer s k = (a b : NodeAnswer) → MayAnswer s k a → MayAnswer s k b → a ≡ b

@@ -6,6 +6,7 @@ pub mod CdrLocationLemmas
 pub mod ChargingPeriodLemmas
 pub mod CommandLemmas
 pub mod CreditLemmas
+pub mod PriceForms
 pub mod ReplyLemmas
 pub mod Seen
 pub mod SessionLemmas

@@ -1,13 +1,12 @@
 -- A site line is read just where the tree has its form.
-use Rattle.std.proofs.Common.{◌≡◌, ℕ, ℤ, Bool, true, false, cond, List, [], ◌∷◌, ◌++◌, length, map, Ok, Err, refl, sym, subst, ap, ◌∙◌, arith}
-use Rattle.std.proofs.lemmas.Bool.{and_parts}
+use Rattle.std.proofs.Common.{◌≡◌, ℕ, List, [], ◌∷◌, ◌++◌, length, map, Ok, refl, sym, subst, ap, ◌∙◌, arith}
 use Rattle.std.proofs.lemmas.List.{append_assoc, append-nil}
 use Rattle.std.proofs.lemmas.Grind.{flat_map-append}
 use Rattle.serde_json.specs.Data.{Data, Items}
 use Rattle.ocpi_text.specs.Text.{key}
 use Rattle.ocpi_text.specs.Party.{party_at}
 use Rattle.ocpi_types.specs.Apart.{DifferFrom}
-use Rattle.ocpi_types.specs.Limits.{IsCount, IsPrice}
+use Rattle.ocpi_types.specs.Limits.{IsCount}
 use Rattle.ocpi_types.specs.Connectors.{connector_keys, AreConnectors}
 use Rattle.ocpi_types.specs.Locations.{evse_keys, location_keys, site_evse_keys, AreLocations}
 use Rattle.ocpi_types.specs.Parties.{AreParties}
@@ -16,13 +15,14 @@ use Rattle.ocpi_types.specs.declared.site.Connector.{Connector}
 use Rattle.ocpi_types.specs.declared.site.Evse.{Evse}
 use Rattle.ocpi_types.specs.declared.site.Location.{Location}
 use Rattle.ocpi_forms.specs.declared.sites.LocationPlace.{LocationPlace}
-use Rattle.json_text.specs.declared.fault.JsonFault.TheVariants.{WrongForm}
-use Rattle.json_text.specs.Fields.{as_text, formed, ci_in, free_in, moment_in, party_in, e4_in, record_in, each_after}
+use Rattle.json_text.specs.Fields.{as_text, formed, ci_in, free_in, moment_in, party_in, record_in, each_after}
 use Rattle.json_text.specs.Lists.{new_ci_in, counted_in}
-use Rattle.ocpi_forms.specs.Sites.{connector_at, connector_element, connectors_in, evse_at, evse_element, evses_in, location_place_at, location_at, location_element, locations_in, price_in, site_at, provider_at, providers_in, parties_at, site_line_at, site_of_line}
-use Rattle.json_text.specs.Form.{Required, IsFree, IsParty, IsE4, IsRecord, IsList}
+use Rattle.ocpi_forms.specs.Sites.{connector_at, connector_element, connectors_in, evse_at, evse_element, evses_in, location_place_at, location_at, location_element, locations_in, site_at, provider_at, providers_in, parties_at, site_line_at, site_of_line}
+use Rattle.ocpi_forms.specs.SitePrices.{price_in, prices_in}
+use Rattle.json_text.specs.Form.{Required, IsFree, IsParty, IsRecord, IsList}
 use Rattle.ocpi_forms.specs.SiteForm.{IsConnector, IsEvse, IsLocation, IsSite, HasParties, IsSiteLine, IsSiteLineTree}
-use Rattle.json_text.proofs.Exact.{Exact, done, ok_is, bind_ok, both_steps, passed, at_most, text_exact, formed_ok, ci_exact, free_exact, moment_exact, party_exact, e4_exact, inner_exact, as_record_exact}
+use Rattle.json_text.proofs.Exact.{Exact, ok_is, bind_ok, both_steps, text_exact, formed_ok, ci_exact, free_exact, moment_exact, party_exact, inner_exact, as_record_exact}
+use Rattle.ocpi_forms.proofs.PriceForms.{price_exact, prices_exact}
 use Rattle.json_text.proofs.Elements.{record_beside, beside, AllNew, ExactBeside, IsListing, listing_exact, new_ci_exact, new_among_sound, new_among_complete, Apart, differ_from_new, new_from_differ}
 
 -- ---- connectors
@@ -348,51 +348,28 @@ parties_exact = record {
 
 -- ---- the site and its line
 
-record HasPrice (d : Data) (z : ℤ) : Type 0 where
-  form : Required IsE4 field.Price d z
-  bound : IsPrice z
-
-price_cond : (z y : ℤ) (b : Bool) → cond b (done z) (Err (WrongForm field.Price)) ≡ Ok y → (b ≡ true) × (z ≡ y)
-price_cond z y true e = (refl, ok_is z y e)
-price_cond z y false e = absurd cc
-
-price_exact : Exact price_in HasPrice
-unfolding price_in
-price_exact = record {
-  sound = λ d z e.
-      let a = bind_ok (e4_in field.Price d) _ z e in
-      let c = price_cond a.0 z _ a.2 in
-      let both = and_parts _ _ c.0 in
-      subst (HasPrice d) c.1 (record {
-        form = (e4_exact field.Price).sound d a.0 a.1;
-        bound = record { low = at_most _ _ both.0; high = at_most _ _ both.1 };
-      });
-  complete = λ d z p. rw (
-    (e4_exact field.Price).complete d z p.form,
-    passed _ p.bound.low.le,
-    passed _ p.bound.high.le,
-  ) refl;
-}
-
 pub site_exact : Exact site_at IsSite
 unfolding site_at
 site_exact = record {
   sound = λ d s e.
       let a = bind_ok (free_in 3 field.Currency d) _ s e in
       let b = bind_ok (price_in d) _ s a.2 in
-      let g = bind_ok (locations_in d) _ s b.2 in
+      let g = bind_ok (prices_in d) _ s b.2 in
+      let h = bind_ok (locations_in d) _ s g.2 in
       let price = price_exact.sound d b.0 b.1 in
-      let locations = locations_exact.sound d g.0 g.1 in
-      subst (IsSite d) (ok_is _ s g.2) (record {
+      let locations = locations_exact.sound d h.0 h.1 in
+      subst (IsSite d) (ok_is _ s h.2) (record {
         currency = (free_exact 3 field.Currency).sound d a.0 a.1;
         price = price.form;
         bound = price.bound;
+        prices = prices_exact.sound d g.0 g.1;
         locations = locations.listed;
         are = locations.are;
       });
   complete = λ d s p. rw (
     (free_exact 3 field.Currency).complete d s.currency p.currency,
     price_exact.complete d s.price (record { form = p.price; bound = p.bound }),
+    prices_exact.complete d s.prices p.prices,
     locations_exact.complete d s.locations (record { listed = p.locations; are = p.are }),
   ) refl;
 }

@@ -10,6 +10,7 @@ pub mod ReplyForms
 pub mod SeenIds
 pub mod SessionForms
 pub mod SiteForm
+pub mod SitePrices
 pub mod Sites
 pub mod Statuses
 pub mod Tokens

@@ -1,18 +1,20 @@
 -- What a tree has to do with a site line: each record, member by member
 -- (OCPI 2.2.1, Locations: Location, EVSE and Connector objects).
-use Rattle.std.specs.Prelude.{length}
+use Rattle.std.specs.Prelude.{◌≡◌, List, [], length, Option, unwrap_or}
 use Rattle.serde_json.specs.Data.{Data}
 use Rattle.ocpi_types.specs.Connectors.{AreConnectors}
 use Rattle.ocpi_types.specs.Limits.{IsCount, IsPrice}
 use Rattle.ocpi_types.specs.Locations.{AreLocations}
 use Rattle.ocpi_types.specs.Parties.{SiteParties, AreParties}
+use Rattle.ocpi_types.specs.PriceLists.{ArePrices}
 use Rattle.ocpi_types.specs.declared.field.Field.TheVariants as field
+use Rattle.ocpi_types.specs.declared.price_lists.PriceFrom.{PriceFrom}
 use Rattle.ocpi_types.specs.declared.site.Connector.{Connector}
 use Rattle.ocpi_types.specs.declared.site.Evse.{Evse}
 use Rattle.ocpi_types.specs.declared.site.Location.{Location}
 use Rattle.ocpi_types.specs.declared.site.Site.{Site}
 use Rattle.ocpi_types.specs.declared.site.SiteLine.{SiteLine}
-use Rattle.json_text.specs.Form.{Required, IsCi, IsFree, IsParty, IsMoment, IsE4, IsRecord, IsList}
+use Rattle.json_text.specs.Form.{Required, Optional, IsCi, IsFree, IsParty, IsMoment, IsE4, IsRecord, IsList}
 
 pub record IsConnector (d : Data) (c : Connector) : Type 0 where
   pub id : Required (IsCi 36) field.Id d c.id
@@ -36,10 +38,23 @@ pub record IsLocation (d : Data) (l : Location) : Type 0 where
   pub evses : Required (IsList (IsRecord IsEvse)) field.Evses d l.evses
   pub count : IsCount 1000 (length l.evses)
 
+pub record IsPriceFrom (d : Data) (p : PriceFrom) : Type 0 where
+  pub start_date_time : Required IsMoment field.StartDateTime d p.start_date_time
+  pub price : Required IsE4 field.Price d p.price
+  pub bound : IsPrice p.price
+
+-- a list of prices from moments on, which may be absent: then there are none
+pub record HasPrices (d : Data) (ps : List PriceFrom) : Type 0 where
+  pub listed : Option (List PriceFrom)
+  pub form : Optional (IsList (IsRecord IsPriceFrom)) field.Prices d listed
+  pub all : ps ≡ unwrap_or listed []
+  pub are : ArePrices ps
+
 pub record IsSite (d : Data) (s : Site) : Type 0 where
   pub currency : Required (IsFree 3) field.Currency d s.currency
   pub price : Required IsE4 field.Price d s.price
   pub bound : IsPrice s.price
+  pub prices : HasPrices d s.prices
   pub locations : Required (IsList (IsRecord IsLocation)) field.Locations d s.locations
   pub are : AreLocations s.locations
 

@@ -1,6 +1,6 @@
 -- Reading the site line: each record, member by member, in the order in which faults are told
 -- (OCPI 2.2.1, Locations: Location, EVSE and Connector objects).
-use Rattle.std.specs.Prelude.{ℕ, ℤ, pos, List, [], ◌∷◌, ◌++◌, map, int_le, ◌&&◌, Ok, Err, if◌then◌else◌}
+use Rattle.std.specs.Prelude.{ℕ, List, [], ◌∷◌, ◌++◌, map, Ok}
 use Rattle.serde_json.specs.Data.{Data}
 use Rattle.ocpi_text.specs.Text.{key}
 use Rattle.ocpi_text.specs.Party.{party_at}
@@ -13,11 +13,11 @@ use Rattle.ocpi_types.specs.declared.site.Evse.{Evse}
 use Rattle.ocpi_types.specs.declared.site.Location.{Location}
 use Rattle.ocpi_types.specs.declared.site.Site.{Site}
 use Rattle.ocpi_types.specs.declared.site.SiteLine.{SiteLine}
-use Rattle.json_text.specs.declared.fault.JsonFault.TheVariants.{WrongForm}
 use Rattle.ocpi_forms.specs.declared.sites.LocationPlace.{LocationPlace}
 use Rattle.json_text.specs.Fault.{Read, ◌>>=◌}
-use Rattle.json_text.specs.Fields.{as_record, as_text, formed, ci_in, free_in, moment_in, party_in, e4_in, record_in, each_after}
+use Rattle.json_text.specs.Fields.{as_record, as_text, formed, ci_in, free_in, moment_in, party_in, record_in, each_after}
 use Rattle.json_text.specs.Lists.{new_among, new_ci_in, counted_in}
+use Rattle.ocpi_forms.specs.SitePrices.{price_in, prices_in}
 
 unfoldable pub connector_at : List Connector → Data → Read Connector
 connector_at before d = do
@@ -71,18 +71,13 @@ location_element before e = as_record field.Locations e >>= location_at before
 unfoldable pub locations_in : Data → Read (List Location)
 locations_in d = counted_in 1 1000 field.Locations d >>= each_after location_element []
 
--- a price from 0.0000 to 10,000.0000
-unfoldable pub price_in : Data → Read ℤ
-price_in d = do
-  z ← e4_in field.Price d
-  if int_le (pos 0) z && int_le z (pos 100000000) then Ok z else Err (WrongForm field.Price)
-
 unfoldable pub site_at : Data → Read Site
 site_at d = do
   currency ← free_in 3 field.Currency d
   price ← price_in d
+  prices ← prices_in d
   locations ← locations_in d
-  Ok (record { currency = currency; price = price; locations = locations })
+  Ok (record { currency = currency; price = price; prices = prices; locations = locations })
 
 -- a provider, which differs from the operator and from the providers before it
 unfoldable pub provider_at : List ℕ → List (List ℕ) → Data → Read (List ℕ)

@@ -18,8 +18,8 @@
 //! clauses.
 //!
 //! Each topic (tokens, commands, replies, sessions, charge detail records and their locations and periods,
-//! authorizations, packets; sites, setups, events, which are read and never written) has a source file, definitions
-//! and lemmas of its own. For each of its records these say:
+//! authorizations, packets; sites and their prices, setups, events, which are read and never written) has a source
+//! file, definitions and lemmas of its own. For each of its records these say:
 //!
 //! - **Reading**, a function from a tree to the value or the first fault, one line for each member, in the order in
 //!   which faults are told (`token_at`). The code mirrors it line by line, and its contract is that its answer equals
@@ -58,6 +58,7 @@ mod on_heap;
 mod records;
 mod replies;
 mod sessions;
+mod site_prices;
 mod sites;
 mod status;
 mod tokens;

@@ -25,7 +25,6 @@ ghost use Rattle.ocpi_forms.specs.Sites.{
   location_at,
   location_element,
   locations_in,
-  price_in,
   site_at,
   provider_at,
   providers_in,
@@ -34,15 +33,13 @@ ghost use Rattle.ocpi_forms.specs.Sites.{
   site_of_line,
 };
 
-use json_text::fields::{
-    as_record, as_text, ci_in, e4_in, free_in, moment_in, party_in, record_in,
-};
+use crate::site_prices::{price_of, prices_of};
+use json_text::fields::{as_record, as_text, ci_in, free_in, moment_in, party_in, record_in};
 use json_text::lists::{ElementReader, counted_in, elements};
 use json_text::{JsonFault, Tree, is_same_id, is_same_party};
 use ocpi_text::{CiText, FreeText, Party};
 use ocpi_types::{
-    Connector, Connectors, Evse, Evses, Field, IdSet, Location, Locations, Parties, PricePerKwh,
-    Site, SiteLine,
+    Connector, Connectors, Evse, Evses, Field, IdSet, Location, Locations, Parties, Site, SiteLine,
 };
 use std::alloc::Global;
 
@@ -261,28 +258,19 @@ fn locations_of(alloc: Global, object: &Tree<'_>) -> Result<Locations, JsonFault
     }
 }
 
-/// A price, from 0.0000 to 10,000.0000.
-#[tactic(auto, unfolding(crate::specs::Sites::price_in))]
-fn price_of(object: &Tree<'_>) -> Result<PricePerKwh, JsonFault>
-    ensures { result ≡ price_in (view object.now) }
-{
-    match PricePerKwh::new(e4_in(object, Field::Price)?) {
-        Some(price) => Ok(price),
-        None => Err(JsonFault::WrongForm(Field::Price)),
-    }
-}
-
-/// The site of an operator: its currency, its price, and its locations.
+/// The site of an operator: its currency, its price, those that take its place from moments on, and its locations.
 #[tactic(auto, unfolding(crate::specs::Sites::site_at))]
 pub fn site_of(alloc: Global, object: &Tree<'_>) -> Result<Site, JsonFault>
     ensures { Gives result (site_at (view object.now)) }
 {
     let currency = free_in(alloc, object, Field::Currency)?;
     let price = price_of(object)?;
+    let prices = prices_of(alloc, object)?;
     let locations = locations_of(alloc, object)?;
     Ok(Site {
         currency,
         price,
+        prices,
         locations,
     })
 }

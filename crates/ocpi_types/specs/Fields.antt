@@ -1,7 +1,7 @@
 -- The names of members, as they are written.
 use Rattle.std.specs.Prelude.{ℕ, List, codes}
 use Rattle.ocpi_types.specs.declared.field.Field.{Field}
-use Rattle.ocpi_types.specs.declared.field.Field.TheVariants.{Line, Address, Allowed, Answer, At, AuthMethod, AuthorizationReference, Body, CdrLocation, CdrToken, ChargingPeriods, City, ConnectorFormat, ConnectorId, ConnectorPowerType, ConnectorStandard, Connectors, ContractId, Coordinates, Country, CountryCode, Credit, CreditReferenceId, Currency, Data, Deadline, Dimensions, EndDateTime, Event, EvseId, EvseUid, EvseUids, Evses, ExclVat, ExpiryDate, Format, From, Id, InService, Issuer, Key, Kind, Kwh, Last, LastUpdated, Latitude, Location, LocationId, Locations, Longitude, Node, Nodes, Number, Operator, Order, Packet, Party, PartyId, PowerType, Price, Provider, Providers, Request, ReservationId, ResponseUrl, Result, Serial, SessionId, Site, Standard, StartDateTime, Status, StatusCode, Timeout, Timestamp, To, Token, TokenType, TokenUid, TotalCost, TotalEnergy, TotalTime, TypeOf, Uid, Valid, Volume, Whitelist}
+use Rattle.ocpi_types.specs.declared.field.Field.TheVariants.{Line, Address, Allowed, Answer, At, AuthMethod, AuthorizationReference, Body, CdrLocation, CdrToken, ChargingPeriods, City, ConnectorFormat, ConnectorId, ConnectorPowerType, ConnectorStandard, Connectors, ContractId, Coordinates, Country, CountryCode, Credit, CreditReferenceId, Currency, Data, Deadline, Dimensions, EndDateTime, Event, EvseId, EvseUid, EvseUids, Evses, ExclVat, ExpiryDate, Format, From, Id, InService, Issuer, Key, Kind, Kwh, Last, LastUpdated, Latitude, Location, LocationId, Locations, Longitude, Node, Nodes, Number, Operator, Order, Packet, Party, PartyId, PowerType, Price, Prices, Provider, Providers, Request, ReservationId, ResponseUrl, Result, Serial, SessionId, Site, Standard, StartDateTime, Status, StatusCode, Timeout, Timestamp, To, Token, TokenType, TokenUid, TotalCost, TotalEnergy, TotalTime, TypeOf, Uid, Valid, Volume, Whitelist}
 
 unfoldable pub name_of : Field → List ℕ
 name_of Line = codes "line"
@@ -64,6 +64,7 @@ name_of Party = codes "party"
 name_of PartyId = codes "party_id"
 name_of PowerType = codes "power_type"
 name_of Price = codes "price"
+name_of Prices = codes "prices"
 name_of Provider = codes "provider"
 name_of Providers = codes "providers"
 name_of Request = codes "request"

@@ -8,6 +8,8 @@ pub mod Limits
 pub mod Locations
 pub mod Memory
 pub mod Parties
+pub mod PriceLists
+pub mod Prices
 pub mod Rows
 pub mod Setups
 pub mod Stamps

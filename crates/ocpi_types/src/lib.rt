@@ -22,7 +22,9 @@
 //!   `Ack`, `Event`, `Reservation`, `Opening`, `RowKey`; `Body`, `Command`, `Reply`, `Push`, `Row`.
 //! - A row stands under its key in key form, for all thirteen kinds. By `Row::key` (`key_of`).
 //! - A value is made exactly where its limits hold (lengths, ids that differ, ranges), and else none. By `new` of
-//!   `NonEmpty`, `Connectors`, `Evses`, `Locations`, `Parties`, `Setup`, `StatusCode`, `RefusalCode`, `PricePerKwh`.
+//!   `NonEmpty`, `Connectors`, `Evses`, `Locations`, `Parties`, `Prices`, `Setup`, `StatusCode`, `RefusalCode`,
+//!   `PricePerKwh`.
+//! - A site's price at a moment is that of the last entry that begins by it, else its own. By `Site::price_at`.
 //! - A set of ids is a finite set of keys. By `IdSet::insert`: `added`, `after`, `err`, `absent`.
 //! - A word list names each entry, the kinds of packets too. By `Word` of each list.
 //! - A command tells to where its result is posted, and a start its authorization reference. By `response_url`,
@@ -56,6 +58,8 @@ mod node_events;
 mod packet;
 mod parties;
 mod price;
+mod price_laws;
+mod price_lists;
 mod replies;
 mod rows;
 mod sessions;
@@ -82,6 +86,8 @@ pub use node_events::{NodeEvent, NodeEventKind};
 pub use packet::{Body, Packet};
 pub use parties::Parties;
 pub use price::PricePerKwh;
+pub use price_laws::prices_hold_from_their_moments;
+pub use price_lists::{PriceFrom, Prices};
 pub use replies::{Ack, CommandResponse, CommandResult, ResponseData};
 pub use rows::{Change, Counter, Place, Row, RowKey};
 pub use sessions::{Opening, Price, Session};

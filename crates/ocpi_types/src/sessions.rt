@@ -37,7 +37,7 @@ pub struct Session {
     pub last_updated: Moment,
 }
 
-/// What stays the same of a session from its first version to its last, and the price of its energy.
+/// What stays the same of a session from its first version to its last.
 #[derive(Clone, Copy)]
 pub struct Opening {
     /// The operator: `country_code` and `party_id`.
@@ -49,7 +49,6 @@ pub struct Opening {
     pub location_id: CiText<36>,
     pub evse_uid: CiText<36>,
     pub connector_id: CiText<36>,
-    /// An ISO 4217 code, in which the price is.
+    /// An ISO 4217 code, in which its cost is.
     pub currency: ShortText<3, 12>,
-    pub price: PricePerKwh,
 }

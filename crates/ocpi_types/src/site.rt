@@ -7,12 +7,14 @@ ghost use Rattle.ocpi_text.specs.Text.{key};
 ghost use Rattle.ocpi_types.specs.Apart.{AllDiffer, DifferFrom};
 ghost use Rattle.ocpi_types.specs.Limits.{IsCount};
 ghost use Rattle.ocpi_types.specs.Locations.{AreLocations, evse_keys, location_keys, site_evse_keys};
+ghost use Rattle.ocpi_types.specs.Prices.{price_at};
 
 use crate::apart::{Identified, differ_from};
 use crate::copies::{ListItem, copy_all};
 use crate::id_set::IdSet;
 use crate::parties::Parties;
 use crate::price::PricePerKwh;
+use crate::price_lists::Prices;
 use ocpi_text::{CiText, FreeText, Moment};
 use std::alloc::{AllocError, Global};
 use std::marker::Model;
@@ -340,11 +342,13 @@ impl Locations {
     }
 }
 
-/// What an operator configures: the currency and price of its sessions, and its locations.
+/// What an operator configures: the currency of its sessions, their price per kWh, those that take its place from
+/// moments on, and its locations.
 #[derive(Drop)]
 pub struct Site {
     pub currency: FreeText<3>,
     pub price: PricePerKwh,
+    pub prices: Prices,
     pub locations: Locations,
 }
 
@@ -356,8 +360,21 @@ impl Site {
         Ok(Site {
             currency: self.currency.copy()?,
             price: self.price,
+            prices: self.prices.copy()?,
             locations: self.locations.copy()?,
         })
+    }
+
+    /// The price per kWh at a moment: that of the last entry of `prices` that begins by it, and the site's own where
+    /// there is none. A thousand entries take some ten comparisons.
+    #[tactic(auto, unfolding(crate::specs::Prices::price_at))]
+    pub fn price_at(&self, at: Moment) -> PricePerKwh
+        ensures { result ≡ price_at self.now at }
+    {
+        match self.prices.last_begun(at) {
+            Some(entry) => entry.price,
+            None => self.price,
+        }
     }
 }
 

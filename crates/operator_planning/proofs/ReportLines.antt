@@ -4,6 +4,7 @@ use Rattle.std.specs.Prelude.{Option, Some, None, Result, Ok, Err, IfOk, IfErr, 
 use Rattle.std.specs.FinMap.{get}
 use Rattle.ocpi_text.specs.Moment.{last_moment}
 use Rattle.ocpi_text.specs.Text.{key}
+use Rattle.ocpi_types.specs.Prices.{price_at}
 use Rattle.ocpi_types.specs.declared.events.ChargerEvent.{ChargerEvent}
 use Rattle.ocpi_types.specs.declared.events.ChargerEvent.TheVariants as event
 use Rattle.ocpi_types.specs.declared.rows.Place.{Place}
@@ -73,12 +74,12 @@ module _ (s : State) (sound : IsSound s) (at : ℕ) (report : ChargerEvent) wher
 
   pub moved_provider : (v w : Session) → Moves s.site s.rows at report v w → HasPeer s.providers (key w.cdr_token.party)
   moved_provider v w h =
-      let same = (makes_alike s.site.price at report v w h.makes).provider in
+      let same = (makes_alike (price_at s.site v.start_date_time) at report v w h.makes).provider in
       subst (λ (p : List ℕ). HasPeer s.providers (key p)) (sym same) (goes_on v w h).provider
 
   pub moved_place : (v w : Session) → Moves s.site s.rows at report v w → IsConnectorOf s.site.locations (key w.evse_uid) (key w.connector_id)
   moved_place v w h =
-      let same = makes_alike s.site.price at report v w h.makes in
+      let same = makes_alike (price_at s.site v.start_date_time) at report v w h.makes in
       subst (λ (k : List ℕ). IsConnectorOf s.site.locations (key w.evse_uid) (key k)) (sym same.connector)
       (subst (λ (e : List ℕ). IsConnectorOf s.site.locations (key e) (key v.connector_id)) (sym same.evse) (goes_on v w h).place)
 

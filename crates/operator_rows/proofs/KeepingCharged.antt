@@ -52,7 +52,7 @@ opening_charged line = record {
 
 -- whether a session may stand is a matter of the parties and the site
 pub stands_still : (s : State) (rows : Rows) (m : Resend) (w : Waits) (v : Session) → MayStand s v → MayStand (record s { rows = rows; resend = m; waits = w }) v
-stands_still s rows m w v h = record { own = h.own; going = λ live. let g = h.going live in record { provider = g.provider; place = g.place; priced = g.priced } }
+stands_still s rows m w v h = record { own = h.own; going = λ live. let g = h.going live in record { provider = g.provider; place = g.place; currency = g.currency; priced = g.priced; uncharged = g.uncharged } }
 
 -- and so is whether an authorization may be awaited
 pub awaits_still : (s : State) (rows : Rows) (m : Resend) (w : Waits) (a : Awaited) → MayAwait s a → MayAwait (record s { rows = rows; resend = m; waits = w }) a

@@ -5,6 +5,7 @@ use Rattle.std.specs.FinMap.{get, contains_key}
 use Rattle.ocpi_text.specs.Party.{party_at}
 use Rattle.ocpi_text.specs.Text.{key}
 use Rattle.ocpi_text.specs.Whole.{max_whole}
+use Rattle.ocpi_types.specs.Prices.{price_at}
 use Rattle.ocpi_types.specs.declared.rows.Row.{Row}
 use Rattle.ocpi_types.specs.declared.rows.Row.TheVariants as row
 use Rattle.ocpi_types.specs.declared.rows.RowKey.{RowKey}
@@ -29,7 +30,7 @@ use Rattle.site_book.specs.Sites.{IsEvse, IsConnectorOf, IsSiteOf}
 use Rattle.command_book.specs.Stored as commands
 use Rattle.ocpi_text.specs.OwnIds.{own_id_text}
 use Rattle.ocpi_text.specs.declared.own_ids.OwnIdKind.TheVariants as kind
-use Rattle.session_state.specs.Versions.{HasCost}
+use Rattle.session_state.specs.Versions.{IsPriced, IsUncharged}
 use Rattle.session_book.specs.Stored as charged
 use Rattle.session_book.specs.Numbers.{AreNumbered}
 use Rattle.token_desk.specs.Tokens.{TokenKey}
@@ -67,12 +68,14 @@ pub record MayBeOpen (s : State) (p : List ℕ) (n : ℕ) (o : OpenCommand) : Ty
   pub own : IsOwnStart p o.command
   pub place : IsStart o.command → HasPlace s.site o
 
--- a session that has not ended: its provider is one of the site, it is at a connector of the site, and its cost is
--- that of its energy at the site's price
+-- a session that has not ended: its provider is one of the site, it is at a connector of the site, its currency is the
+-- site's, and its cost is that of its energy at the price of the moment at which it began; one that is PENDING has none
 pub record MayGoOn (s : State) (v : Session) : Type 0 where
   pub provider : HasPeer s.providers (key v.cdr_token.party)
   pub place : IsConnectorOf s.site.locations (key v.evse_uid) (key v.connector_id)
-  pub priced : HasCost s.site.price v
+  pub currency : v.currency ≡ s.site.currency
+  pub priced : IsPriced (price_at s.site) v
+  pub uncharged : IsUncharged v
 
 -- a session is of this operator, and may go on if it has not ended
 pub record MayStand (s : State) (v : Session) : Type 0 where

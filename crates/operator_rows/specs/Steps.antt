@@ -2,6 +2,7 @@
 use Rattle.std.specs.Prelude.{◌≡◌, ◌≢◌, ◌≤◌, ◌⊎◌, ℕ, ℤ, List, Option, Some, None, Contains, IsTrue}
 use Rattle.std.specs.List.{AllPairs}
 use Rattle.std.specs.FinMap.{get, empty, contains_key}
+use Rattle.ocpi_types.specs.Prices.{price_at}
 use Rattle.ocpi_types.specs.declared.rows.Change.{Change}
 use Rattle.ocpi_types.specs.declared.rows.Change.TheVariants.{Put, Drop}
 use Rattle.ocpi_types.specs.declared.rows.Row.TheVariants as row
@@ -11,7 +12,7 @@ use Rattle.ocpi_types.specs.declared.cdrs.Cdr.{Cdr}
 use Rattle.ocpi_types.specs.declared.sessions.Session.{Session}
 use Rattle.ocpi_types.specs.declared.words.SessionStatus.TheVariants.{Pending}
 use Rattle.session_state.specs.Pasts as pasts
-use Rattle.session_state.specs.Versions.{HasCost}
+use Rattle.session_state.specs.Versions.{IsPriced, IsUncharged}
 use Rattle.authorization_book.specs.Waits as waits
 use Rattle.authorization_book.specs.Waits.{HaveRoomForAll, MayWait, waited_all}
 use Rattle.authorization_book.specs.declared.awaited.Awaited.{Awaited}
@@ -71,14 +72,14 @@ pub record Outlasts (resend : Resend) (changes : List Change) (n : ℕ) : Type 0
 abbrev pub KeepsTimeRoom : Resend → List Change → SendRooms → SendRooms → Type 0
 KeepsTimeRoom resend changes s t = (n moment : ℕ) → Outlasts resend changes n → HasRoomUntil s n moment → HasRoomUntil t n moment
 
--- the version may be put: a new session begins with it, or it may follow the version that stands (OCPI 2.2.1, Sessions:
+-- the version may be put by the prices of the moments: a new session begins with it, or it may follow the version that stands (OCPI 2.2.1, Sessions:
 -- SessionStatus)
-abbrev pub IsNextOf : ℤ → Option Session → Session → Type 0
-IsNextOf price None v = (v.status ≡ Pending) × HasCost price v
+abbrev pub IsNextOf : (ℕ → ℤ) → Option Session → Session → Type 0
+IsNextOf price None v = (v.status ≡ Pending) × IsPriced price v × IsUncharged v
 IsNextOf price (Some w) v = pasts.MayFollow price w v
 
 abbrev pub IsNext : State → Session → Type 0
-IsNext s v = IsNextOf s.site.price (get s.rows.charged.sessions (key v.id)) v
+IsNext s v = IsNextOf (price_at s.site) (get s.rows.charged.sessions (key v.id)) v
 
 -- the step may be carried out: each version of a session that it puts may come next, and a charge detail record
 -- replaces none

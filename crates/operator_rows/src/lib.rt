@@ -32,7 +32,7 @@
 //! - Each session and each record is this operator's, and where its id is made of a number, of one that was given. By
 //!   `consistency`.
 //! - A session that has not ended is at a connector of the site, of a provider of the site, and its cost is that of its
-//!   energy at the site's price. By `consistency`.
+//!   energy at the price of its start. By `consistency`.
 //! - At each EVSE at most one authorization is awaited, of a provider of the site, by a request that was made. By
 //!   `consistency`.
 //! - The claims that `site_book` shows are exactly those of the rows. By `Books::site_book`: `claims`.

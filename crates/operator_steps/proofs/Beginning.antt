@@ -13,6 +13,7 @@ use Rattle.ocpi_text.specs.Text.{key}
 use Rattle.ocpi_text.specs.Whole.{max_whole}
 use Rattle.ocpi_text.specs.declared.own_ids.OwnIdKind.{OwnIdKind}
 use Rattle.ocpi_text.specs.declared.own_ids.OwnIdKind.TheVariants as kind
+use Rattle.ocpi_types.specs.Prices.{price_at}
 use Rattle.ocpi_types.specs.declared.sessions.Session.{Session}
 use Rattle.ocpi_types.specs.declared.stored.Push.TheVariants as push
 use Rattle.site_book.specs.Sites.{IsConnectorOf}
@@ -43,7 +44,7 @@ pub put_with : (t : State) (r : Rows) (v : Session) → MayPutSession t v → r.
 put_with t r v h pending sessions reservations last = record {
   stands = record {
     own = h.stands.own;
-    going = λ live. let g = h.stands.going live in record { provider = g.provider; place = g.place; priced = g.priced };
+    going = λ live. let g = h.stands.going live in record { provider = g.provider; place = g.place; currency = g.currency; priced = g.priced; uncharged = g.uncharged };
   };
   alone = λ live d claim. h.alone live d (claim_of_same r t.rows (key v.evse_uid) d pending sessions reservations claim);
   number = λ n below same. subst (λ l. n ≤ l) (sym last) (h.number n below same);
@@ -99,7 +100,7 @@ module _ (s : State) (n : ℕ) (b : Beginning) (at : ℕ) (range : n ≤ max_who
   pub first_may : (r : Rows) → HasPeer s.providers (key b.token.party) → IsConnectorOf s.site.locations (key b.place.evse_uid) (key b.place.connector_id) →
       ((d : Claim) → HasClaim r (key b.place.evse_uid) d → ⊥) → n ≤ r.charged.last_session → MayPutSession (with_rows r s) v
   first_may r peer place free given = record {
-    stands = record { own = refl; going = λ live. record { provider = peer; place = place; priced = first_cost (opening_of s.party s.site n b) at } };
+    stands = record { own = refl; going = λ live. record { provider = peer; place = place; currency = refl; priced = first_cost (opening_of s.party s.site n b) at (price_at s.site at); uncharged = λ pending. refl } };
     alone = λ live d claim. absurd (free d claim);
     number = λ m below same. let one = of_number m below same in omega (arith, one, given);
   }
@@ -111,4 +112,4 @@ module _ (s : State) (n : ℕ) (b : Beginning) (at : ℕ) (range : n ≤ max_who
         | inl none ↦ none
         | inr (w, some) ↦ absurd (let given = numbered.sessions n range (ap is_some some) in omega (arith, given, above))
       ] in
-      subst (λ o. IsNextOf s.site.price o v) (sym none) (refl, first_cost (opening_of s.party s.site n b) at)
+      subst (λ o. IsNextOf (price_at s.site) o v) (sym none) (refl, first_cost (opening_of s.party s.site n b) at (price_at s.site at), λ pending. refl)

@@ -4,43 +4,33 @@ use Rattle.std.specs.Prelude.{Some, is_some}
 use Rattle.std.specs.FinMap.{get}
 use Rattle.ocpi_text.specs.Moment.{last_moment}
 use Rattle.ocpi_text.specs.Text.{key}
+use Rattle.ocpi_types.specs.Prices.{price_at}
 use Rattle.ocpi_types.specs.declared.events.ChargerEvent.{ChargerEvent}
-use Rattle.ocpi_types.specs.declared.events.ChargerEvent.TheVariants as event
 use Rattle.ocpi_types.specs.declared.sessions.Session.{Session}
 use Rattle.site_book.specs.Sites.{IsConnectorOf}
 use Rattle.site_book.specs.declared.claim.Claim.{Claim}
 use Rattle.site_book.specs.declared.claim.Claim.TheVariants.{Live}
-use Rattle.session_state.specs.Pasts as pasts
-use Rattle.session_state.proofs.PastLemmas as past
-use Rattle.session_tables.specs.Moves.{Makes, Moves}
+use Rattle.session_state.specs.Pasts.{MayFollow}
+use Rattle.session_state.proofs.PastLemmas.{never_pending}
+use Rattle.session_tables.proofs.Following.{may_follow}
+use Rattle.session_tables.specs.Moves.{Moves}
 use Rattle.node_steps.specs.Peers.{HasPeer}
 use Rattle.operator_rows.specs.State.{State, Rows, HasClaim}
 use Rattle.operator_rows.specs.Sound.{IsSound, MayPutSession, with_rows}
 use Rattle.operator_rows.specs.Steps.{IsNext, IsNextOf}
 
--- what a report makes of a version is one of the moves of a session
-made : (price : ℤ) (at : ℕ) (report : ChargerEvent) (v w : Session) → v.last_updated < last_moment → Makes price at report v w → pasts.Makes price v w
-made price at (event.Starts evse_uid) v w later (state, is) = pasts.activates at state later is
-made price at (event.Meter evse_uid kwh) v w later (state, read, is) = pasts.meters at kwh state later read is
-made price at (event.Stops evse_uid) v w later (inl (state, is)) = pasts.completes at state later is
-made price at (event.Stops evse_uid) v w later (inr (state, is)) = pasts.voids at state later is
-made price at (event.Fault evse_uid) v w later (inl (state, is)) = pasts.completes at state later is
-made price at (event.Fault evse_uid) v w later (inr (state, is)) = pasts.voids at state later is
-made price at (event.Accepts provider number) v w later h = absurd h
-made price at (event.Refuses provider number) v w later h = absurd h
-made price at (event.Unlocked provider number) v w later h = absurd h
-made price at (event.Swipe evse_uid connector_id token_uid token_type) v w later h = absurd h
-
 module _ (s : State) (sound : IsSound s) (at : ℕ) (report : ChargerEvent) (v w : Session) (moves : Moves s.site s.rows at report v w) (later : v.last_updated < last_moment) where
   stands : get s.rows.charged.sessions (key v.id) ≡ Some v
   stands = moves.here.stands
 
-  pub follows : pasts.MayFollow s.site.price v w
-  follows = past.may_follow s.site.price v w ((sound.sessions (key v.id) v stands).going moves.here.live).priced (made s.site.price at report v w later moves.makes)
+  pub follows : MayFollow (price_at s.site) v w
+  follows =
+      let going = (sound.sessions (key v.id) v stands).going moves.here.live in
+      may_follow s.site s.rows at report v w moves going.priced going.uncharged later
 
   -- the new version comes next
   pub moved_next : IsNext s w
-  moved_next = subst (λ o. IsNextOf s.site.price o w) (sym (ap (get s.rows.charged.sessions) (ap key (sym follows.same.id)) ∙ stands)) follows
+  moved_next = subst (λ o. IsNextOf (price_at s.site) o w) (sym (ap (get s.rows.charged.sessions) (ap key (sym follows.same.id)) ∙ stands)) follows
 
   -- and may be put, where claims are as they were
   pub moved_may : (r : Rows) → ((d : Claim) → HasClaim r (key w.evse_uid) d → HasClaim s.rows (key w.evse_uid) d) → s.rows.charged.last_session ≤ r.charged.last_session → MayPutSession (with_rows r s) w
@@ -55,7 +45,9 @@ module _ (s : State) (sound : IsSound s) (at : ℕ) (report : ChargerEvent) (v w
             provider = subst (λ t. HasPeer s.providers (key t.party)) same.cdr_token going.provider;
             place = subst (λ c. IsConnectorOf s.site.locations (key w.evse_uid) (key c)) same.connector_id
                 (subst (λ e. IsConnectorOf s.site.locations (key e) (key v.connector_id)) same.evse_uid going.place);
+            currency = sym same.currency ∙ going.currency;
             priced = follows.priced;
+            uncharged = λ pending. absurd (never_pending v.status w.status follows.turn pending);
           };
         };
         alone = λ live d claim.

@@ -6,6 +6,7 @@ use Rattle.std.proofs.lemmas.Option.{slice_get_within, get_or_from_slice_get}
 use Rattle.ocpi_text.specs.OwnIds.{own_id_text}
 use Rattle.ocpi_text.specs.Text.{key}
 use Rattle.ocpi_text.specs.declared.own_ids.OwnIdKind.TheVariants as own
+use Rattle.ocpi_types.specs.Prices.{price_at}
 use Rattle.ocpi_types.specs.Credits.{IsBill, IsCredit, is_credit}
 use Rattle.ocpi_types.specs.declared.cdrs.Cdr.{Cdr}
 use Rattle.ocpi_types.specs.declared.sessions.Session.{Session}
@@ -41,7 +42,7 @@ use Rattle.operator_stored.specs.Bad.{IsBad, IsForeign, MakesClaim}
 use Rattle.operator_stored.specs.Bad.{Repeated, Foreign, NothingCounted, PushNotGiven, SessionNotGiven, CdrNotGiven, SessionOfOther, CdrOfOther, SessionIdNotOwn, CdrIdNotOwn}
 use Rattle.operator_stored.specs.Bad.{PushToStranger, TokenOfStranger, CommandOfStranger, SessionOfStranger, StartOfOtherToken, ServiceNowhere, ReservationNowhere, StartNowhere, SessionNowhere}
 use Rattle.operator_stored.specs.Bad.{StartAtNoConnector, SessionAtNoConnector, ReservationElsewhere, StartWithoutEvse, StartWithoutConnector}
-use Rattle.operator_stored.specs.Bad.{ClaimedTwice, OpenUnanswered, ResultUnanswered, OpenWithResult, ResultOfOpen, PushedTwice, OfReservation, CostMissing, OtherPrice}
+use Rattle.operator_stored.specs.Bad.{ClaimedTwice, OpenUnanswered, ResultUnanswered, OpenWithResult, ResultOfOpen, PushedTwice, OfReservation, ChargedEarly, CostMissing, OtherMoney, OtherPrice}
 use Rattle.operator_stored.specs.Bad.{BilledTwice, CreditedTwice, BilledEarly, CreditWithoutBill, Unbilled}
 use Rattle.operator_stored.specs.Bills.{BillsTwice}
 use Rattle.operator_stored.specs.Making.{BadRowsAreOfNone, IsMadeOf, RowsMakeAgain, StartsAgain}
@@ -215,8 +216,10 @@ module _ (line : SiteLine) (list : List Row) (rows : Rows) (all : AreRowsOf list
         other (sound.outbox.one_each u m n (record { to = to; push = a }, stands (row.Push m to a) h, is) (record { to = at; push = b }, stands (row.Push n at b) k, also))
     not_bad _ _ (OfReservation v h is) = whole.resumable (key v.id) v (stands (row.Session v) h) (inl is)
     not_bad _ _ (CostMissing v h none) =
-        whole.resumable (key v.id) v (stands (row.Session v) h) (inr (λ priced. not_both (price_of v.kwh line.site.price) v.total_cost none priced))
-    not_bad _ _ (OtherPrice v cost h is not) = whole.resumable (key v.id) v (stands (row.Session v) h) (inr not)
+        whole.resumable (key v.id) v (stands (row.Session v) h) (inr (inl (λ priced. not_both (price_of v.kwh (price_at line.site v.start_date_time)) v.total_cost none priced)))
+    not_bad _ _ (ChargedEarly v h charged) = whole.resumable (key v.id) v (stands (row.Session v) h) (inr (inr charged))
+    not_bad _ _ (OtherPrice v cost h is not) = whole.resumable (key v.id) v (stands (row.Session v) h) (inr (inl not))
+    not_bad _ _ (OtherMoney v h live other) = other ((sound.sessions (key v.id) v (stands (row.Session v) h)).going live).currency
     not_bad _ _ (BilledTwice t bill) = not_twice t
     not_bad _ _ (CreditedTwice t credit) = not_twice t
     not_bad _ _ (BilledEarly x h none) = let found = has_session x (stands (row.Cdr x) h) in none found

@@ -15,6 +15,7 @@ use Rattle.tables.specs.Keys.{text_total, text_exact, text_number_total, text_nu
 use Rattle.tables.proofs.Elements.{in_none, in_front}
 use Rattle.tables.proofs.Maps.{told}
 use Rattle.tables.proofs.Options.{known, none_else}
+use Rattle.ocpi_types.specs.Prices.{price_at}
 use Rattle.ocpi_types.specs.Credits.{AreAlike, IsCredit}
 use Rattle.ocpi_types.specs.declared.cdrs.Cdr.{Cdr}
 use Rattle.ocpi_types.specs.declared.sessions.Session.{Session}
@@ -34,7 +35,7 @@ use Rattle.site_book.specs.declared.claim.Claim.{Claim}
 use Rattle.site_book.specs.declared.claim.Claim.TheVariants.{OpenStart, Live, Reserved}
 use Rattle.outbox.specs.Outbox.{AreConsistent}
 use Rattle.outbox.proofs.Timing.{has_none, has_some, has_unit}
-use Rattle.session_state.specs.Versions.{HasCost}
+use Rattle.session_state.specs.Versions.{IsPriced, IsUncharged}
 use Rattle.session_book.specs.Numbers.{id_key}
 use Rattle.session_book.proofs.OwnIds.{ids_differ}
 use Rattle.token_desk.specs.Tokens.{TokenKey, token_key}
@@ -50,7 +51,7 @@ use Rattle.operator_rows.proofs.RowChanges.{of_cons, in_later}
 use Rattle.operator_stored.specs.Bad.{IsBad, MakesClaim, PushNotGiven, SessionNotGiven, CdrNotGiven, SessionIdNotOwn, CdrIdNotOwn, PushToStranger, TokenOfStranger}
 use Rattle.operator_stored.specs.Bad.{CommandOfStranger, SessionOfStranger, StartOfOtherToken, ServiceNowhere, ReservationNowhere, StartNowhere, SessionNowhere}
 use Rattle.operator_stored.specs.Bad.{ReservationElsewhere, SessionAtNoConnector, StartAtNoConnector, StartWithoutConnector, StartWithoutEvse}
-use Rattle.operator_stored.specs.Bad.{ClaimedTwice, OpenUnanswered, ResultUnanswered, OpenWithResult, PushedTwice, OfReservation, CostMissing, OtherPrice}
+use Rattle.operator_stored.specs.Bad.{ClaimedTwice, OpenUnanswered, ResultUnanswered, OpenWithResult, PushedTwice, OfReservation, ChargedEarly, CostMissing, OtherMoney, OtherPrice}
 use Rattle.operator_stored.specs.Bad.{BilledTwice, CreditedTwice, BilledEarly, CreditWithoutBill, Unbilled}
 use Rattle.operator_stored.specs.Bills.{BillsTwice, HasBill, HasItsBill}
 use Rattle.operator_stored.specs.Making.{OtherRowsAreBad}
@@ -76,7 +77,9 @@ record FitsOpen (line : SiteLine) (rows : List Row) (p : List ℕ) (n : ℕ) (o 
 
 record FitsSession (line : SiteLine) (rows : List Row) (v : Session) : Type 0 where
   made : (n : ℕ) × IsOwnId own.Session line.parties.operator v.id n
-  priced : HasCost line.site.price v
+  priced : IsPriced (price_at line.site) v
+  uncharged : IsUncharged v
+  currency : IsLive v.status → v.currency ≡ line.site.currency
   provider : IsLive v.status → HasPeer line.parties.providers (key v.cdr_token.party)
   place : IsLive v.status → IsConnectorOf line.site.locations (key v.evse_uid) (key v.connector_id)
   billed : v.status ≡ Completed → HasBill rows (key v.id)
@@ -130,7 +133,7 @@ module _ (line : SiteLine) (rows : List Row) (good : (k : RowKey) (reason : BadR
   ]
 
   -- a session has the cost of its energy
-  costs : (v : Session) → Contains rows (row.Session v) → NotNot (HasCost line.site.price v)
+  costs : (v : Session) → Contains rows (row.Session v) → NotNot (IsPriced (price_at line.site) v)
   costs v h refuted = elim (known v.total_cost) [
     | inl none ↦ good _ _ (CostMissing v h none)
     | inr some ↦ good _ _ (OtherPrice v some.0 h some.1 refuted)
@@ -148,12 +151,14 @@ module _ (line : SiteLine) (rows : List Row) (good : (k : RowKey) (reason : BadR
   fits_session v h refuted =
       good _ _ (SessionIdNotOwn v h (λ n made.
       costs v h (λ priced.
+      good _ _ (ChargedEarly v h (λ uncharged.
+      given (λ (live : IsLive v.status). λ (other : v.currency ≢ line.site.currency). good _ _ (OtherMoney v h live other)) (λ currency.
       given (λ (live : IsLive v.status). λ (stranger : HasPeer line.parties.providers (key v.cdr_token.party) → ⊥). good _ _ (SessionOfStranger v h live stranger)) (λ provider.
       given (λ (live : IsLive v.status). λ (nowhere : IsConnectorOf line.site.locations (key v.evse_uid) (key v.connector_id) → ⊥).
       good _ _ (SessionNowhere v h live (λ evse. good _ _ (SessionAtNoConnector v h live evse nowhere)))) (λ place.
       given (λ (done : v.status ≡ Completed). λ (none : HasBill rows (key v.id) → ⊥).
       good _ _ (Unbilled v h done none)) (λ billed.
-      refuted (record { made = (n, made); priced = priced; provider = provider; place = place; billed = billed })))))))
+      refuted (record { made = (n, made); priced = priced; uncharged = uncharged; currency = currency; provider = provider; place = place; billed = billed }))))))))))
 
   fits_cdr : (x : Cdr) → Contains rows (row.Cdr x) → NotNot (FitsCdr line rows x)
   fits_cdr x h refuted =
@@ -264,7 +269,7 @@ module _ (line : SiteLine) (rows : List Row) (good : (k : RowKey) (reason : BadR
     may_stand id v has =
         let h = session_in id v has in
         let f = all (row.Session v) h in
-        record { own = own_session line rows good v h; going = λ live. record { provider = f.provider live; place = f.place live; priced = f.priced } }
+        record { own = own_session line rows good v h; going = λ live. record { provider = f.provider live; place = f.place live; currency = f.currency live; priced = f.priced; uncharged = f.uncharged } }
 
     module _ (own_party : party_at line.parties.operator ≡ Ok line.parties.operator) where
       same_number : (k : OwnIdKind) (id : List ℕ) (n m : ℕ) → n ≤ max_whole → IsOwnId k line.parties.operator id m → id_key k line.parties.operator n ≡ key id → n ≡ m
@@ -372,7 +377,8 @@ module _ (line : SiteLine) (rows : List Row) (good : (k : RowKey) (reason : BadR
       sessions = λ id v has. (all (row.Session v) (session_in id v has)).made;
       resumable = λ id v has stuck. elim stuck [
         | inl reservation ↦ good _ _ (OfReservation v (session_in id v has) reservation)
-        | inr not_priced ↦ costs v (session_in id v has) not_priced
+        | inr (inl not_priced) ↦ costs v (session_in id v has) not_priced
+        | inr (inr charged) ↦ good _ _ (ChargedEarly v (session_in id v has) charged)
       ];
       cdrs = λ id x has. (all (row.Cdr x) (cdr_in id x has)).made;
       billed = made_billed;

@@ -9,6 +9,7 @@ use Rattle.ocpi_text.specs.Text.{key}
 use Rattle.ocpi_text.specs.Whole.{max_whole}
 use Rattle.ocpi_text.specs.declared.own_ids.OwnIdKind.{OwnIdKind}
 use Rattle.ocpi_text.specs.declared.own_ids.OwnIdKind.TheVariants as own
+use Rattle.ocpi_types.specs.Prices.{price_at}
 use Rattle.ocpi_types.specs.Rows.{key_of}
 use Rattle.ocpi_types.specs.declared.cdrs.Cdr.{Cdr}
 use Rattle.ocpi_types.specs.declared.rows.Counter.TheVariants as counter
@@ -22,7 +23,7 @@ use Rattle.ocpi_types.specs.declared.words.SessionStatus.TheVariants.{Reservatio
 use Rattle.node_steps.specs.Peers.{HasPeer}
 use Rattle.session_book.proofs.OwnIds.{ids_differ}
 use Rattle.session_state.specs.Resuming.{CannotResume}
-use Rattle.session_state.specs.Versions.{HasCost}
+use Rattle.session_state.specs.Versions.{HasCost, IsUncharged}
 use Rattle.site_book.specs.Sites.{IsConnectorOf}
 use Rattle.site_book.specs.declared.claim.Claim.{Claim}
 use Rattle.site_book.specs.declared.claim.Claim.TheVariants.{Live}
@@ -36,7 +37,7 @@ use Rattle.operator_stored.proofs.BadRows.{bill_or_credit}
 use Rattle.operator_stored.proofs.Telling.{claimed_twice, count_of, free_may, party_of, site_of, stranger}
 use Rattle.operator_stored.specs.Bad as bad
 use Rattle.operator_stored.specs.Bad.{IsBad, CdrIdNotOwn, CdrNotGiven, CdrOfOther, SessionAtNoConnector, SessionIdNotOwn, SessionNotGiven, SessionNowhere, SessionOfOther, SessionOfStranger}
-use Rattle.operator_stored.specs.Causes.{IsNoConnector, IsStuck, CostMissing, OfEvse, OfNoEvse, OfReservation, OtherPrice}
+use Rattle.operator_stored.specs.Causes.{ChargedEarly, IsNoConnector, IsStuck, CostMissing, OfEvse, OfNoEvse, OfReservation, OtherPrice}
 use Rattle.operator_stored.specs.Placing.{ComesNext, IsOwn, MayAdd, MayCharge, ShowsBad}
 
 equal_or_not : (m n : ℕ) → (m ≡ n) ⊎ (m ≢ n)
@@ -81,9 +82,10 @@ module _ (line : SiteLine) (rows : List Row) (v : Session) (h : Contains rows (r
   misplaced _ live (OfNoEvse nowhere) = SessionNowhere v h live nowhere
   misplaced _ live (OfEvse evse not) = SessionAtNoConnector v h live evse not
 
-  stuck_is_bad : (why : BadReason) → IsStuck line.site.price v why → IsBad line rows (key_of (row.Session v)) why
+  stuck_is_bad : (why : BadReason) → IsStuck (price_at line.site v.start_date_time) v why → IsBad line rows (key_of (row.Session v)) why
   stuck_is_bad _ (OfReservation is) = bad.OfReservation v h is
   stuck_is_bad _ (CostMissing none) = bad.CostMissing v h none
+  stuck_is_bad _ (ChargedEarly charged) = bad.ChargedEarly v h charged
   stuck_is_bad _ (OtherPrice cost is not) = bad.OtherPrice v cost h is not
 
 module _ (s : State) (v : Session) where
@@ -105,15 +107,19 @@ module _ (s : State) (v : Session) where
   pub session_of_stranger : IsLive v.status → ¬ HasPeer s.providers (key v.cdr_token.party) → ShowsBad s (row.Session v) reason.UnknownParty
   session_of_stranger live not line rows h = SessionOfStranger v h.here live (stranger s (row.Session v) line rows h (key v.cdr_token.party) not)
 
+  pub session_of_other_money : IsLive v.status → v.currency ≢ s.site.currency → ShowsBad s (row.Session v) reason.OtherCurrency
+  session_of_other_money live other line rows h =
+      bad.OtherMoney v h.here live (λ e. other (e ∙ ap (λ (z : Site). z.currency) (sym (site_of s (row.Session v) line rows h))))
+
   pub session_nowhere : (evse : List ℕ) (why : BadReason) → evse ≡ key v.evse_uid → IsLive v.status → IsNoConnector s.site.locations evse (key v.connector_id) why →
       ShowsBad s (row.Session v) why
   session_nowhere evse why is live not line rows h =
       misplaced line rows v h.here why live (subst (λ (z : Site). IsNoConnector z.locations (key v.evse_uid) (key v.connector_id) why) (site_of s (row.Session v) line rows h)
       (subst (λ (k : List ℕ). IsNoConnector s.site.locations k (key v.connector_id) why) is not))
 
-  pub stuck : (price : ℤ) (why : BadReason) → price ≡ s.site.price → IsStuck price v why → ShowsBad s (row.Session v) why
+  pub stuck : (price : ℤ) (why : BadReason) → price ≡ price_at s.site v.start_date_time → IsStuck price v why → ShowsBad s (row.Session v) why
   stuck price why same cannot line rows h =
-      stuck_is_bad line rows v h.here why (subst (λ (z : ℤ). IsStuck z v why) (same ∙ ap (λ (z : Site). z.price) (site_of s (row.Session v) line rows h)) cannot)
+      stuck_is_bad line rows v h.here why (subst (λ (z : ℤ). IsStuck z v why) (same ∙ ap (λ (z : Site). price_at z v.start_date_time) (site_of s (row.Session v) line rows h)) cannot)
 
   not_charged : ComesNext s (row.Session v) → key v.party ≡ key s.party → (p evse : List ℕ) → HasClaim s.rows evse (Live p (key v.id)) → ⊥
   not_charged next of p evse h =
@@ -123,10 +129,11 @@ module _ (s : State) (v : Session) where
       (ap (λ (k : List ℕ). keys.Session k (key h.0.id)) (its ∙ sym of) ∙ ap (λ (k : List ℕ). keys.Session (key v.party) k) (sym keyed))
 
   module _ (evse : List ℕ) (is : evse ≡ key v.evse_uid) where
-    pub charge_may : HasPeer s.providers (key v.cdr_token.party) → IsConnectorOf s.site.locations evse (key v.connector_id) → IsFree s.rows evse → MayCharge s v
-    charge_may peer place free = record {
+    pub charge_may : HasPeer s.providers (key v.cdr_token.party) → IsConnectorOf s.site.locations evse (key v.connector_id) → v.currency ≡ s.site.currency → IsFree s.rows evse → MayCharge s v
+    charge_may peer place money free = record {
       provider = peer;
       place = subst (λ (k : List ℕ). IsConnectorOf s.site.locations k (key v.connector_id)) is place;
+      currency = money;
       alone = free_may s (key v.evse_uid) _ (subst (λ (k : List ℕ). IsFree s.rows k) is free);
     }
 
@@ -160,10 +167,12 @@ module _ (s : State) (x : Cdr) where
       subst (λ (z : ℕ). z ≤ s.rows.charged.last_cdr) (sym (sole m fits same)) most in
       record { may = record { own = of; number = given }; fit = (n, made) }
 
--- a version whose status is not RESERVATION, and that cannot go on, has not the cost of its energy
-pub not_priced : (price : ℤ) (v : Session) → (v.status ≡ Reservation → ⊥) → CannotResume price v → ¬ HasCost price v
-not_priced price v other (inl is) = absurd (other is)
-not_priced price v other (inr not) = not
+-- a version whose status is not RESERVATION, which has no energy while it is PENDING, and that cannot go on, has not the
+-- cost of its energy
+pub not_priced : (price : ℤ) (v : Session) → (v.status ≡ Reservation → ⊥) → IsUncharged v → CannotResume price v → ¬ HasCost price v
+not_priced price v other uncharged (inl is) = absurd (other is)
+not_priced price v other uncharged (inr (inl not)) = not
+not_priced price v other uncharged (inr (inr charged)) = absurd (charged uncharged)
 
 pub not_same : (b : Bool) (party operator own : List ℕ) → operator ≡ own → (key party ≡ key operator → b ≡ true) → b ≡ false → key party ≡ key own → ⊥
 not_same b party operator own is also e h = true≢false (sym (also (h ∙ ap key (sym is))) ∙ e)

@@ -2,6 +2,7 @@
 use Rattle.std.specs.Prelude.{◌≡◌, ◌≢◌, ℕ, List, None, Some, Contains, ⊤}
 use Rattle.ocpi_text.specs.Text.{key}
 use Rattle.ocpi_text.specs.declared.own_ids.OwnIdKind.TheVariants as own
+use Rattle.ocpi_types.specs.Prices.{price_at}
 use Rattle.ocpi_types.specs.Credits.{IsBill, IsCredit}
 use Rattle.ocpi_types.specs.Rows.{key_of}
 use Rattle.ocpi_types.specs.declared.cdrs.Cdr.{Cdr}
@@ -26,7 +27,7 @@ use Rattle.site_book.specs.declared.claim.Claim.{Claim}
 use Rattle.site_book.specs.declared.claim.Claim.TheVariants.{OpenStart, Live, Reserved}
 use Rattle.outbox.specs.Pushes.{subject}
 use Rattle.outbox.specs.declared.push_book.Subject.{Subject}
-use Rattle.session_state.specs.Versions.{HasCost}
+use Rattle.session_state.specs.Versions.{IsPriced, IsUncharged}
 use Rattle.node_steps.specs.Peers.{HasPeer}
 use Rattle.operator_rows.specs.Sound.{IsOwnStart}
 use Rattle.operator_rows.specs.State.{IsLive, IsStart, Occupies, Takes}
@@ -113,11 +114,15 @@ pub data IsBad (line : SiteLine) (rows : List Row) : RowKey → BadReason → Ty
   -- ---- two pushes of one session, or of one token to one party: each of the two shows it
   PushedTwice : (m n : ℕ) (to other : List ℕ) (a b : Push) (u : Subject) → m ≢ n → Contains rows (row.Push m to a) → Contains rows (row.Push n other b) →
       subject to a ≡ Some u → subject other b ≡ Some u → IsBad line rows (keys.Push m) reason.PushedTwice
-  -- ---- sessions that cannot go on: which status has it, whether it has a cost, and of what price that is
+  -- ---- sessions that cannot go on: which status has it, whether it has a cost, and of what price that is. One that is
+  -- PENDING has no energy
   OfReservation : (v : Session) → Contains rows (row.Session v) → v.status ≡ status.Reservation → IsBad line rows (key_of (row.Session v)) reason.ReservationStatus
   CostMissing : (v : Session) → Contains rows (row.Session v) → v.total_cost ≡ None → IsBad line rows (key_of (row.Session v)) reason.WithoutCost
-  OtherPrice : (v : Session) (cost : Price) → Contains rows (row.Session v) → v.total_cost ≡ Some cost → ¬ HasCost line.site.price v →
-      IsBad line rows (key_of (row.Session v)) (reason.OtherPrice v.kwh cost.excl_vat line.site.price)
+  ChargedEarly : (v : Session) → Contains rows (row.Session v) → ¬ IsUncharged v → IsBad line rows (key_of (row.Session v)) reason.EnergyWhilePending
+  OtherPrice : (v : Session) (cost : Price) → Contains rows (row.Session v) → v.total_cost ≡ Some cost → ¬ IsPriced (price_at line.site) v →
+      IsBad line rows (key_of (row.Session v)) (reason.OtherPrice v.start_date_time v.kwh cost.excl_vat (price_at line.site v.start_date_time))
+  -- ---- a session that has not ended would cost what the site's number says, in another money
+  OtherMoney : (v : Session) → Contains rows (row.Session v) → IsLive v.status → v.currency ≢ line.site.currency → IsBad line rows (key_of (row.Session v)) reason.OtherCurrency
   -- ---- bills and credits: each of two bills of one session shows it, and each of two credits
   BilledTwice : (twice : BillsTwice rows) → IsBill twice.other → IsBad line rows (key_of (row.Cdr twice.other)) reason.BilledTwice
   CreditedTwice : (twice : BillsTwice rows) → IsCredit twice.other → IsBad line rows (key_of (row.Cdr twice.other)) reason.CreditedTwice

@@ -7,7 +7,7 @@ use Rattle.ocpi_types.specs.declared.site.Location.{Location}
 use Rattle.ocpi_types.specs.declared.stored.OpenCommand.{OpenCommand}
 use Rattle.ocpi_types.specs.declared.words.SessionStatus.TheVariants.{Reservation}
 use Rattle.site_book.specs.Sites.{IsConnectorOf, IsEvse, IsSiteOf}
-use Rattle.session_state.specs.Versions.{HasCost}
+use Rattle.session_state.specs.Versions.{HasCost, IsUncharged}
 use Rattle.stored_rows.specs.declared.fault.BadReason.{BadReason}
 use Rattle.stored_rows.specs.declared.fault.BadReason.TheVariants as reason
 
@@ -28,8 +28,10 @@ pub data IsMisplaced (locations : List Location) (o : OpenCommand) : BadReason �
   AtNoConnector : (uid connector : List ℕ) (why : BadReason) → o.evse_uid ≡ Some uid → o.connector_id ≡ Some connector →
       IsNoConnector locations (key uid) (key connector) why → IsMisplaced locations o why
 
--- the session is a reservation's, or has no cost, or one that is not that of its energy at the price
+-- the session is a reservation's, or has no cost, or is PENDING and has energy, or its cost is not that of its energy at
+-- the price
 pub data IsStuck (price : ℤ) (v : Session) : BadReason → Type 0 where
   OfReservation : v.status ≡ Reservation → IsStuck price v reason.ReservationStatus
   CostMissing : v.total_cost ≡ None → IsStuck price v reason.WithoutCost
-  OtherPrice : (cost : Price) → v.total_cost ≡ Some cost → ¬ HasCost price v → IsStuck price v (reason.OtherPrice v.kwh cost.excl_vat price)
+  ChargedEarly : ¬ IsUncharged v → IsStuck price v reason.EnergyWhilePending
+  OtherPrice : (cost : Price) → v.total_cost ≡ Some cost → ¬ HasCost price v → IsStuck price v (reason.OtherPrice v.start_date_time v.kwh cost.excl_vat price)

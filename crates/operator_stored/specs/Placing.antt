@@ -5,6 +5,7 @@ use Rattle.ocpi_text.specs.Text.{key}
 use Rattle.ocpi_text.specs.Whole.{max_whole}
 use Rattle.ocpi_text.specs.declared.own_ids.OwnIdKind.{OwnIdKind}
 use Rattle.ocpi_text.specs.declared.own_ids.OwnIdKind.TheVariants as own
+use Rattle.ocpi_types.specs.Prices.{price_at}
 use Rattle.ocpi_types.specs.Rows.{key_of}
 use Rattle.ocpi_types.specs.declared.rows.Row.{Row}
 use Rattle.ocpi_types.specs.declared.rows.Row.TheVariants as row
@@ -52,7 +53,7 @@ pub record IsPlaced (line : SiteLine) (rows : List Row) (s : State) (r : Row) : 
 
 -- what is asked of a row beside what the books keep
 abbrev pub IsFit : State → Row → Type 0
-IsFit s (row.Session v) = ((n : ℕ) × IsOwnId own.Session s.party v.id n) × ¬ CannotResume s.site.price v
+IsFit s (row.Session v) = ((n : ℕ) × IsOwnId own.Session s.party v.id n) × ¬ CannotResume (price_at s.site v.start_date_time) v
 IsFit s (row.Cdr x) = (n : ℕ) × IsRecordId s.party x n
 IsFit s r = ⊤
 
@@ -65,8 +66,9 @@ pub record MayTake (s : State) (p : List ℕ) (n : ℕ) (o : OpenCommand) : Type
   pub place : IsStart o.command → HasPlace s.site o
   pub alone : (evse : List ℕ) → Takes o evse → MayClaim s.rows evse (OpenStart p n)
 
--- a session has its place to itself
+-- a session is in the site's currency, and has its place to itself
 pub record MayCharge (s : State) (v : Session) : Type 0 where
+  pub currency : v.currency ≡ s.site.currency
   pub provider : HasPeer s.providers (key v.cdr_token.party)
   pub place : IsConnectorOf s.site.locations (key v.evse_uid) (key v.connector_id)
   pub alone : MayClaim s.rows (key v.evse_uid) (Live (key v.cdr_token.party) (key v.id))

@@ -4,6 +4,7 @@ use Rattle.std.specs.Prelude.{◌≡◌, ℕ, List, Some}
 use Rattle.std.specs.FinMap.{get}
 use Rattle.ocpi_text.specs.Text.{key}
 use Rattle.ocpi_text.specs.declared.own_ids.OwnIdKind.TheVariants as own
+use Rattle.ocpi_types.specs.Prices.{price_at}
 use Rattle.ocpi_types.specs.Credits.{AreAlike, IsBill, IsCredit}
 use Rattle.ocpi_types.specs.declared.cdrs.Cdr.{Cdr}
 use Rattle.ocpi_types.specs.declared.sessions.Session.{Session}
@@ -27,9 +28,10 @@ pub record AreBilled (s : Rows) : Type 0 where
 
 pub record IsWhole (s : State) : Type 0 where
   -- each session has an id of the operator's own, and can go on from its newest version: its status is one that a
-  -- session has, and its cost that of its energy at the site's price
+  -- session has, its cost that of its energy at the price of the moment at which it began, and one that is PENDING has no
+  -- energy
   pub sessions : (id : List ℕ) (v : Session) → get s.rows.charged.sessions id ≡ Some v → (n : ℕ) × IsOwnId own.Session s.party v.id n
-  pub resumable : (id : List ℕ) (v : Session) → get s.rows.charged.sessions id ≡ Some v → ¬ CannotResume s.site.price v
+  pub resumable : (id : List ℕ) (v : Session) → get s.rows.charged.sessions id ≡ Some v → ¬ CannotResume (price_at s.site v.start_date_time) v
   -- each charge detail record has an id of the operator's own
   pub cdrs : (id : List ℕ) (x : Cdr) → get s.rows.charged.cdrs id ≡ Some x → (n : ℕ) × IsRecordId s.party x n
   pub billed : AreBilled s.rows

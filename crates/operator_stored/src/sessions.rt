@@ -1,6 +1,6 @@
 //! Rows of sessions and of charge detail records.
 
-ghost use Rattle.std.specs.Prelude.{◌≡◌, ◌≤◌, ℕ, IfErr, IfNone, IfSome, MatchBool, OnOk};
+ghost use Rattle.std.specs.Prelude.{◌≡◌, ◌≢◌, ◌≤◌, ℕ, IfErr, IfNone, IfSome, MatchBool, OnOk};
 ghost use Rattle.ocpi_text.specs.OwnIds.{own_id_text};
 ghost use Rattle.ocpi_text.specs.Text.{key};
 ghost use Rattle.ocpi_text.specs.Whole.{max_whole};
@@ -18,9 +18,9 @@ ghost use Rattle.operator_stored.specs.Placing.{Answers, ComesNext, IsOwn, MayCh
 use crate::places::{check_connector, is_unclaimed};
 use crate::pushes::is_provider;
 use ocpi_text::{OwnIdKind, Whole};
-use ocpi_types::{Cdr, PricePerKwh, Session, SessionStatus};
+use ocpi_types::{Cdr, PricePerKwh, Session, SessionStatus, Site};
 use operator_rows::Books;
-use session_state::resume;
+use session_state::{is_uncharged, resume};
 use stored_rows::{BadReason, own_number, record_number};
 
 /// Whether a session with that status has not ended.
@@ -53,8 +53,8 @@ fn is_reservation(status: SessionStatus) -> bool
     }
 }
 
-/// Whether a session can go on from that version. Refused where its status is RESERVATION, where it has no cost, and
-/// where its cost is not that of its energy at the price.
+/// Whether a session can go on from that version. Refused where its status is RESERVATION, where it has no cost, where it
+/// is PENDING and has energy, and where its cost is not that of its energy at the price.
 fn check_version(session: &Session, price: PricePerKwh) -> Result<(), BadReason>
     ensures on { OnOk result (HasCost price session.now × ¬ CannotResume price session.now) }
     ensures stuck { IfErr result (IsStuck price session.now) }
@@ -65,8 +65,12 @@ fn check_version(session: &Session, price: PricePerKwh) -> Result<(), BadReason>
     let Some(cost) = session.total_cost else {
         return Err(BadReason::WithoutCost);
     };
+    if !is_uncharged(session) {
+        return Err(BadReason::EnergyWhilePending);
+    }
     if !can_go_on(session, price) {
         return Err(BadReason::OtherPrice {
+            start_date_time: session.start_date_time,
             kwh: session.kwh.value(),
             cost: cost.excl_vat,
             price: price.value(),
@@ -115,7 +119,14 @@ fn may_own_session(books: &Books, session: &Session) -> Result<(), BadReason>
     }
 }
 
-/// Whether a session that has not ended has its place to itself.
+/// Whether a session is in the currency of the site.
+fn is_of_currency(session: &Session, site: &Site) -> bool
+    ensures { MatchBool result (session.now.currency ≡ site.now.currency) (session.now.currency ≢ site.now.currency) }
+{
+    session.currency.as_str() == site.currency.as_str()
+}
+
+/// Whether a session that has not ended is in the site's currency, and has its place to itself.
 fn may_charge(books: &Books, session: &Session) -> Result<(), BadReason>
     requires next { ComesNext books.now.state (row.Session session.now) }
     requires live { IsLive session.now.status }
@@ -127,6 +138,9 @@ fn may_charge(books: &Books, session: &Session) -> Result<(), BadReason>
         return Err(BadReason::UnknownParty);
     }
     check_connector(books, evse, &session.connector_id)?;
+    if !is_of_currency(session, books.site_book().site()) {
+        return Err(BadReason::OtherCurrency);
+    }
     if !is_unclaimed(books, evse) {
         return Err(BadReason::ClaimedTwice);
     }
@@ -139,7 +153,8 @@ pub fn may_stand(books: &Books, session: &Session) -> Result<(), BadReason>
     ensures { Tells result books.now.state (row.Session session.now) }
 {
     may_own_session(books, session)?;
-    check_version(session, books.site_book().site().price)?;
+    let site = books.site_book().site();
+    check_version(session, site.price_at(session.start_date_time))?;
     if !is_live(session.status) {
         return Ok(());
     }

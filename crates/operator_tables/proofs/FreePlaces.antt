@@ -1,6 +1,6 @@
 -- What the tables ask of claims and of reservations for a token.
 use Rattle.std.proofs.Common.{◌≡◌, ℕ, Bool, true, false, List, refl, sym, ap, subst, ◌∙◌}
-use Rattle.std.specs.Prelude.{Option, Some, None, IsTrue, is_some, not, ◌&&◌}
+use Rattle.std.specs.Prelude.{Option, Some, None, IsTrue, is_some, not, ◌&&◌, slice_get}
 use Rattle.std.specs.FinMap.{get, contains_key}
 use Rattle.ocpi_text.specs.Text.{key}
 use Rattle.ocpi_types.specs.declared.site.Location.{Location}
@@ -10,11 +10,15 @@ use Rattle.ocpi_types.specs.declared.commands.StartSession.{StartSession}
 use Rattle.reservation_book.specs.declared.standing.Standing.{Standing}
 use Rattle.reservation_book.specs.Tokens.{IsFor}
 use Rattle.site_book.specs.declared.claim.Claim.{Claim}
-use Rattle.site_book.specs.Sites.{Claims, OutOfService, is_free, works}
+use Rattle.std.specs.BTreeMap.Range.{IsLeBy}
+use Rattle.tables.specs.Keys.{text_cmp}
+use Rattle.site_book.proofs.Finding.{first_named, first_of}
+use Rattle.site_book.specs.Positions.{OneEvseEach}
+use Rattle.site_book.specs.Sites.{Claims, OutOfService, SiteState, IsEvseFor, IsFirst, IsFirstFree, IsFreeFor, IsWorkingEvse, is_free, works}
 use Rattle.operator_rows.specs.State.{Rows, HasClaim, IsFree}
 use Rattle.operator_rows.specs.Claimed.{IsIndexed}
 use Rattle.operator_tables.specs.Places.{IsHeldFor, token_at}
-use Rattle.operator_tables.specs.Start.{NoneHeld}
+use Rattle.operator_tables.specs.Start.{IsLeastHeld, MayStart, NoneHeld}
 use Rattle.operator_tables.specs.Held.{token_of, IsHeldBy, HasNoHeld}
 
 neither : (a b : Bool) → IsTrue (not a && not b) → (a ≡ false) × IsTrue (not b)
@@ -64,3 +68,31 @@ module _ (s : Rows) (sender : List ℕ) (c : StartSession) (l : Location) (same 
   pub none_held : HasNoHeld s (token_of (key sender) c) c l → NoneHeld s sender c l
   none_held none f j x place serves held =
       none x f j (record { place = place; works = serves; is_for = subst (λ t. IsFor s.booked.reservations t x) (sym same_token) held.is_for; here = held.here })
+
+  -- and the least of what is held so is the least of what is held for it at that location
+  pub least_for : (e : Evse) → ((x : Standing) (f : Evse) (j : Connector) → IsHeldBy s (token_of (key sender) c) c l x f j → IsLeBy text_cmp (key e.uid) (key f.uid)) → IsLeastHeld s sender c l e
+  least_for e least f j x place serves held =
+      least x f j (record { place = place; works = serves; is_for = subst (λ t. IsFor s.booked.reservations t x) (sym same_token) held.is_for; here = held.here })
+
+-- the first EVSE that is not claimed is the first that a start may take
+pub first_start : (site : SiteState) (s : Rows) → IsIndexed site.claims s → site.out_of_service ≡ s.out_of_service → (c : StartSession) (l : Location) (e : Evse) →
+    IsFirst l (IsFreeFor site c.evse_uid) e → IsFirst l (MayStart s c) e
+first_start site s h service c l e first = first_of l (IsFreeFor site c.evse_uid) (MayStart s c) e (λ f may. record {
+  named = may.named;
+  free = subst (λ (z : OutOfService). IsTrue (is_free site.claims z (key f.uid))) (sym service) (free_of site.claims s.out_of_service s h (key f.uid) may.free may.works);
+}) first
+
+-- an EVSE that is named and not claimed is the first of its uid that is free, where one of that uid is in service
+pub named_first : (site : SiteState) (at : ℕ) (l : Location) (named : Option (List ℕ)) (name : List ℕ) (e f : Evse) → OneEvseEach site.site.locations → slice_get site.site.locations at ≡ Some l →
+    named ≡ Some name → IsEvseFor l named e → IsEvseFor l named f → IsWorkingEvse site f → get site.claims (key e.uid) ≡ None → IsFirstFree site l named e
+named_first site at l named name e f one stands is fits other serves none = subst (λ o. IsFirstFree site l o e) (sym is) (record {
+  fits = here;
+  free = ap (λ (o : Option Claim). not (is_some o) && works site.out_of_service (key e.uid)) none ∙ subst (λ k. IsTrue (works site.out_of_service k)) (there.named ∙ sym here.named) serves;
+  first = first_named site.site.locations at l stands one name (IsFreeFor site (Some name)) e (λ g free. free.named) here;
+})
+  where
+    here : IsEvseFor l (Some name) e
+    here = subst (λ o. IsEvseFor l o e) is fits
+
+    there : IsEvseFor l (Some name) f
+    there = subst (λ o. IsEvseFor l o f) is other

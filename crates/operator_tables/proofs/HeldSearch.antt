@@ -3,7 +3,7 @@ use Rattle.std.proofs.Common.{◌≡◌, ℕ, ◌<◌, ◌≤◌, suc, Bool, tru
 use Rattle.std.specs.Prelude.{Option, Some, None, IfSome, IfNone, Contains, not}
 use Rattle.std.specs.declared.cmp.Ordering.{Ordering}
 use Rattle.std.specs.declared.cmp.Ordering.TheVariants.{Less, Equal, Greater}
-use Rattle.std.specs.Ordering.{is_gt, ordering_reverse}
+use Rattle.std.specs.Ordering.{is_gt, ordering_reverse, ordering_then}
 use Rattle.std.specs.List.{filter}
 use Rattle.std.specs.FinMap.{entries}
 use Rattle.std.specs.BTreeMap.Range.{IsLeBy, IsLtBy}
@@ -15,7 +15,7 @@ use Rattle.ocpi_types.specs.declared.site.Evse.{Evse}
 use Rattle.ocpi_types.specs.declared.site.Connector.{Connector}
 use Rattle.ocpi_types.specs.declared.stored.Reservation.{Reservation}
 use Rattle.ocpi_types.specs.declared.commands.StartSession.{StartSession}
-use Rattle.tables.specs.Keys.{text_pair_cmp, text_pair_total, text_pair_exact}
+use Rattle.tables.specs.Keys.{text_cmp, text_total, text_pair_cmp, text_pair_total, text_pair_exact}
 use Rattle.reservation_book.specs.declared.standing.Standing.{Standing}
 use Rattle.reservation_book.specs.declared.standing.TokenAt.{TokenAt}
 use Rattle.reservation_book.specs.Places.{Key}
@@ -103,6 +103,21 @@ module _ (a b d : Spot) where
       let above : text_pair_cmp b a ≡ Greater = text_pair_total.antisymm b a ∙ ap ordering_reverse below in
       let f : true ≡ false = sym (ap is_gt above) ∙ le in cc
 
+-- a spot that is not after another is not on a greater EVSE
+least_first : (a b : Spot) → (IsLtBy text_pair_cmp b a → ⊥) → IsLeBy text_cmp a.0 b.0
+least_first a b not_below = go (text_cmp a.0 b.0) refl
+  where
+    go : (r : Ordering) → text_cmp a.0 b.0 ≡ r → is_gt (text_cmp a.0 b.0) ≡ false
+    go Less e = ap is_gt e
+    go Equal e = ap is_gt e
+    go Greater e =
+        let less : text_cmp b.0 a.0 ≡ Less = text_total.antisymm b.0 a.0 ∙ ap ordering_reverse e in
+        absurd (not_below (ap (λ r. ordering_then r (text_cmp b.1 a.1)) less))
+
+-- an EVSE is not greater than itself
+pub least_itself : (a b : List ℕ) → a ≡ b → IsLeBy text_cmp a b
+least_itself a b same = ap is_gt (subst (λ z. text_cmp a z ≡ Equal) same (tied_itself text_total a))
+
 -- the spot of an entry
 abbrev entry_spot : Key × Reservation → Spot
 entry_spot e = (key e.1.evse_uid, e.0.1)
@@ -188,3 +203,10 @@ module _ (s : Rows) (t : TokenAt) (c : StartSession) (l : Location) (x : Standin
 
   pub on_named : (uid : List ℕ) → c.evse_uid ≡ Some uid → IsHeldBy s t c l x e k → key x.reservation.evse_uid ≡ key uid
   on_named uid e_is h = h.here ∙ subst (λ o. IsNamed o e.uid) e_is h.place.named
+
+-- where no reservation before that one holds a place, its EVSE has the least key of those that are held
+pub least_held : (s : Rows) (t : TokenAt) (c : StartSession) (l : Location) (y : Standing) (here : AreSearched s.booked.reservations t (HoldsPlace s l t c) (Some y)) (e : Evse) →
+    key y.reservation.evse_uid ≡ key e.uid → (x : Standing) (f : Evse) (j : Connector) → IsHeldBy s t c l x f j → IsLeBy text_cmp (key e.uid) (key f.uid)
+least_held s t c l y here e on x f j held =
+    subst (λ k. IsLeBy text_cmp k (key f.uid)) on
+    (subst (λ k. IsLeBy text_cmp (key y.reservation.evse_uid) k) held.here (least_first (spot y) (spot x) (λ below. here.1 x held.is_for below (f, j, held))))

@@ -125,8 +125,8 @@ module _ (s : State) (at : ℕ) (sender : List ℕ) (n : ℕ) where
   start_tells c d (start.Barred l v k a b e) = told s at sender n _ d _ e (record { not_accepted = λ f. cc; stale = λ x f. absurd (cc) })
   start_tells c d (start.Inoperative l v k a b e) = told s at sender n _ d _ e (record { start = c; command_is = refl; not_accepted = λ f. cc })
   start_tells c d (start.Occupied l v k a b e) = told s at sender n _ d _ e (record { start = c; command_is = refl; not_accepted = λ f. cc })
-  start_tells c d (start.Held l v k a b x h e) = told s at sender n _ d _ e (starts s sender c l v k a b (Some x.id) (holds s sender c l v k a b x h))
-  start_tells c d (start.Free l v k a b g h e) = told s at sender n _ d _ e (starts s sender c l v k a b None h)
+  start_tells c d (start.Held l v k a b x h _ e) = told s at sender n _ d _ e (starts s sender c l v k a b (Some x.id) (holds s sender c l v k a b x h))
+  start_tells c d (start.Free l v k a b g h _ e) = told s at sender n _ d _ e (starts s sender c l v k a b None h)
 
   -- what a STOP_SESSION is decided to be
   pub stop_tells : (c : StopSession) (d : Decision) → stop.StopLine s.rows sender c d → Tells s at sender n (command.StopSession c) d
@@ -144,7 +144,7 @@ module _ (s : State) (at : ℕ) (sender : List ℕ) (n : ℕ) where
   reserve_tells c d (reserve.Elsewhere l v a b e) = told s at sender n _ d _ e (record { not_accepted = λ f. cc; stale = λ x f. absurd (cc) })
   reserve_tells c d (reserve.Inoperative l v a b e) = told s at sender n _ d _ e (record { about = refl; in_time = a.timely.in_time; not_accepted = λ f. cc })
   reserve_tells c d (reserve.Occupied l v a b g e) = told s at sender n _ d _ e (record { about = refl; in_time = a.timely.in_time; not_accepted = λ f. cc })
-  reserve_tells c d (reserve.Held l v a b e) = told s at sender n _ d _ e (reserves s at sender n c l v a b)
+  reserve_tells c d (reserve.Held l v a b _ e) = told s at sender n _ d _ e (reserves s at sender n c l v a b)
 
   -- what a CANCEL_RESERVATION is decided to be
   pub cancel_tells : (c : CancelReservation) (d : Decision) → cancel.CancelLine s.rows sender n c d → Tells s at sender n (command.CancelReservation c) d

@@ -1,5 +1,5 @@
 -- What a command may reserve.
-use Rattle.std.proofs.Common.{◌≡◌, ℕ, ◌≤◌, List, refl, sym, ap, subst, ◌∙◌, arith}
+use Rattle.std.proofs.Common.{◌≡◌, ℕ, ◌≤◌, Bool, true, false, List, refl, sym, ap, subst, ◌∙◌, arith}
 use Rattle.std.specs.Prelude.{Option, Some, IsTrue}
 use Rattle.std.specs.FinMap.{get}
 use Rattle.ocpi_text.specs.Text.{key}
@@ -14,7 +14,8 @@ use Rattle.reservation_book.specs.declared.fault.ReservationFault.TheVariants.{S
 use Rattle.reservation_book.specs.Refusals.{IsInTime, IsHere, RefusesReservation}
 use Rattle.reservation_book.specs.Rows.{Rows as BookRows}
 use Rattle.site_book.specs.declared.claim.Claim.TheVariants.{Reserved}
-use Rattle.site_book.specs.Sites.{Claims, IsEvseFor, OutOfService, is_free, works}
+use Rattle.site_book.proofs.Finding.{first_of}
+use Rattle.site_book.specs.Sites.{Claims, IsEvseFor, IsFirst, IsFreeFor, OutOfService, SiteState, is_free, works}
 use Rattle.operator_rows.specs.State.{Rows, HasClaim}
 use Rattle.operator_rows.specs.Claimed.{IsIndexed}
 use Rattle.operator_tables.specs.declared.decision.Decision.TheVariants as decision
@@ -45,6 +46,18 @@ module _ (claims : Claims) (out : OutOfService) (s : Rows) (h : IsIndexed claims
       let work = subst (λ (z : OutOfService). IsTrue (works z (key e.uid))) (sym service) may.works in
       let has = works_free claims out s h (key e.uid) work not_free in
       not_own (record { place = may.place; works = may.works; own = subst (HasClaim s (key e.uid)) (may.may has.0 has.1) has.1 })
+
+is_set : (b : Bool) → ((IsTrue b → ⊥) → ⊥) → IsTrue b
+is_set true h = refl
+is_set false h = absurd (h (λ e. let f : false ≡ true = e in cc))
+
+-- where its own reservation holds none, the first EVSE that is not claimed is the first that a command may reserve
+pub first_reservable : (site : SiteState) (s : Rows) → IsIndexed site.claims s → site.out_of_service ≡ s.out_of_service → (p : List ℕ) (c : ReserveNow) (l : Location) (e : Evse) →
+    ((f : Evse) → IsOwnEvse s p c l f → ⊥) → IsFirst l (IsFreeFor site c.evse_uid) e → IsFirst l (IsReservable s p c l) e
+first_reservable site s h service p c l e not_own first = first_of l (IsFreeFor site c.evse_uid) (IsReservable s p c l) e (λ f may. record {
+  named = may.place.named;
+  free = is_set (is_free site.claims site.out_of_service (key f.uid)) (λ not_free. none_reservable site.claims site.out_of_service s h service p c l f not_free (not_own f) may);
+}) first
 
 -- the reservation claims the EVSE that it is on
 pub is_own : (s : Rows) (p : List ℕ) (c : ReserveNow) (l : Location) (e : Evse) (r : Reservation) → get s.booked.reservations (p, key c.reservation_id) ≡ Some r → IsEvseFor l c.evse_uid e →

@@ -1,5 +1,7 @@
 -- The places that reservations hold for a start (OCPI 2.2.1, Commands: StartSession).
 use Rattle.std.specs.Prelude.{◌≡◌, ℕ, List, Some}
+use Rattle.std.specs.BTreeMap.Range.{IsLeBy}
+use Rattle.tables.specs.Keys.{text_cmp}
 use Rattle.ocpi_text.specs.Text.{key}
 use Rattle.ocpi_types.specs.declared.site.Location.{Location}
 use Rattle.ocpi_types.specs.declared.site.Evse.{Evse}
@@ -31,12 +33,13 @@ pub record IsHeldBy (s : Rows) (t : TokenAt) (c : StartSession) (l : Location) (
   pub is_for : IsFor s.booked.reservations t x
   pub here : key x.reservation.evse_uid ≡ key e.uid
 
--- the place, and the id of a reservation that holds it for the token
+-- the place, and the id of a reservation that holds it for the token. Of the EVSEs that are held so its key is the least
 pub record IsHeld (s : Rows) (t : TokenAt) (c : StartSession) (l : Location) (p : Place × List ℕ) : Type 0 where
   pub reservation : Standing
   pub evse : Evse
   pub connector : Connector
   pub held : IsHeldBy s t c l reservation evse connector
+  pub least : (x : Standing) (e : Evse) (k : Connector) → IsHeldBy s t c l x e k → IsLeBy text_cmp (key evse.uid) (key e.uid)
   pub place_is : p.0 ≡ place_of evse connector
   pub id_is : p.1 ≡ reservation.id
 

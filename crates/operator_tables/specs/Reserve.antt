@@ -10,7 +10,7 @@ use Rattle.ocpi_types.specs.declared.words.CommandResponseType.TheVariants as re
 use Rattle.ocpi_types.specs.declared.words.CommandResultType.TheVariants as result
 use Rattle.reservation_book.specs.Places.{Key}
 use Rattle.reservation_book.specs.Refusals.{IsInTime, IsHere}
-use Rattle.site_book.specs.Sites.{IsEvseFor, IsLocation}
+use Rattle.site_book.specs.Sites.{IsEvseFor, IsFirst, IsLocation}
 use Rattle.site_book.specs.declared.claim.Claim.TheVariants as claim
 use Rattle.operator_rows.specs.State.{Rows, HasClaim}
 use Rattle.operator_tables.specs.declared.decision.Decision.{Decision}
@@ -62,6 +62,16 @@ pub record IsOwnEvse (s : Rows) (p : List ℕ) (c : ReserveNow) (l : Location) (
   pub works : Works s e
   pub own : HasClaim s (key e.uid) (claim.Reserved p (key c.reservation_id))
 
+-- the EVSE that the command takes: the one that its very reservation is on, else the first that may be reserved, in the
+-- order of the site line
+pub data IsTaken (s : Rows) (p : List ℕ) (c : ReserveNow) (l : Location) (e : Evse) : Type 0 where
+  Own : IsOwnEvse s p c l e → IsTaken s p c l e
+  First : ((f : Evse) → IsOwnEvse s p c l f → ⊥) → IsFirst l (IsReservable s p c l) e → IsTaken s p c l e
+
+-- the uid is that of the EVSE that the command takes, which it may reserve
+abbrev pub IsTakenUid : Rows → List ℕ → ReserveNow → Location → List ℕ → Type 0
+IsTakenUid s p c l uid = (e : Evse) × IsReservable s p c l e × IsTaken s p c l e × (uid ≡ e.uid)
+
 -- none of them may be reserved
 abbrev pub NoneReservable : Rows → List ℕ → ReserveNow → Location → Type 0
 NoneReservable s sender c l = (f : Evse) → IsReservable s (key sender) c l f → ⊥
@@ -84,7 +94,7 @@ pub data ReserveLine (site : Site) (s : Rows) (at : ℕ) (sender : List ℕ) (n 
       ReserveLine site s at sender n c d
   Occupied : (l : Location) (e : Evse) → MayHold site s at sender n c l e → Works s e → NoneReservable s sender c l → d ≡ Noted (key c.reservation_id) result.EvseOccupied →
       ReserveLine site s at sender n c d
-  Held : (l : Location) (e : Evse) → MayHold site s at sender n c l e → IsReservable s (key sender) c l e →
+  Held : (l : Location) (e : Evse) → MayHold site s at sender n c l e → IsReservable s (key sender) c l e → IsTaken s (key sender) c l e →
       d ≡ Reserved (key c.reservation_id) (reservation_at c l e) → ReserveLine site s at sender n c d
 
 -- the decision on a command of the party of that key, if it got as far as the EVSEs of its place

@@ -8,8 +8,10 @@ use Rattle.ocpi_types.specs.declared.site.Connector.{Connector}
 use Rattle.ocpi_types.specs.declared.commands.StartSession.{StartSession}
 use Rattle.ocpi_types.specs.declared.words.CommandResponseType.TheVariants as response
 use Rattle.ocpi_types.specs.declared.words.CommandResultType.TheVariants as result
+use Rattle.std.specs.BTreeMap.Range.{IsLeBy}
+use Rattle.tables.specs.Keys.{text_cmp}
 use Rattle.reservation_book.specs.declared.standing.Standing.{Standing}
-use Rattle.site_book.specs.Sites.{IsLocation, Fits}
+use Rattle.site_book.specs.Sites.{IsFirst, IsLocation, IsNamed, Fits}
 use Rattle.operator_rows.specs.State.{Rows, Spent, IsFree, IsSpent}
 use Rattle.operator_tables.specs.declared.decision.Decision.{Decision}
 use Rattle.operator_tables.specs.declared.decision.Decision.TheVariants.{Refused, Answered, Resulted, Started}
@@ -49,6 +51,16 @@ pub record MayTake (site : Site) (s : Rows) (sender : List ℕ) (c : StartSessio
 abbrev pub NoneHeld : Rows → List ℕ → StartSession → Location → Type 0
 NoneHeld s sender c l = (f : Evse) (j : Connector) (x : Standing) → IsPlace l c f j → Works s f → IsHeldFor s sender c.token l f x → ⊥
 
+-- of the EVSEs in service that reservations of the sender hold for the token, this one's key is the least
+abbrev pub IsLeastHeld : Rows → List ℕ → StartSession → Location → Evse → Type 0
+IsLeastHeld s sender c l e = (f : Evse) (j : Connector) (x : Standing) → IsPlace l c f j → Works s f → IsHeldFor s sender c.token l f x → IsLeBy text_cmp (key e.uid) (key f.uid)
+
+-- an EVSE of the uid that the command names, or any where it names none, is in service, and nothing claims it
+pub record MayStart (s : Rows) (c : StartSession) (e : Evse) : Type 0 where
+  pub named : IsNamed c.evse_uid e.uid
+  pub works : Works s e
+  pub free : IsFree s (key e.uid)
+
 -- an EVSE that the command may be about is in service, but none of those in service is held for the token or free
 pub record IsOccupied (s : Rows) (sender : List ℕ) (c : StartSession) (l : Location) : Type 0 where
   pub service : HasService s l c.evse_uid
@@ -56,7 +68,8 @@ pub record IsOccupied (s : Rows) (sender : List ℕ) (c : StartSession) (l : Loc
   pub none_free : (f : Evse) (j : Connector) → IsPlace l c f j → Works s f → ¬ IsFree s (key f.uid)
 
 -- the lines of the table: the first that applies decides. An EVSE that is held for the token goes before one that is
--- free
+-- free. Of several that are held the one with the least key is taken, and of several that are free the first in the
+-- order of the site line
 pub data StartLine (site : Site) (s : Rows) (sender : List ℕ) (c : StartSession) (d : Decision) : Type 0 where
   Mismatched : IsMismatched sender c → d ≡ Refused 2001 → StartLine site s sender c d
   UnknownLocation : ¬ IsMismatched sender c → HasNoLocation site c.location_id → d ≡ Refused 2003 → StartLine site s sender c d
@@ -67,6 +80,6 @@ pub data StartLine (site : Site) (s : Rows) (sender : List ℕ) (c : StartSessio
   Occupied : (l : Location) (e : Evse) (k : Connector) → MayTake site s sender c l e k → IsOccupied s sender c l → d ≡ Resulted result.EvseOccupied →
       StartLine site s sender c d
   Held : (l : Location) (e : Evse) (k : Connector) → MayTake site s sender c l e k → Works s e → (x : Standing) → IsHeldFor s sender c.token l e x →
-      d ≡ Started (place_of e k) (Some x.id) → StartLine site s sender c d
+      IsLeastHeld s sender c l e → d ≡ Started (place_of e k) (Some x.id) → StartLine site s sender c d
   Free : (l : Location) (e : Evse) (k : Connector) → MayTake site s sender c l e k → Works s e → NoneHeld s sender c l → IsFree s (key e.uid) →
-      d ≡ Started (place_of e k) None → StartLine site s sender c d
+      IsFirst l (MayStart s c) e → d ≡ Started (place_of e k) None → StartLine site s sender c d

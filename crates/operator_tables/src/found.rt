@@ -3,7 +3,7 @@
 
 ghost use Rattle.std.specs.Prelude.{◌≡◌, ◌↔◌, IsTrue, IfSome, IfNone};
 ghost use Rattle.ocpi_types.specs.declared.site.Evse.{Evse};
-ghost use Rattle.site_book.specs.Sites.{IsEvseFor, IsFoundIn, IsFreeEvse, IsWorkingEvse, location_of};
+ghost use Rattle.site_book.specs.Sites.{IsEvseFor, IsFoundIn, IsFirstFree, IsFreeEvse, IsWorkingEvse, location_of};
 
 use ocpi_text::CiText;
 use site_book::{FoundLocation, SiteBook};
@@ -36,7 +36,7 @@ pub fn free_evse(
     requires found { IsFoundIn site.now.site at.now }
     requires evse { (e : Evse) × IsEvseFor (location_of at.now) name.now e × (evse_uid.now ≡ e.uid) }
     requires service { (e : Evse) × IsEvseFor (location_of at.now) name.now e × IsWorkingEvse site.now e }
-    ensures found { IfSome result (λ uid. (e : Evse) × IsEvseFor (location_of at.now) name.now e × IsFreeEvse site.now e × (uid ≡ e.uid)) }
+    ensures found { IfSome result (λ uid. (e : Evse) × IsFirstFree site.now (location_of at.now) name.now e × (uid ≡ e.uid)) }
     ensures none { IfNone result ((e : Evse) → IsEvseFor (location_of at.now) name.now e → IsFreeEvse site.now e → ⊥) }
 {
     match name {
@@ -45,7 +45,10 @@ pub fn free_evse(
             Some(evse.uid)
         }
         Some(_name) => match site.claim_of(evse_uid.key()) {
-            None => Some(*evse_uid),
+            None => {
+                site.evses_differ();
+                Some(*evse_uid)
+            }
             Some(_claim) => None,
         },
     }

@@ -5,7 +5,7 @@ ghost use Rattle.ocpi_text.specs.Text.{key};
 ghost use Rattle.ocpi_types.specs.declared.site.Evse.{Evse as EvseOf};
 ghost use Rattle.site_book.specs.Sites.{IsEvseFor, IsFoundIn, IsNamed, location_of};
 ghost use Rattle.operator_tables.specs.Places.{HasService};
-ghost use Rattle.operator_tables.specs.Reserve.{DecidesThere, IsOwnEvse, IsReservable, IsVoid, ReserveLine};
+ghost use Rattle.operator_tables.specs.Reserve.{DecidesThere, IsOwnEvse, IsReservable, IsTakenUid, IsVoid, ReserveLine};
 
 use crate::decision::Decision;
 use crate::found::{free_evse, serves};
@@ -51,8 +51,8 @@ fn own_evse(
     Some(evse.uid)
 }
 
-/// The uid of an EVSE in service that the command may be about, and that nothing claims but, perhaps, its very
-/// reservation. The uid of one that was found for the command is given.
+/// The uid of the EVSE that the command takes: the one that its very reservation holds, else the first that is free, of
+/// those in service that it may be about. The uid of one that was found for the command is given.
 fn reservable_evse(
     books: &Books,
     at: &FoundLocation<'_>,
@@ -63,7 +63,7 @@ fn reservable_evse(
     requires found { IsFoundIn books.now.state.site at.now }
     requires evse { (e : EvseOf) × IsEvseFor (location_of at.now) command.now.evse_uid e × (evse_uid.now ≡ e.uid) }
     requires service { HasService books.now.state.rows (location_of at.now) command.now.evse_uid }
-    ensures found { IfSome result (λ uid. (e : EvseOf) × IsReservable books.now.state.rows request.now.provider command.now (location_of at.now) e × (uid ≡ e.uid)) }
+    ensures found { IfSome result (IsTakenUid books.now.state.rows request.now.provider command.now (location_of at.now)) }
     ensures none { IfNone result ((e : EvseOf) → IsReservable books.now.state.rows request.now.provider command.now (location_of at.now) e → ⊥) }
 {
     let site = books.site_book();

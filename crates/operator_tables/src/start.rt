@@ -4,7 +4,7 @@ ghost use Rattle.std.specs.Prelude.{◌≡◌, IsTrue, IsSome, IsNone, IfSome, I
 ghost use Rattle.ocpi_text.specs.Text.{key};
 ghost use Rattle.ocpi_types.specs.declared.site.Evse.{Evse};
 ghost use Rattle.ocpi_types.specs.declared.site.Connector.{Connector};
-ghost use Rattle.site_book.specs.Sites.{IsEvseFor, IsFoundIn, IsFreeEvse, IsPlaceOf, IsWorkingEvse, location_of};
+ghost use Rattle.site_book.specs.Sites.{IsEvseFor, IsFoundIn, IsFreeEvse, IsFreePlace, IsPlaceOf, IsWorkingEvse, location_of};
 ghost use Rattle.operator_tables.specs.Start.{IsBarred, IsMismatched, IsPlace, StartLine};
 ghost use Rattle.operator_tables.specs.Held.{HasNoHeld, IsHeld, IsPlaceOn, token_of};
 
@@ -85,8 +85,8 @@ fn find_held_on(
     Some((place, standing.id))
 }
 
-/// As `find_held`, for a command that names no EVSE. The reservations for the token are gone through in their order,
-/// until one holds a place.
+/// As `find_held`, for a command that names no EVSE. The reservations for the token are gone through in the order of
+/// their EVSEs' keys, until one holds a place.
 fn find_any_held(
     books: &Books,
     at: &FoundLocation<'_>,
@@ -110,8 +110,8 @@ fn find_any_held(
 }
 
 /// The place that a reservation of the provider holds for the token of the command, at the location that was found,
-/// and the reservation's id. The EVSE is in service, and the command may be about it. None, where there is no such
-/// reservation. Each reservation for the token that is passed over costs the logarithm of those that stand.
+/// and the reservation's id. The EVSE is in service, and the command may be about it: of several the one with the least
+/// key. None, where there is no such reservation. Each reservation for the token that is passed over costs the logarithm of those that stand.
 fn find_held(
     books: &Books,
     at: &FoundLocation<'_>,
@@ -146,13 +146,16 @@ fn free_place(
     requires named { IsSome command.now.connector_id × IsNone command.now.evse_uid → ⊥ }
     requires place { (e : Evse) × (k : Connector) × IsPlace (location_of at.now) command.now e k × IsPlaceOf e k place.now }
     requires service { (e : Evse) × IsEvseFor (location_of at.now) command.now.evse_uid e × IsWorkingEvse site.now e }
-    ensures found { IfSome result (λ p. (e : Evse) × (k : Connector) × IsPlace (location_of at.now) command.now e k × IsFreeEvse site.now e × IsPlaceOf e k p) }
+    ensures found { IfSome result (λ p. IsFreePlace site.now (location_of at.now) command.now.evse_uid command.now.connector_id p) }
     ensures none { IfNone result ((e : Evse) (k : Connector) → IsPlace (location_of at.now) command.now e k → IsFreeEvse site.now e → ⊥) }
 {
     match &command.evse_uid {
         None => site.free_place(at, &command.evse_uid, &command.connector_id),
         Some(_name) => match site.claim_of(place.evse_uid.key()) {
-            None => Some(*place),
+            None => {
+                site.evses_differ();
+                Some(*place)
+            }
             Some(_claim) => None,
         },
     }

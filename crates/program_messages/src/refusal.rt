@@ -1,7 +1,7 @@
 //! Why a store refused, or a file was not read, in words, and what to do about it.
 
 use node_store::{Cause, StoreFault};
-use ocpi_text::E4;
+use ocpi_text::{E4, Moment};
 use std::alloc::{AllocError, Global};
 use std::io::ErrorKind;
 use stored_rows::BadReason;
@@ -91,8 +91,12 @@ pub(crate) fn words_for_reason(reason: BadReason) -> &'static str {
             "the session has the status RESERVATION, which no session of a node has"
         }
         BadReason::WithoutCost => "the session has no total cost",
+        BadReason::EnergyWhilePending => "the session is PENDING, and has energy",
+        BadReason::OtherCurrency => {
+            "the session has not ended, and is in another currency than the setup's"
+        }
         BadReason::OtherPrice { .. } => {
-            "its cost is not that of its energy at the setup's price"
+            "its cost is not that of its energy at the setup's price when it began"
         }
         BadReason::BilledTwice => "another bill is of the same session",
         BadReason::CreditedTwice => "another credit is of the same session",
@@ -105,17 +109,27 @@ pub(crate) fn words_for_reason(reason: BadReason) -> &'static str {
 /// The same words with the numbers that the reason has. None, where it has none, and where memory runs out.
 pub(crate) fn words_with_numbers(alloc: Global, reason: BadReason) -> Option<String> {
     match reason {
-        BadReason::OtherPrice { kwh, cost, price } => {
-            words_for_price(alloc, kwh, cost, price).ok()
-        }
+        BadReason::OtherPrice {
+            start_date_time,
+            kwh,
+            cost,
+            price,
+        } => words_for_price(alloc, start_date_time, kwh, cost, price).ok(),
         _ => None,
     }
 }
 
-fn words_for_price(alloc: Global, kwh: E4, cost: E4, price: E4) -> Result<String, AllocError> {
+fn words_for_price(
+    alloc: Global,
+    began: Moment,
+    kwh: E4,
+    cost: E4,
+    price: E4,
+) -> Result<String, AllocError> {
     let (kwh, cost, price) = (kwh.write(alloc)?, cost.write(alloc)?, price.write(alloc)?);
+    let began = began.write(alloc)?;
     format!(in alloc;
-        "its cost {cost} for {kwh} kWh is not that of the setup's price {price} a kWh"
+        "it began at {began}, and its cost {cost} for {kwh} kWh is not that of the setup's price then, {price} a kWh"
     )
 }
 
@@ -130,7 +144,12 @@ pub(crate) fn advice_for(reason: BadReason) -> &'static str {
         | BadReason::UnknownEvse
         | BadReason::UnknownConnector
         | BadReason::OtherLocation => "give the setup of the store",
-        BadReason::OtherPrice { .. } => "another price made it; give the setup of the store",
+        BadReason::OtherPrice { .. } => {
+            "another price made it; give the setup of the store, and change a price by an entry of `prices` alone"
+        }
+        BadReason::OtherCurrency => {
+            "give the currency of the store until all its sessions have ended"
+        }
         BadReason::Repeated
         | BadReason::NothingCounted
         | BadReason::NotGiven
@@ -144,6 +163,7 @@ pub(crate) fn advice_for(reason: BadReason) -> &'static str {
         | BadReason::PushedTwice
         | BadReason::ReservationStatus
         | BadReason::WithoutCost
+        | BadReason::EnergyWhilePending
         | BadReason::BilledTwice
         | BadReason::CreditedTwice
         | BadReason::BilledEarly

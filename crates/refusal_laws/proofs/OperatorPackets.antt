@@ -140,7 +140,7 @@ module _ (s : State) (at : ℕ) (sender : List ℕ) (n : ℕ) (are : AreLocation
   start_results c d (start.Barred l e k placed barred is) = inl (unanswered_is d _ is _ refl, λ f. f.reached.allowed barred)
   start_results c d (start.Inoperative l e k may out is) = inr (unanswered_is d _ is _ refl, record { location = l; evse = e; connector = k; reached = may; none = inl out })
   start_results c d (start.Occupied l e k may none is) = inr (unanswered_is d _ is _ refl, record { location = l; evse = e; connector = k; reached = may; none = inr none })
-  start_results c d (start.Held l e k may works x held is) = inl (
+  start_results c d (start.Held l e k may works x held least is) = inl (
     unanswered_is d _ is _ refl,
     λ f.
         let same = same_place c f.location l f.reached.reached.placed may.reached.placed in
@@ -149,7 +149,7 @@ module _ (s : State) (at : ℕ) (sender : List ℕ) (n : ℕ) (are : AreLocation
           | inr occupied ↦ occupied.none_held e k x may.reached.place works held
         ],
   )
-  start_results c d (start.Free l e k may works none free is) = inl (
+  start_results c d (start.Free l e k may works none free first is) = inl (
     unanswered_is d _ is _ refl,
     λ f.
         let same = same_place c f.location l f.reached.reached.placed may.reached.placed in
@@ -192,7 +192,7 @@ module _ (s : State) (at : ℕ) (sender : List ℕ) (n : ℕ) (are : AreLocation
   )
   reserve_results c d (reserve.Inoperative l e may out is) = inr (unanswered_is d _ is _ refl, record { location = l; evse = e; reached = may })
   reserve_results c d (reserve.Occupied l e may works none is) = inr (unanswered_is d _ is _ refl, record { location = l; evse = e; reached = may })
-  reserve_results c d (reserve.Held l e may free is) = inr (unanswered_is d _ is _ refl, record { location = l; evse = e; reached = may })
+  reserve_results c d (reserve.Held l e may free taken is) = inr (unanswered_is d _ is _ refl, record { location = l; evse = e; reached = may })
 
   cancel_results : (c : CancelReservation) (d : Decision) → cancel.CancelLine s.rows sender n c d → Results (IsInTime s.rows.booked.marks (cancel.cancelled_key sender c) n) d
   cancel_results c d (cancel.Stale late is) = inl (unanswered_is d _ is _ refl, λ f. late f)

@@ -8,7 +8,6 @@ use Rattle.answer_laws.proofs.OperatorReasons.{refusals_have_one_reason}
 use Rattle.answer_laws.proofs.OperatorSteps.{operators_have_one_step}
 use Rattle.answer_laws.proofs.ProviderSteps.{providers_have_one_step}
 use Rattle.answer_laws.specs.Nodes.{IsApart}
-use Rattle.answer_laws.specs.Picks.{LeavesOnePick}
 use Rattle.histories.specs.declared.entry.Entry.{Entry}
 use Rattle.history_laws.specs.Replays.{Brings, Does, EntryStep, Idle, WasIdle}
 use Rattle.node_steps.specs.declared.fault.NodeFault.{NodeFault}
@@ -20,7 +19,7 @@ use Rattle.provider_steps.specs.Events as provider_events
 use Rattle.refusal_laws.proofs.Refusing.{refusals_exclude_steps}
 use Rattle.refusal_laws.specs.Refusals.{HasLocations}
 use Rattle.node_replay.specs.Answers.{Declined, HasOneAnswer, PassedOver, Stepped}
-use Rattle.replay_laws.specs.Answers.{IsSettled, NodesHaveOneAnswer}
+use Rattle.replay_laws.specs.Answers.{NodesHaveOneAnswer}
 use Rattle.stored_laws.specs.Nodes.{IsSound}
 use Rattle.world_steps.specs.Network.{Input, OfOperator, OfProvider}
 use Rattle.world_steps.specs.Steps.{AtOperator, AtProvider, NodeEvent, NodeRefuses, NodeStep, changes_of, input_of, packets_of}
@@ -65,34 +64,22 @@ refused_brings (Operates s) (OfProvider x) h = h
 refused_brings (Provides s) (OfOperator x) h = h
 refused_brings (Provides s) (OfProvider x) h = h
 
--- what reaches an operator by an event that leaves it one EVSE at most to take
-leaves_one : (k : NodeEventKind) (s : operator.State) (x : operator_events.Input) → Brings (Operates s) k (OfOperator x) → IsSettled (Operates s) k → LeavesOnePick s x
-leaves_one (event.Submit at to order) s x h settled = absurd h
-leaves_one (event.Token at token) s x h settled = absurd h
-leaves_one (event.Service evse in_service) s x h settled = subst (LeavesOnePick s) (sym h) tt
-leaves_one (event.Charger at report) s x h settled = subst (LeavesOnePick s) (sym h) tt
-leaves_one (event.Credit at session) s x h settled = subst (LeavesOnePick s) (sym h) tt
-leaves_one (event.Deliver at packet) s x h settled = subst (LeavesOnePick s) (sym h) settled
-leaves_one (event.Tick at) s x h settled = subst (LeavesOnePick s) (sym h) tt
-leaves_one event.Restart s x h settled = subst (LeavesOnePick s) (sym h) tt
-leaves_one event.Refused s x h settled = absurd h
-
 -- ---- steps
 
 module _ (k : NodeEventKind) where
   -- what a node does by an event is one thing
-  one_step : (s : NodeState) → IsSound s → IsApart s → IsSettled s k → (m n : NodeState) (x y : NodeEvent) → Brings s k (input_of x) → Brings s k (input_of y) → NodeStep s x m → NodeStep s y n →
+  one_step : (s : NodeState) → IsSound s → IsApart s → (m n : NodeState) (x y : NodeEvent) → Brings s k (input_of x) → Brings s k (input_of y) → NodeStep s x m → NodeStep s y n →
       (x ≡ y) × (m ≡ n)
-  one_step (Operates s) sound apart settled m n (AtOperator x) (AtOperator y) h g step also =
-      let one = operators_have_one_step s m n x y sound apart (operator_gets k s x.input y.input h g) (leaves_one k s y.input g settled) step also in
+  one_step (Operates s) sound apart m n (AtOperator x) (AtOperator y) h g step also =
+      let one = operators_have_one_step s m n x y sound apart (operator_gets k s x.input y.input h g) step also in
       (ap AtOperator one.0, one.1)
-  one_step (Operates s) sound apart settled m n (AtOperator x) (AtProvider y) h g step also = absurd g
-  one_step (Operates s) sound apart settled m n (AtProvider x) y h g step also = absurd h
-  one_step (Provides s) sound apart settled m n (AtProvider x) (AtProvider y) h g step also =
+  one_step (Operates s) sound apart m n (AtOperator x) (AtProvider y) h g step also = absurd g
+  one_step (Operates s) sound apart m n (AtProvider x) y h g step also = absurd h
+  one_step (Provides s) sound apart m n (AtProvider x) (AtProvider y) h g step also =
       let one = providers_have_one_step s m n x y sound apart (provider_gets k s x.input y.input h g) step also in
       (ap AtProvider one.0, one.1)
-  one_step (Provides s) sound apart settled m n (AtProvider x) (AtOperator y) h g step also = absurd g
-  one_step (Provides s) sound apart settled m n (AtOperator x) y h g step also = absurd h
+  one_step (Provides s) sound apart m n (AtProvider x) (AtOperator y) h g step also = absurd g
+  one_step (Provides s) sound apart m n (AtOperator x) y h g step also = absurd h
 
 has_locations : (s : NodeState) → IsApart s → HasLocations s
 has_locations (Operates s) apart = apart.places.locations
@@ -104,7 +91,7 @@ one_truth true false h g = absurd (let bad : false ≡ true = h refl in cc)
 one_truth false true h g = absurd (let bad : false ≡ true = g refl in cc)
 one_truth false false h g = refl
 
-module _ (s : NodeState) (k : NodeEventKind) (sound : IsSound s) (apart : IsApart s) (settled : IsSettled s k) where
+module _ (s : NodeState) (k : NodeEventKind) (sound : IsSound s) (apart : IsApart s) where
   abbrev entry_of : List Packet → Entry
   entry_of packets = record { event = k; packets = packets }
 
@@ -117,7 +104,7 @@ module _ (s : NodeState) (k : NodeEventKind) (sound : IsSound s) (apart : IsApar
   one_lead : (a b : List Packet) (p q : Bool) (t u : NodeState) (x : EntryStep s (entry_of a) t) (y : EntryStep s (entry_of b) u) → (IsTrue p ↔ ChangesRows x) → (IsTrue q ↔ ChangesRows y) →
       (a ≡ b) × (p ≡ q) × (t ≡ u)
   one_lead a b p q t u (Does x did) (Does y also) h g =
-      let one = one_step k s sound apart settled t u x y did.brings also.brings did.step also.step in
+      let one = one_step k s sound apart t u x y did.brings also.brings did.step also.step in
       let tells : IsTrue q ↔ (changes_of x ≢ []) = subst (λ (z : NodeEvent). IsTrue q ↔ (changes_of z ≢ [])) (sym one.0) g in
       (did.sends ∙ ap packets_of one.0 ∙ sym also.sends, one_truth p q (λ i. tells.1 (h.0 i)) (λ i. h.1 (tells.0 i)), one.1)
   one_lead a b p q t u (Does x did) (Idle idle) h g = absurd (brings_none b u idle (input_of x) did.brings)
@@ -148,4 +135,4 @@ module _ (s : NodeState) (k : NodeEventKind) (sound : IsSound s) (apart : IsApar
       ap Declined (refusals_have_one_reason s g.input why other sound apart (subst (λ (i : Input). NodeRefuses s i why) same h.refuses) g.refuses h.other g.other)
 
 pub nodes_have_one_answer : NodesHaveOneAnswer
-nodes_have_one_answer s k sound apart settled = one_answer s k sound apart settled
+nodes_have_one_answer s k sound apart = one_answer s k sound apart

@@ -1,3 +1,4 @@
 pub mod Answering
 pub mod Replaying
+pub mod RunsAlike
 pub mod ReadPlaces

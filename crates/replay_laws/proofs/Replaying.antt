@@ -78,5 +78,5 @@ is_apart setup is_setup (node.Provider party) among places es (Provides s) repla
 is_apart setup is_setup (node.Provider party) among places es (Operates s) replays is = absurd is
 
 pub replays_have_one_answer : ReplaysHaveOneAnswer
-replays_have_one_answer r k is places settled =
-    nodes_have_one_answer r.state k is.starts.sound (is_apart r.setup is.is_setup r.member is.among places r.entries r.state is.replays is.of_member) settled
+replays_have_one_answer r k is places =
+    nodes_have_one_answer r.state k is.starts.sound (is_apart r.setup is.is_setup r.member is.among places r.entries r.state is.replays is.of_member)

@@ -12,6 +12,7 @@ use Rattle.ocpi_text.specs.OwnIds.{own_id_text}
 use Rattle.ocpi_text.specs.declared.own_ids.OwnIdKind.TheVariants as own
 use Rattle.ocpi_types.specs.Credits.{AreAlike, IsBill, IsCredit, credit_id, is_credit}
 use Rattle.ocpi_types.specs.Rows.{key_of}
+use Rattle.ocpi_types.specs.Prices.{price_at}
 use Rattle.ocpi_types.specs.declared.site.SiteLine.{SiteLine}
 use Rattle.ocpi_types.specs.declared.cdrs.Cdr.{Cdr}
 use Rattle.ocpi_types.specs.declared.events.ChargerEvent.{ChargerEvent}
@@ -28,7 +29,7 @@ use Rattle.ocpi_types.specs.declared.sessions.Session.{Session}
 use Rattle.ocpi_types.specs.declared.words.SessionStatus.{SessionStatus}
 use Rattle.ocpi_types.specs.declared.words.SessionStatus.TheVariants.{Completed, Pending}
 use Rattle.session_state.specs.Pasts.{IsFinal, MayFollow}
-use Rattle.session_state.specs.Versions.{HasCost}
+use Rattle.session_state.specs.Versions.{IsPriced}
 use Rattle.node_laws.proofs.Runs.{kept_runs}
 use Rattle.node_steps.specs.Acts.{all_changes}
 use Rattle.node_steps.proofs.Gathering.{changes_append}
@@ -51,7 +52,7 @@ use Rattle.session_laws.proofs.Growing.{no_turn}
 use Rattle.session_laws.proofs.Versions.{of_each, stands, stays}
 
 -- a version that may come next has its cost
-next_cost : (price : ℤ) (o : Option Session) (v : Session) → IsNextOf price o v → HasCost price v
+next_cost : (price : ℕ → ℤ) (o : Option Session) (v : Session) → IsNextOf price o v → IsPriced price v
 next_cost price None v next = next.1
 next_cost price (Some w) v next = next.priced
 
@@ -73,7 +74,7 @@ module _ (s t : State) (e : Event) (fine : IsConsistent s) (d : Does s e t) wher
       session = refl;
       token = refl;
       energy = refl;
-      cost = cost_kept v.total_cost _ (record { excl_vat = pos 0 }) (next_cost s.site.price (get s.rows.charged.sessions (key v.id)) v (d.sessions v i));
+      cost = cost_kept v.total_cost _ (record { excl_vat = pos 0 }) (next_cost (price_at s.site) (get s.rows.charged.sessions (key v.id)) v (d.sessions v i));
     };
     location = l;
     of_evse = c;
@@ -201,11 +202,11 @@ module _ (s t : State) (e : Event) (fine : IsConsistent s) (d : Does s e t) wher
   -- no version is put of a session that ended
   none_after : (id : List ℕ) (v w : Session) → stored s id ≡ Some v → IsFinal v.status → Contains e.changes (Put (row.Session w)) → key w.id ≢ id
   none_after id v w has final i at =
-      let next : IsNextOf s.site.price (stored s id) w = subst (λ k. IsNextOf s.site.price (get s.rows.charged.sessions k) w) at (d.sessions w i) in
-      let follows : MayFollow s.site.price v w = subst (λ o. IsNextOf s.site.price o w) has next in
+      let next : IsNextOf (price_at s.site) (stored s id) w = subst (λ k. IsNextOf (price_at s.site) (get s.rows.charged.sessions k) w) at (d.sessions w i) in
+      let follows : MayFollow (price_at s.site) v w = subst (λ o. IsNextOf (price_at s.site) o w) has next in
       no_turn v.status w.status final follows.turn
 
-  final_kept : (id : List ℕ) (v : Session) → stored s id ≡ Some v → IsFinal v.status → stored t id ≡ Some v
+  pub final_kept : (id : List ℕ) (v : Session) → stored s id ≡ Some v → IsFinal v.status → stored t id ≡ Some v
   final_kept id v has final = stays s t e d id fine (λ w i. none_after id v w has final i) ∙ has
 
   -- a bill of the event, and one from before, are of different sessions
@@ -248,7 +249,7 @@ module _ (s t : State) (e : Event) (fine : IsConsistent s) (d : Does s e t) wher
     | inr bill ↦ bill_id x i bill ∙ sym (bill_id y j (sym alike ∙ bill))
   ]
 
-  billed_stays : AreBilledOnce s → AreBilledOnce t
+  pub billed_stays : AreBilledOnce s → AreBilledOnce t
   billed_stays h = record {
     each = λ id v has complete. elim (session_from id v has) [
       | inl old ↦ (let (x, had, bills) = h.each id v old complete in (x, record_stays (key x.id) x had, bills))

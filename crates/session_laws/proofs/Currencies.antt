@@ -8,6 +8,7 @@ use Rattle.tables.specs.Keys.{text_cmp}
 use Rattle.tables.proofs.Options.{none_some}
 use Rattle.ocpi_text.specs.Text.{key}
 use Rattle.ocpi_types.specs.Credits.{is_credit}
+use Rattle.ocpi_types.specs.Prices.{price_at}
 use Rattle.ocpi_types.specs.declared.cdrs.Cdr.{Cdr}
 use Rattle.ocpi_types.specs.declared.events.ChargerEvent.{ChargerEvent}
 use Rattle.ocpi_types.specs.declared.events.ChargerEvent.TheVariants as event
@@ -54,7 +55,7 @@ module _ (s t : State) (e : Event) (fine : IsConsistent s) (d : Does s e t) (h :
   put_in : (v : Session) → SessionCause s e.input d.acts v → v.currency ≡ t.site.currency
   put_in v (Begun at n b how above within is only) = ap currency_of is ∙ site_is
   put_in v (Moved at report reports m is) =
-      ap currency_of is ∙ makes_keep s.site.price at report m.before m.after m.moves.makes ∙ h.sessions (key m.before.id) m.before m.moves.here.stands ∙ site_is
+      ap currency_of is ∙ makes_keep (price_at s.site m.before.start_date_time) at report m.before m.after m.moves.makes ∙ h.sessions (key m.before.id) m.before m.moves.here.stands ∙ site_is
 
   -- and a record
   record_in : (x : Cdr) → Contains e.changes (Put (row.Cdr x)) → x.currency ≡ t.site.currency

@@ -4,6 +4,7 @@ use Rattle.std.specs.List.{flat_map, last_or}
 use Rattle.std.specs.Str.{bytes_eq}
 use Rattle.std.specs.FinMap.{get}
 use Rattle.ocpi_text.specs.Text.{key}
+use Rattle.ocpi_types.specs.Prices.{price_at}
 use Rattle.ocpi_types.specs.declared.rows.Change.{Change}
 use Rattle.ocpi_types.specs.declared.rows.Change.TheVariants.{Put, Drop}
 use Rattle.ocpi_types.specs.declared.rows.Row.TheVariants as row
@@ -34,14 +35,14 @@ abbrev pub stored : State → List ℕ → Option Session
 stored s id = get s.rows.charged.sessions id
 
 -- from the opening on the past of each session is orderly: it begins PENDING, its statuses follow one another, each
--- version is later than the one before it, its energy never falls, its cost is that of its energy at the site's price,
--- and what a session is of stays. What is stored of a session is its last version
+-- version is later than the one before it, its energy never falls, its cost is that of its energy at the site's price at
+-- its own start, and what a session is of stays. What is stored of a session is its last version
 abbrev pub PastsAreOrderly : Type 0
 PastsAreOrderly = (line : SiteLine) (es : List Event) (t : State) → IsOfParty line → Run (opening line) es t → (id : List ℕ) →
-    IsOrderly line.site.price (past id es) × (stored t id ≡ last_or None (past id es))
+    IsOrderly (price_at line.site) (past id es) × (stored t id ≡ last_or None (past id es))
 
--- versions that may come next, at that price, where that version is stored, or none is
-abbrev pub MayComeNext : ℤ → Option Session → List Session → Type 0
+-- versions that may come next, by the prices of the moments, where that version is stored, or none is
+abbrev pub MayComeNext : (ℕ → ℤ) → Option Session → List Session → Type 0
 MayComeNext price None vs = IsOrderly price vs
 MayComeNext price (Some v) vs = Follow price v vs
 
@@ -49,7 +50,7 @@ MayComeNext price (Some v) vs = Follow price v vs
 -- is stored then
 abbrev pub PastsGoOn : Type 0
 PastsGoOn = (s t : State) (es : List Event) → IsConsistent s → Run s es t → (id : List ℕ) →
-    MayComeNext s.site.price (stored s id) (past id es) × (stored t id ≡ last_or (stored s id) (past id es))
+    MayComeNext (price_at s.site) (stored s id) (past id es) × (stored t id ≡ last_or (stored s id) (past id es))
 
 -- a version that is COMPLETED or INVALID is the last: none is put after it, and it is stored for good
 abbrev pub FinalVersionsAreLast : Type 0

@@ -13,9 +13,9 @@ ghost use Rattle.session_laws.specs.Sent.{SentVersionsArePast};
 ghost use Rattle.session_laws.specs.Pasts.{FinalVersionsAreLast, PastsAreOrderly, PastsGoOn};
 
 /// The past of each session is orderly: it begins PENDING, its statuses follow one another, each version is later than
-/// the one before it, its energy never falls, its cost is that of its energy at the site's price, and what it is of
-/// stays. What is stored of a session is its last version. A first version that is ACTIVE, two versions of one moment,
-/// or a reading below the last would break this.
+/// the one before it, its energy never falls, its cost is that of its energy at the site's price at its start, and what
+/// it is of stays. What is stored of a session is its last version. A first version that is ACTIVE, two versions of one
+/// moment, or a reading below the last would break this.
 pub fn pasts_are_orderly()
     ensures { PastsAreOrderly }
 {}

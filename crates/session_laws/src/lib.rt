@@ -14,7 +14,7 @@
 //!
 //! - The versions that events put of a session are orderly. The first is PENDING, statuses follow one another, each is
 //!   later than the one before, and energy never falls. By `pasts_are_orderly`.
-//! - Cost is that of the energy at the site's price, what a session is of stays, and what is stored is the last
+//! - Cost is that of the energy at the site's price at the start, what a session is of stays, and what is stored is the last
 //!   version. By `pasts_are_orderly`.
 //! - The same from any state to a later one. By `pasts_go_on`.
 //! - Nothing follows a COMPLETED or INVALID version. By `final_versions_are_last`.

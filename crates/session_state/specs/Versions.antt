@@ -7,7 +7,7 @@ use Rattle.ocpi_types.specs.declared.words.SessionStatus.TheVariants.{Active, Co
 use Rattle.ocpi_types.specs.declared.sessions.Opening.{Opening}
 use Rattle.session_state.specs.Costs.{price_of, most_kwh}
 
--- a session: its newest version, and what a kilowatt-hour costs
+-- a session: its newest version, and what a kilowatt-hour costs at the moment at which it began
 pub record Priced : Type 0 where
   pub version : Session
   pub price : ℤ
@@ -16,10 +16,19 @@ pub record Priced : Type 0 where
 abbrev pub HasCost : ℤ → Session → Type 0
 HasCost price v = v.total_cost ≡ Some (price_of v.kwh price)
 
--- the version has that status, and its cost is that of the price
+-- the total cost is that of the energy at the price of the moment at which the session began
+abbrev pub IsPriced : (ℕ → ℤ) → Session → Type 0
+IsPriced price v = HasCost (price v.start_date_time) v
+
+-- nothing was charged before the charging began
+abbrev pub IsUncharged : Session → Type 0
+IsUncharged v = v.status ≡ Pending → v.kwh ≡ pos 0
+
+-- the version has that status, its cost is that of the price, and nothing was charged before the charging began
 pub record IsIn (status : SessionStatus) (price : ℤ) (v : Session) : Type 0 where
   pub state : v.status ≡ status
   pub priced : HasCost price v
+  pub uncharged : IsUncharged v
 
 -- a session's first version
 abbrev pub first_version : Opening → ℕ → Session

@@ -2,8 +2,8 @@
 //! give (OCPI 2.2.1, CDRs).
 //!
 //! ```
-//! let pending = start(opening, at);
-//! let active = pending.activate(at)?;
+//! let pending = start(opening, at, price);
+//! let active = pending.activate(at, price)?;
 //! let active = active.meter(later, kwh)?;
 //! let (completed, draft) = active.complete(end)?;
 //! let cdr = draft.issue(alloc, id, location)?;
@@ -45,6 +45,6 @@ pub use credits::{credit_id, credit_of};
 pub use drafts::CdrDraft;
 pub use fault::{Refused, SessionFault};
 pub use laws::{costs_are_rounded_down, pasts_are_orderly};
-pub use resuming::{Resumed, resume};
+pub use resuming::{Resumed, is_uncharged, resume};
 pub use sessions::{Session, start};
 pub use states::{Active, Completed, Invalid, Pending, State};

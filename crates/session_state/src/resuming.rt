@@ -2,7 +2,7 @@
 
 ghost use Rattle.std.specs.Prelude.{◌≡◌, IfOk, IfErr, MatchBool};
 ghost use Rattle.session_state.specs.Resuming.{IsResumed, CannotResume};
-ghost use Rattle.session_state.specs.Versions.{HasCost};
+ghost use Rattle.session_state.specs.Versions.{HasCost, IsUncharged};
 
 use crate::costs::cost_of;
 use crate::sessions::{Session, session_in};
@@ -19,12 +19,12 @@ pub enum Resumed {
 }
 
 /// The session whose newest version that is, at that price. Handed back is a version that is a reservation's, or whose
-/// `total_cost` is not that of its energy at the price, rounded down.
+/// `total_cost` is not that of its energy at the price, rounded down, or that is PENDING and has energy.
 pub fn resume(version: Version, price: PricePerKwh) -> Result<Resumed, Version>
     ensures resumed { IfOk result (λ r. IsResumed price version r) }
     ensures refused { IfErr result (λ v. (v ≡ version) × CannotResume price version) }
 {
-    if !has_cost(&version, price) {
+    if !has_cost(&version, price) || !is_uncharged(&version) {
         return Err(version);
     }
     Ok(match version.status {
@@ -34,6 +34,16 @@ pub fn resume(version: Version, price: PricePerKwh) -> Result<Resumed, Version>
         SessionStatus::Invalid => Resumed::Invalid(session_in(Invalid, version, price)),
         SessionStatus::Reservation => return Err(version),
     })
+}
+
+/// Whether the version has no energy where its charging has not begun.
+pub fn is_uncharged(version: &Version) -> bool
+    ensures { MatchBool result (IsUncharged version.now) (¬ IsUncharged version.now) }
+{
+    match version.status {
+        SessionStatus::Pending => version.kwh.value().units() == 0,
+        _ => true,
+    }
 }
 
 /// Whether the total cost is that of the energy at the price.

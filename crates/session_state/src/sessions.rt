@@ -6,6 +6,7 @@ ghost use Rattle.ocpi_types.specs.Stamps.{next_stamp};
 ghost use Rattle.session_state.specs.Versions.{
   Priced,
   HasCost,
+  IsUncharged,
   IsIn,
   CanRead,
   first_version,
@@ -26,8 +27,9 @@ use ocpi_text::{E4, Moment, Quantity};
 use ocpi_types::{Opening, Price, PricePerKwh, Session as Version, SessionStatus, next_stamp};
 use std::marker::Model;
 
-/// A session in the state `S`: its newest version, and what a kilowatt-hour costs. The version has the status of the
-/// state, and its `total_cost` is that of its energy at the price, rounded down.
+/// A session in the state `S`: its newest version, and what a kilowatt-hour costs at the moment at which it began. The
+/// version has the status of the state, and its `total_cost` is that of its energy at the price, rounded down. A
+/// PENDING one has no energy.
 #[derive(Drop)]
 pub struct Session<S: State> {
     version: Version,
@@ -52,9 +54,10 @@ fn later_of(a: Moment, b: Moment) -> Moment
     if a.millis() < b.millis() { b } else { a }
 }
 
-/// A session begins: its first version is PENDING, has used no energy, and starts and was updated at that moment.
-pub fn start(opening: Opening, at: Moment) -> Session<Pending>
-    ensures { result ≡ record { version = first_version opening at; price = opening.price } }
+/// A session begins: its first version is PENDING, has used no energy, and starts and was updated at that moment, whose
+/// price is given.
+pub fn start(opening: Opening, at: Moment, price: PricePerKwh) -> Session<Pending>
+    ensures { result ≡ record { version = first_version opening at; price = price } }
 {
     let nothing = no_energy();
     let excl_vat = nothing.value();
@@ -75,7 +78,7 @@ pub fn start(opening: Opening, at: Moment) -> Session<Pending>
         status: SessionStatus::Pending,
         last_updated: at,
     };
-    session_in(Pending, version, opening.price)
+    session_in(Pending, version, price)
 }
 
 /// The session of a version that is in that state.
@@ -102,6 +105,7 @@ impl<S: State> Session<S> {
         ensures value { result.now ≡ self.now.version }
         ensures state { result.now.status ≡ S.status }
         ensures priced { HasCost self.now.price result.now }
+        ensures uncharged { IsUncharged result.now }
     {
         &self.version
     }
@@ -135,11 +139,16 @@ impl<S: State> Session<S> {
 }
 
 impl Session<Pending> {
-    /// The charging begins: the session is ACTIVE, and starts at that moment. Refused (`StampEnd`) exactly where the
-    /// newest version was updated at the last moment; the session is then handed back.
-    pub fn activate(self, at: Moment) -> Result<Session<Active>, Refused<Session<Pending>>>
-        ensures moved { IfOk result (λ s. s ≡ record { version = activated at self.version; price = self.price }) }
-        ensures follows { IfOk result (λ s. MayFollow self.price self.version s.version) }
+    /// The charging begins: the session is ACTIVE, and starts at that moment, whose price is given and counts from then
+    /// on. Refused (`StampEnd`) exactly where the newest version was updated at the last moment; the session is then
+    /// handed back.
+    pub fn activate(
+        self,
+        at: Moment,
+        price: PricePerKwh,
+    ) -> Result<Session<Active>, Refused<Session<Pending>>>
+        ensures moved { IfOk result (λ s. s ≡ record { version = activated at self.version; price = price }) }
+        ensures follows { IfOk result (λ s. MayFollow (λ _. price) self.version s.version) }
         ensures refused { IfErr result (λ r. r ≡ record { fault = StampEnd; value = self }) }
         ensures exact { IsErr result ↔ (self.version.last_updated ≡ last_moment) }
     {
@@ -152,7 +161,7 @@ impl Session<Pending> {
             last_updated,
             ..self.version
         };
-        Ok(session_in(Active, version, self.price))
+        Ok(session_in(Active, version, price))
     }
 
     /// The session ends before it is charged: it is INVALID, and ends at that moment, though not before its start.
@@ -160,7 +169,7 @@ impl Session<Pending> {
     /// back.
     pub fn void(self, at: Moment) -> Result<Session<Invalid>, Refused<Session<Pending>>>
         ensures moved { IfOk result (λ s. s ≡ record { version = voided at self.version; price = self.price }) }
-        ensures follows { IfOk result (λ s. MayFollow self.price self.version s.version) }
+        ensures follows { IfOk result (λ s. MayFollow (λ _. self.price) self.version s.version) }
         ensures refused { IfErr result (λ r. r ≡ record { fault = StampEnd; value = self }) }
         ensures exact { IsErr result ↔ (self.version.last_updated ≡ last_moment) }
     {
@@ -197,7 +206,7 @@ impl Session<Active> {
     ) -> Result<Session<Active>, Refused<Session<Active>>>
         requires { CanRead self.version kwh }
         ensures moved { IfOk result (λ s. s ≡ record { version = metered at kwh self.price self.version; price = self.price }) }
-        ensures follows { IfOk result (λ s. MayFollow self.price self.version s.version) }
+        ensures follows { IfOk result (λ s. MayFollow (λ _. self.price) self.version s.version) }
         ensures refused { IfErr result (λ r. r ≡ record { fault = StampEnd; value = self }) }
         ensures exact { IsErr result ↔ (self.version.last_updated ≡ last_moment) }
     {
@@ -222,7 +231,7 @@ impl Session<Active> {
     ) -> Result<(Session<Completed>, CdrDraft), Refused<Session<Active>>>
         ensures moved { IfOk result (λ (s, d). s ≡ record { version = completed at self.version; price = self.price }) }
         ensures drafted { IfOk result (λ (s, d). d ≡ s.version) }
-        ensures follows { IfOk result (λ (s, d). MayFollow self.price self.version s.version) }
+        ensures follows { IfOk result (λ (s, d). MayFollow (λ _. self.price) self.version s.version) }
         ensures refused { IfErr result (λ r. r ≡ record { fault = StampEnd; value = self }) }
         ensures exact { IsErr result ↔ (self.version.last_updated ≡ last_moment) }
     {

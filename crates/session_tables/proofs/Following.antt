@@ -2,13 +2,16 @@
 use Rattle.std.proofs.Common.{◌≡◌, ℕ, ℤ, refl, sym, subst, ◌∙◌, inl, inr, arith}
 use Rattle.std.proofs.lemmas.Int.{ints}
 use Rattle.std.specs.Prelude.{Option}
+use Rattle.ocpi_types.specs.Prices.{price_at}
 use Rattle.ocpi_types.specs.declared.events.ChargerEvent.{ChargerEvent}
 use Rattle.ocpi_types.specs.declared.events.ChargerEvent.TheVariants as event
 use Rattle.ocpi_types.specs.declared.sessions.Price.{Price}
 use Rattle.ocpi_types.specs.declared.sessions.Session.{Session}
+use Rattle.ocpi_types.specs.declared.site.Site.{Site}
 use Rattle.ocpi_types.specs.declared.words.SessionStatus.{SessionStatus}
 use Rattle.ocpi_types.specs.declared.words.SessionStatus.TheVariants.{Active, Completed, Invalid, Pending}
-use Rattle.session_state.specs.Versions.{HasCost, ended}
+use Rattle.session_state.proofs.PastLemmas.{costs_nothing}
+use Rattle.session_state.specs.Versions.{IsPriced, IsUncharged, ended}
 use Rattle.session_state.specs.Pasts.{IsSame, IsTurn, MayFollow}
 use Rattle.session_tables.specs.Laws.{BeginningsAreOfSite, MovesAreOne, MovesMayFollow}
 use Rattle.session_tables.specs.Moves.{Ends, Makes}
@@ -28,44 +31,43 @@ same_kept v start end kwh total status stamp = record {
   currency = refl;
 }
 
--- the end of a session may follow it
-ends_follow : (price : ℤ) (at : ℕ) (v w : Session) (status : SessionStatus) → HasCost price v → IsTurn v.status status → w ≡ ended status at v → MayFollow price v w
-ends_follow price at v w status cost turn is =
-    let P : Session → Type 0 = λ x. MayFollow price v x in
-    subst P (sym is) (record { later = omega arith; no_less = omega (arith, ints); turn = turn; same = same_kept v _ _ _ _ _ _; priced = cost })
+module _ (site : Site) (at : ℕ) (v w : Session) (cost : IsPriced (price_at site) v) where
+  abbrev Follows : Session → Type 0
+  Follows x = MayFollow (price_at site) v x
 
-ending_follows : (price : ℤ) (at : ℕ) (v w : Session) → HasCost price v → Ends at v w → MayFollow price v w
-ending_follows price at v w cost (inl (s, is)) = ends_follow price at v w Completed cost (let T : SessionStatus → Type 0 = λ x. IsTurn x Completed in subst T (sym s) tt) is
-ending_follows price at v w cost (inr (s, is)) = ends_follow price at v w Invalid cost (let T : SessionStatus → Type 0 = λ x. IsTurn x Invalid in subst T (sym s) tt) is
+  -- the end of a session may follow it
+  ends_follow : (status : SessionStatus) → IsTurn v.status status → w ≡ ended status at v → Follows w
+  ends_follow status turn is =
+      subst Follows (sym is) (record { later = omega arith; no_less = omega (arith, ints); turn = turn; same = same_kept v _ _ _ _ _ _; priced = cost })
 
-makes_follow : (price : ℤ) (at : ℕ) (report : ChargerEvent) (v w : Session) → Makes price at report v w → HasCost price v → MayFollow price v w
-makes_follow price at (event.Starts e) v w (s, is) cost =
-    let P : Session → Type 0 = λ x. MayFollow price v x in
-    subst P (sym is) (record {
-      later = omega arith;
-      no_less = omega (arith, ints);
-      turn = let T : SessionStatus → Type 0 = λ x. IsTurn x Active in subst T (sym s) tt;
-      same = same_kept v _ _ _ _ _ _;
-      priced = cost;
-    })
-makes_follow price at (event.Meter e kwh) v w (s, can, is) cost =
-    let P : Session → Type 0 = λ x. MayFollow price v x in
-    subst P (sym is) (record {
-      later = omega arith;
-      no_less = can.no_less;
-      turn = let T : SessionStatus → Type 0 = λ x. IsTurn x x in subst T (sym s) tt;
-      same = same_kept v _ _ _ _ _ _;
-      priced = refl;
-    })
-makes_follow price at (event.Stops e) v w ends cost = ending_follows price at v w cost ends
-makes_follow price at (event.Fault e) v w ends cost = ending_follows price at v w cost ends
-makes_follow price at (event.Accepts p n) v w none cost = absurd none
-makes_follow price at (event.Refuses p n) v w none cost = absurd none
-makes_follow price at (event.Unlocked p n) v w none cost = absurd none
-makes_follow price at (event.Swipe e k u t) v w none cost = absurd none
+  ending_follows : Ends at v w → Follows w
+  ending_follows (inl (s, is)) = ends_follow Completed (let T : SessionStatus → Type 0 = λ x. IsTurn x Completed in subst T (sym s) tt) is
+  ending_follows (inr (s, is)) = ends_follow Invalid (let T : SessionStatus → Type 0 = λ x. IsTurn x Invalid in subst T (sym s) tt) is
+
+  makes_follow : (report : ChargerEvent) → IsUncharged v → Makes (price_at site v.start_date_time) at report v w → Follows w
+  makes_follow (event.Starts e) uncharged (s, is) = subst Follows (sym is) (record {
+    later = omega arith;
+    no_less = omega (arith, ints);
+    turn = let T : SessionStatus → Type 0 = λ x. IsTurn x Active in subst T (sym s) tt;
+    same = same_kept v _ _ _ _ _ _;
+    priced = costs_nothing (price_at site v.start_date_time) (price_at site at) v (uncharged s) cost;
+  })
+  makes_follow (event.Meter e kwh) uncharged (s, can, is) = subst Follows (sym is) (record {
+    later = omega arith;
+    no_less = can.no_less;
+    turn = let T : SessionStatus → Type 0 = λ x. IsTurn x x in subst T (sym s) tt;
+    same = same_kept v _ _ _ _ _ _;
+    priced = refl;
+  })
+  makes_follow (event.Stops e) uncharged ends = ending_follows ends
+  makes_follow (event.Fault e) uncharged ends = ending_follows ends
+  makes_follow (event.Accepts p n) uncharged none = absurd none
+  makes_follow (event.Refuses p n) uncharged none = absurd none
+  makes_follow (event.Unlocked p n) uncharged none = absurd none
+  makes_follow (event.Swipe e k u t) uncharged none = absurd none
 
 pub may_follow : MovesMayFollow
-may_follow site s at report v w moves cost later = makes_follow site.price at report v w moves.makes cost
+may_follow site s at report v w moves cost uncharged later = makes_follow site at v w cost report uncharged moves.makes
 
 one_end : (at : ℕ) (v w x : Session) → Ends at v w → Ends at v x → w ≡ x
 one_end at v w x (inl (s, is)) (inl (_, other)) = is ∙ sym other
@@ -84,7 +86,7 @@ one_made price at (event.Unlocked p n) v w x a b = absurd a
 one_made price at (event.Swipe e k u t) v w x a b = absurd a
 
 pub are_one : MovesAreOne
-are_one site s at report v w x a b = one_made site.price at report v w x a.makes b.makes
+are_one site s at report v w x a b = one_made (price_at site v.start_date_time) at report v w x a.makes b.makes
 
 pub are_of_site : BeginningsAreOfSite
 are_of_site = record {

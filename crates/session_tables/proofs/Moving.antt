@@ -3,6 +3,7 @@ use Rattle.std.proofs.Common.{◌≡◌, ℕ, ℤ, List, refl, sym, ap, subst, �
 use Rattle.std.specs.Prelude.{Some}
 use Rattle.std.proofs.lemmas.Option.{same_Some}
 use Rattle.ocpi_text.specs.Text.{key}
+use Rattle.ocpi_types.specs.Prices.{price_at}
 use Rattle.ocpi_types.specs.declared.events.ChargerEvent.{ChargerEvent}
 use Rattle.ocpi_types.specs.declared.sessions.Session.{Session}
 use Rattle.ocpi_types.specs.declared.site.Site.{Site}
@@ -21,29 +22,6 @@ use Rattle.session_tables.specs.Moved as lines
 use Rattle.session_tables.specs.Moved.{Comes, IsMoved}
 use Rattle.session_tables.specs.Moves.{IsSessionAt, Makes, Moves, charging_at}
 
--- a session that has not ended has its cost
-pub cost_at : (s : State) → IsSound s → (evse : List ℕ) (v : Session) → IsSessionAt s.rows evse v → HasCost s.site.price v
-cost_at s sound evse v at = ((sound.sessions (key v.id) v at.stands).going at.live).priced
-
--- so it can go on
-pub can_resume : (price : ℤ) (v : Session) → IsLive v.status → HasCost price v → CannotResume price v → ⊥
-can_resume price v live cost (inl is) = subst IsLive is live
-can_resume price v live cost (inr unpriced) = unpriced cost
-
--- as what it is
-pub goes_on : (price : ℤ) (v : Session) (x : Resumed) → IsLive v.status → IsResumed price v x → IsGoing price v x
-goes_on price v x live is = go v.status refl live is.state
-  where
-    p : Priced
-    p = record { version = v; price = price }
-
-    go : (t : SessionStatus) → v.status ≡ t → IsLive t → in_state t p ≡ Some x → IsGoing price v x
-    go status.Pending e live h = subst (IsGoing price v) (same_Some (resumed.Pending p) x h) (e, refl)
-    go status.Active e live h = subst (IsGoing price v) (same_Some (resumed.Active p) x h) (e, refl)
-    go status.Completed e live h = absurd live
-    go status.Invalid e live h = absurd live
-    go status.Reservation e live h = absurd live
-
 module _ (site : Site) (s : Rows) (at : ℕ) (report : ChargerEvent) (evse : List ℕ) (about : charging_at report ≡ Some evse) where
   here_of : (v w : Session) → Moves site s at report v w → IsSessionAt s evse v
   here_of v w moves = subst (λ k. IsSessionAt s k v) (same_Some _ _ (sym moves.about ∙ about)) moves.here
@@ -53,24 +31,24 @@ module _ (site : Site) (s : Rows) (at : ℕ) (report : ChargerEvent) (evse : Lis
   nobody none = lines.Still (λ v w moves. none v (here_of v w moves)) refl
 
   -- nor where nothing is made of the one that is
-  pub still : (v : Session) → ((w : Session) → IsSessionAt s evse w → w ≡ v) → ((w : Session) → Makes site.price at report v w → ⊥) → IsMoved site s at report Nothing
-  still v only none = lines.Still (λ u w moves. none w (subst (λ x. Makes site.price at report x w) (only u (here_of u w moves)) moves.makes)) refl
+  pub still : (v : Session) → ((w : Session) → IsSessionAt s evse w → w ≡ v) → ((w : Session) → Makes (price_at site v.start_date_time) at report v w → ⊥) → IsMoved site s at report Nothing
+  still v only none = lines.Still (λ u w moves. none w (subst (λ x. Makes (price_at site x.start_date_time) at report x w) (only u (here_of u w moves)) moves.makes)) refl
 
   -- and else it moves
-  pub goes : (v w : Session) → IsSessionAt s evse v → Makes site.price at report v w → (m : Moved) → Comes v w m → IsMoved site s at report m
+  pub goes : (v w : Session) → IsSessionAt s evse v → Makes (price_at site v.start_date_time) at report v w → (m : Moved) → Comes v w m → IsMoved site s at report m
   goes v w here makes m comes = lines.Goes v w (record { evse = evse; about = about; here = here; makes = makes }) comes
 
   -- it moves, where it is PENDING
-  pub goes_pending : (x : Priced) → IsGoingAt s site.price evse (resumed.Pending x) → (w : Session) → (x.version.status ≡ status.Pending → Makes site.price at report x.version w) →
+  pub goes_pending : (x : Priced) → IsGoingAt s site evse (resumed.Pending x) → (w : Session) → (x.version.status ≡ status.Pending → Makes (price_at site x.version.start_date_time) at report x.version w) →
       (m : Moved) → Comes x.version w m → IsMoved site s at report m
   goes_pending x g w makes m comes =
       let same : x.version ≡ g.session = ap (λ (p : Priced). p.version) g.going.1 in
       goes x.version w (subst (IsSessionAt s evse) (sym same) g.here) (makes (ap (λ (v : Session). v.status) same ∙ g.going.0)) m comes
 
   -- and where it is ACTIVE
-  pub goes_active : (x : Priced) → IsGoingAt s site.price evse (resumed.Active x) → (w : Session) → (x.version.status ≡ status.Active → x.price ≡ site.price → Makes site.price at report x.version w) →
+  pub goes_active : (x : Priced) → IsGoingAt s site evse (resumed.Active x) → (w : Session) → (x.version.status ≡ status.Active → x.price ≡ price_at site x.version.start_date_time → Makes (price_at site x.version.start_date_time) at report x.version w) →
       (m : Moved) → Comes x.version w m → IsMoved site s at report m
   goes_active x g w makes m comes =
       let same : x.version ≡ g.session = ap (λ (p : Priced). p.version) g.going.1 in
-      let priced : x.price ≡ site.price = ap (λ (p : Priced). p.price) g.going.1 in
+      let priced : x.price ≡ price_at site x.version.start_date_time = ap (λ (p : Priced). p.price) g.going.1 ∙ ap (λ (v : Session). price_at site v.start_date_time) (sym same) in
       goes x.version w (subst (IsSessionAt s evse) (sym same) g.here) (makes (ap (λ (v : Session). v.status) same ∙ g.going.0) priced) m comes

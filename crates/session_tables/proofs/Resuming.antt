@@ -5,7 +5,7 @@ use Rattle.ocpi_types.specs.declared.words.SessionStatus.{SessionStatus}
 use Rattle.ocpi_types.specs.declared.words.SessionStatus.TheVariants as status
 use Rattle.session_state.specs.declared.resuming.Resumed.{Resumed}
 use Rattle.session_state.specs.Resuming.{CannotResume, IsResumed, in_state}
-use Rattle.session_state.specs.Versions.{HasCost}
+use Rattle.session_state.specs.Versions.{HasCost, IsUncharged}
 use Rattle.operator_rows.specs.State.{IsLive}
 use Rattle.session_tables.specs.Going.{IsGoing}
 use Rattle.tables.proofs.Options.{some_same}
@@ -21,7 +21,8 @@ module _ (price : ℤ) (v : Session) where
   pub goes_on : (x : Resumed) → IsLive v.status → IsResumed price v x → IsGoing price v x
   goes_on x live resumed = going_in v.status refl live x resumed.state
 
-  -- what has not ended and has its cost can be made again
-  pub can_go_on : CannotResume price v → IsLive v.status → HasCost price v → ⊥
-  can_go_on (inl reserved) live cost = subst IsLive reserved live
-  can_go_on (inr other) live cost = other cost
+  -- what has not ended, has its cost and was charged only since its charging began can be made again
+  pub can_go_on : CannotResume price v → IsLive v.status → HasCost price v → IsUncharged v → ⊥
+  can_go_on (inl reserved) live cost uncharged = subst IsLive reserved live
+  can_go_on (inr (inl other)) live cost uncharged = other cost
+  can_go_on (inr (inr charged)) live cost uncharged = charged uncharged

@@ -40,5 +40,4 @@ opening_of party site n b = record {
   evse_uid = b.place.evse_uid;
   connector_id = b.place.connector_id;
   currency = site.currency;
-  price = site.price;
 }

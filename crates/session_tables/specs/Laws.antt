@@ -2,13 +2,14 @@
 use Rattle.std.specs.Prelude.{◌≡◌, ◌<◌, ℕ}
 use Rattle.ocpi_text.specs.Moment.{last_moment}
 use Rattle.ocpi_text.specs.Text.{key}
+use Rattle.ocpi_types.specs.Prices.{price_at}
 use Rattle.ocpi_types.specs.declared.events.ChargerEvent.{ChargerEvent}
 use Rattle.ocpi_types.specs.declared.sessions.Session.{Session}
 use Rattle.ocpi_types.specs.declared.site.Site.{Site}
 use Rattle.ocpi_types.specs.declared.stored.OpenCommand.{OpenCommand}
 use Rattle.ocpi_types.specs.declared.authorizations.Authorization.{Authorization}
 use Rattle.authorization_book.specs.declared.awaited.Awaited.{Awaited}
-use Rattle.session_state.specs.Versions.{HasCost}
+use Rattle.session_state.specs.Versions.{IsPriced, IsUncharged}
 use Rattle.session_state.specs.Pasts.{MayFollow}
 use Rattle.site_book.specs.Sites.{IsConnectorOf}
 use Rattle.operator_rows.specs.State.{Rows}
@@ -21,7 +22,7 @@ use Rattle.session_tables.specs.Places.{MayTakeAt}
 -- what a report makes of a version that has its cost, and was not updated at the last moment, may follow it
 abbrev pub MovesMayFollow : Type 0
 MovesMayFollow = (site : Site) (s : Rows) (at : ℕ) (report : ChargerEvent) (v w : Session) →
-    Moves site s at report v w → HasCost site.price v → v.last_updated < last_moment → MayFollow site.price v w
+    Moves site s at report v w → IsPriced (price_at site) v → IsUncharged v → v.last_updated < last_moment → MayFollow (price_at site) v w
 
 -- a report makes one version of a version
 abbrev pub MovesAreOne : Type 0

@@ -2,6 +2,7 @@
 use Rattle.std.specs.Prelude.{◌≡◌, ◌⊎◌, ℕ, ℤ, List, Option, Some, None}
 use Rattle.std.specs.FinMap.{get}
 use Rattle.ocpi_text.specs.Text.{key}
+use Rattle.ocpi_types.specs.Prices.{price_at}
 use Rattle.ocpi_types.specs.declared.events.ChargerEvent.{ChargerEvent}
 use Rattle.ocpi_types.specs.declared.events.ChargerEvent.TheVariants as event
 use Rattle.ocpi_types.specs.declared.sessions.Session.{Session}
@@ -43,12 +44,12 @@ Makes price at (event.Refuses provider number) v w = ⊥
 Makes price at (event.Unlocked provider number) v w = ⊥
 Makes price at (event.Swipe evse_uid connector_id token_uid token_type) v w = ⊥
 
--- the report is about the session at an EVSE, and makes w of its version v
+-- the report is about the session at an EVSE, and makes w of its version v, at the price of the moment at which it began
 pub record Moves (site : Site) (s : Rows) (at : ℕ) (report : ChargerEvent) (v w : Session) : Type 0 where
   pub evse : List ℕ
   pub about : charging_at report ≡ Some evse
   pub here : IsSessionAt s evse v
-  pub makes : Makes site.price at report v w
+  pub makes : Makes (price_at site v.start_date_time) at report v w
 
 -- the report makes nothing of any session
 abbrev pub MovesNone : Site → Rows → ℕ → ChargerEvent → Type 0

@@ -68,7 +68,7 @@ fn short_currency(currency: &FreeText<3>) -> ShortText<3, 12>
 }
 
 /// What stays the same of the session of that number of an operator, from its first version to its last: its id is
-/// made of the number, and its currency and price are the site's.
+/// made of the number, and its currency is the site's.
 pub fn opening(party: Party, site: &Site, number: Whole, beginning: &Beginning) -> Opening
     ensures { result ≡ opening_of party site.now number beginning.now }
 {
@@ -82,6 +82,5 @@ pub fn opening(party: Party, site: &Site, number: Whole, beginning: &Beginning) 
         evse_uid: beginning.place.evse_uid,
         connector_id: beginning.place.connector_id,
         currency: short_currency(&site.currency),
-        price: site.price,
     }
 }

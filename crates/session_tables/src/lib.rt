@@ -7,7 +7,7 @@
 //!     Shown::Begins(beginning) => {
 //!         let number = books.charged().last_session().next()?;
 //!         let opening = opening(books.party(), books.site_book().site(), number, &beginning);
-//!         let session = start(opening, at);
+//!         let session = start(opening, at, site.price_at(at));
 //!     }
 //!     Shown::Asks { token, location_id, place } => ask(&token, location_id, &place)?,
 //! }

@@ -10,7 +10,7 @@ ghost use Rattle.session_tables.specs.Going.{IsGoingAt};
 
 use crate::outcome::Moved;
 use ocpi_text::{CiKey, CiText, Moment, Quantity};
-use ocpi_types::{ChargerEvent, Session as Version};
+use ocpi_types::{ChargerEvent, PricePerKwh, Session as Version};
 use operator_rows::Books;
 use session_state::{Active, Pending, Resumed, Session, resume};
 use site_book::Claim;
@@ -29,26 +29,26 @@ pub fn session_at(books: &Books, evse: CiKey<36>) -> Option<&Version>
     }
 }
 
-/// The session at the EVSE of a key, which goes on at the site's price.
+/// The session at the EVSE of a key, which goes on at the price of the moment at which it began.
 fn going_at(books: &Books, evse: CiKey<36>) -> Option<Resumed>
-    ensures found { IfSome result (λ x. IsGoingAt books.now.state.rows books.now.state.site.price evse x) }
+    ensures found { IfSome result (λ x. IsGoingAt books.now.state.rows books.now.state.site evse x) }
     ensures none { IfNone result ((v : SessionOf) → IsSessionAt books.now.state.rows evse v → ⊥) }
 {
     books.consistency();
     let version = session_at(books, evse)?;
-    let price = books.site_book().site().price;
+    let price = books.site_book().site().price_at(version.start_date_time);
     match resume(*version, price) {
         Ok(session) => Some(session),
         Err(_version) => unreachable!(),
     }
 }
 
-/// The charging begins.
-fn begun(session: Session<Pending>, at: Moment) -> Moved
+/// The charging begins, at the price of that moment.
+fn begun(session: Session<Pending>, at: Moment, price: PricePerKwh) -> Moved
     ensures { Comes session.version (activated at session.version) result }
 {
     let _stamp = session.version().last_updated.millis();
-    match session.activate(at) {
+    match session.activate(at, price) {
         Ok(moved) => Moved::To {
             version: *moved.version(),
         },
@@ -102,7 +102,9 @@ fn starts(books: &Books, at: Moment, evse_uid: &CiText<36>) -> Moved
     ensures { IsMoved books.now.state.site books.now.state.rows at (event.Starts evse_uid.now) result }
 {
     match going_at(books, evse_uid.key()) {
-        Some(Resumed::Pending(session)) => begun(session, at),
+        Some(Resumed::Pending(session)) => {
+            begun(session, at, books.site_book().site().price_at(at))
+        }
         Some(Resumed::Active(_) | Resumed::Completed(_) | Resumed::Invalid(_)) | None => {
             Moved::Nothing
         }
@@ -139,9 +141,9 @@ fn ends(books: &Books, at: Moment, evse_uid: &CiText<36>) -> Moved
     }
 }
 
-/// What a report makes of the session at the EVSE that it is about: its next version, at the site's price. A reading
-/// that is below the last, or out of its range, makes nothing. It costs the logarithm of what is stored, and takes no
-/// memory.
+/// What a report makes of the session at the EVSE that it is about: its next version, at the price of the moment at
+/// which it began. A reading that is below the last, or out of its range, makes nothing. It costs the logarithm of what
+/// is stored, and takes no memory.
 pub fn moved(books: &Books, at: Moment, report: &ChargerEvent) -> Moved
     ensures { IsMoved books.now.state.site books.now.state.rows at report.now result }
 {

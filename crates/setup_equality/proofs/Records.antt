@@ -1,5 +1,6 @@
 -- Records are equal just where their fields are.
 use Rattle.std.proofs.Common.{◌≡◌, ap}
+use Rattle.ocpi_types.specs.declared.price_lists.PriceFrom.{PriceFrom}
 use Rattle.ocpi_types.specs.declared.site.Connector.{Connector}
 use Rattle.ocpi_types.specs.declared.site.Evse.{Evse}
 use Rattle.ocpi_types.specs.declared.site.Location.{Location}
@@ -32,5 +33,8 @@ same_address a b e = record {
   longitude = ap (λ (l : Location). l.longitude) e;
 }
 
-pub sites_are : (a b : Site) → a.currency ≡ b.currency → a.price ≡ b.price → a.locations ≡ b.locations → a ≡ b
-sites_are a b currency price locations = λ k. record { currency = currency k; price = price k; locations = locations k }
+pub prices_are : (a b : PriceFrom) → a.start_date_time ≡ b.start_date_time → a.price ≡ b.price → a ≡ b
+prices_are a b start price = λ k. record { start_date_time = start k; price = price k }
+
+pub sites_are : (a b : Site) → a.currency ≡ b.currency → a.price ≡ b.price → a.prices ≡ b.prices → a.locations ≡ b.locations → a ≡ b
+sites_are a b currency price prices locations = λ k. record { currency = currency k; price = price k; prices = prices k; locations = locations k }

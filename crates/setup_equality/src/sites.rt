@@ -5,7 +5,7 @@ ghost use Rattle.setup_equality.specs.Addresses.{IsSameAddress};
 
 use crate::lists::{Compared, are_equal_items};
 use ocpi_text::{CiText, FreeText};
-use ocpi_types::{Connector, Evse, Location, Site};
+use ocpi_types::{Connector, Evse, Location, PriceFrom, Site};
 
 fn is_equal_ci<const MAX: usize>(text: &CiText<MAX>, other: &CiText<MAX>) -> bool
     ensures { IsTrue result ↔ (text.now ≡ other.now) }
@@ -58,6 +58,14 @@ impl Compared for Location {
     }
 }
 
+impl Compared for PriceFrom {
+    #[tactic(auto, using(crate::proofs::Records::prices_are))]
+    fn is_equal(&self, other: &PriceFrom) -> bool {
+        self.start_date_time == other.start_date_time
+            && self.price.value().units() == other.price.value().units()
+    }
+}
+
 /// Whether two sites are equal.
 #[tactic(auto, using(crate::proofs::Records::sites_are))]
 pub fn is_equal_site(site: &Site, other: &Site) -> bool
@@ -65,5 +73,6 @@ pub fn is_equal_site(site: &Site, other: &Site) -> bool
 {
     is_equal_free(&site.currency, &other.currency)
         && site.price.value().units() == other.price.value().units()
+        && are_equal_items(site.prices.as_slice(), other.prices.as_slice())
         && are_equal_items(site.locations.as_slice(), other.locations.as_slice())
 }

@@ -1,5 +1,5 @@
 -- What the indexes of a site find is what is looked for.
-use Rattle.std.proofs.Common.{◌≡◌, ℕ, Bool, true, false, List, [], ◌∷◌, refl, sym, ap, subst, ◌∙◌}
+use Rattle.std.proofs.Common.{◌≡◌, ◌<◌, ℕ, arith, Bool, true, false, List, [], ◌∷◌, refl, sym, ap, subst, ◌∙◌}
 use Rattle.std.specs.Prelude.{◌≢◌, Option, Some, None, IsTrue, IsSome, IsNone, IfNone, Contains, is_some, slice_get, nat_eq}
 use Rattle.std.proofs.lemmas.Option.{same_Some}
 use Rattle.std.specs.List.{list_any, position}
@@ -11,7 +11,7 @@ use Rattle.ocpi_types.specs.declared.site.Location.{Location}
 use Rattle.ocpi_types.specs.declared.site.Evse.{Evse}
 use Rattle.ocpi_types.specs.declared.site.Connector.{Connector}
 use Rattle.tables.specs.Keys.{text_cmp}
-use Rattle.site_book.specs.Sites.{OutOfService, IsLocation, IsEvseFor, IsChosen, Fits, IsEvse, IsEvseOf}
+use Rattle.site_book.specs.Sites.{OutOfService, IsLocation, IsEvseFor, IsChosen, Fits, IsEvse, IsEvseOf, IsFirst, IsNamed}
 use Rattle.site_book.specs.Positions.{Position, IsEvseAt, HasEvse, OneEvseEach, OneLocationEach, FindsEvses, IsFlag, Marks}
 use Rattle.site_book.proofs.Apart.{contained, place}
 use Rattle.site_book.proofs.Ids.{located, unlocated}
@@ -40,6 +40,10 @@ no_place l None None (Some name) e named sole none first = λ f k fit. named (re
 no_place l None (Some u) (Some name) e named sole none first = λ f k fit.
     let same : f ≡ e = sole refl f (fitting l (Some u) (Some name) f k fit) in
     none k (subst (λ (x : Evse). IsChosen (Some name) x.connectors k) same fit.chosen)
+
+-- the first that passes a test is the first of what passes a narrower one
+pub first_of : (l : Location) (P Q : Evse → Type 0) (e : Evse) → ((f : Evse) → Q f → P f) → IsFirst l P e → IsFirst l Q e
+first_of l P Q e narrower first = record { place = first.place; stands = first.stands; none_before = λ i f less at passes. first.none_before i f less at (narrower f passes) }
 
 module _ (locations : List Location) where
   module _ (ids : List (List ℕ)) (are : ids ≡ location_keys locations) (id : List ℕ) where
@@ -108,6 +112,20 @@ module _ (locations : List Location) where
           | f ∷ fs ↦ λ at first. first f refl
         ] h.1 first
 
+    -- where no two EVSEs have one uid, that of a uid is the first of what has it
+    pub first_named : OneEvseEach locations → (uid : List ℕ) (P : Evse → Type 0) (e : Evse) → ((f : Evse) → P f → IsNamed (Some uid) f.uid) → IsEvseFor l (Some uid) e → IsFirst l P e
+    first_named one uid P e names is =
+        let p = place l.evses e is.listed in
+        record {
+          place = p.0;
+          stands = p.1;
+          none_before = λ i f less here passes.
+              let same : (at, i) ≡ (at, p.0) = one (key uid) (at, i) (at, p.0) (record { evse = f; at = record { location = l; stands = stands; within = here }; same = names f passes })
+              (record { evse = e; at = record { location = l; stands = stands; within = p.1 }; same = is.named }) in
+              let equal : i ≡ p.0 = ap (λ (q : Position). q.1) same in
+              absurd (omega arith);
+        }
+
     module _ (flags : List (List Bool)) (test : List ℕ → Bool) (m : Marks locations flags test) where
       -- an EVSE at a position whose flag is set passes the test
       pub marked_there : (j : ℕ) (e : Evse) → IsFlag flags (at, j) true → IsEvseAt locations (at, j) e → IsTrue (test (key e.uid))
@@ -124,6 +142,16 @@ module _ (locations : List Location) where
       none_marked none e is passes =
           let p = position_of None e is in
           none p.0 (subst (IsFlag flags (at, p.0)) passes (m.right (key e.uid) (at, p.0) (record { evse = e; at = p.1; same = refl })))
+
+      -- the EVSE of the first flag that is set is the first that passes
+      pub first_marked : (j : ℕ) (e : Evse) → ((i : ℕ) → i < j → IsFlag flags (at, i) true → ⊥) → IsEvseAt locations (at, j) e → IsFirst l (λ f. IsTrue (test (key f.uid))) e
+      first_marked j e first there = record {
+        place = j;
+        stands = ap (λ (x : Location). slice_get x.evses j) (same_Some l there.location (sym stands ∙ there.stands)) ∙ there.within;
+        none_before = λ i f less here passes.
+            let at_i : IsEvseAt locations (at, i) f = record { location = l; stands = stands; within = here } in
+            first i less (subst (IsFlag flags (at, i)) passes (m.right (key f.uid) (at, i) (record { evse = f; at = at_i; same = refl })));
+      }
 
   module _ (index : FinMap text_cmp Position) (claim_rooms service_rooms : OutOfService) (h : FindsEvses locations (λ p. Unit {0}) index claim_rooms service_rooms) where
     -- whether the EVSE of a key is of the site

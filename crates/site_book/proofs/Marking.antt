@@ -7,7 +7,7 @@ use Rattle.std.proofs.lemmas.Option.{same_Some, slice_get_within, get_or_from_sl
 use Rattle.ocpi_types.specs.declared.site.Location.{Location}
 use Rattle.ocpi_types.specs.declared.site.Evse.{Evse}
 use Rattle.ocpi_text.specs.Text.{key}
-use Rattle.site_book.specs.Flags.{AreFirst}
+use Rattle.site_book.specs.Flags.{AreFirst, NoneBefore}
 use Rattle.tables.specs.Keys.{text_cmp}
 use Rattle.site_book.specs.Indexes.{AreAllSet}
 use Rattle.site_book.specs.Sites.{Claims, OutOfService, works, is_free}
@@ -53,6 +53,12 @@ pub one_flag : (flags : List (List Bool)) (p : Position) (a b : Bool) → IsFlag
 one_flag flags p a b f g =
     let same : f.of_location ≡ g.of_location = same_Some _ _ (sym f.stands ∙ g.stands) in
     same_Some a b (sym f.is ∙ ap (λ (fs : List Bool). slice_get fs p.1) same ∙ g.is)
+
+-- no flag of a location is set before the first of them
+pub none_set_before : (flags : List (List Bool)) (at j : ℕ) (fs : List Bool) → slice_get flags at ≡ Some fs → NoneBefore fs j → (i : ℕ) → i < j → IsFlag flags (at, i) true → ⊥
+none_set_before flags at j fs stands none i less f =
+    let same : f.of_location ≡ fs = same_Some _ _ (sym f.stands ∙ stands) in
+    none i less (ap (λ (gs : List Bool). slice_get gs i) (sym same) ∙ f.is)
 
 module _ (flags : List (List Bool)) (p : Position) (b : Bool) where
   -- the flag that is set

@@ -1,6 +1,6 @@
 -- The site of an operator: its locations, EVSEs and connectors, each found by its key (OCPI 2.2.1, Locations:
 -- Location, EVSE and Connector object), the claims on its EVSEs, and which of these are out of service.
-use Rattle.std.specs.Prelude.{◌≡◌, ℕ, Bool, true, false, not, ◌&&◌, List, Option, Some, None, Contains, IsTrue, slice_get}
+use Rattle.std.specs.Prelude.{◌≡◌, ◌<◌, ℕ, Bool, true, false, not, ◌&&◌, List, Option, Some, None, Contains, IsTrue, slice_get}
 use Rattle.std.specs.FinMap.{FinMap, insert, remove, contains_key}
 use Rattle.ocpi_text.specs.Text.{key}
 use Rattle.ocpi_types.specs.declared.site.Site.{Site}
@@ -50,6 +50,12 @@ IsNamed (Some name) uid = key uid ≡ key name
 pub record IsEvseFor (l : Location) (evse_uid : Option (List ℕ)) (e : Evse) : Type 0 where
   pub listed : Contains l.evses e
   pub named : IsNamed evse_uid e.uid
+
+-- in the order of the site line the EVSE is the first of the location that passes a test: none that stands before it does
+pub record IsFirst (l : Location) (P : Evse → Type 0) (e : Evse) : Type 0 where
+  pub place : ℕ
+  pub stands : slice_get l.evses place ≡ Some e
+  pub none_before : (i : ℕ) (f : Evse) → i < place → slice_get l.evses i ≡ Some f → P f → ⊥
 
 -- the connector of that id, or the first where none is named
 abbrev pub IsChosen : Option (List ℕ) → List Connector → Connector → Type 0
@@ -115,6 +121,27 @@ IsWorkingEvse s e = IsTrue (works s.out_of_service (key e.uid))
 -- the EVSE is not claimed and not out of service
 abbrev pub IsFreeEvse : SiteState → Evse → Type 0
 IsFreeEvse s e = IsTrue (is_free s.claims s.out_of_service (key e.uid))
+
+-- an EVSE of that uid, or any where none is named, that is not claimed and not out of service
+pub record IsFreeFor (s : SiteState) (evse_uid : Option (List ℕ)) (e : Evse) : Type 0 where
+  pub named : IsNamed evse_uid e.uid
+  pub free : IsFreeEvse s e
+
+-- the EVSE is the first of the location of that uid, or of any where none is named, that is not claimed and not out of
+-- service
+pub record IsFirstFree (s : SiteState) (l : Location) (evse_uid : Option (List ℕ)) (e : Evse) : Type 0 where
+  pub fits : IsEvseFor l evse_uid e
+  pub free : IsFreeEvse s e
+  pub first : IsFirst l (IsFreeFor s evse_uid) e
+
+-- the place is the first of the location that is free, as a command names it or leaves it open
+pub record IsFreePlace (s : SiteState) (l : Location) (evse_uid connector_id : Option (List ℕ)) (p : Place) : Type 0 where
+  pub evse : Evse
+  pub connector : Connector
+  pub fits : Fits l.evses evse_uid connector_id evse connector
+  pub free : IsFreeEvse s evse
+  pub first : IsFirst l (IsFreeFor s evse_uid) evse
+  pub place_is : IsPlaceOf evse connector p
 
 -- the EVSEs out of service, once that EVSE is put in service or out of it
 abbrev pub with_service : Bool → List ℕ → OutOfService → OutOfService

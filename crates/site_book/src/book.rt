@@ -32,9 +32,13 @@ ghost use Rattle.site_book.specs.Sites.{
   IsConnectorOf,
   IsSiteOf,
   Fits,
+  IsFirst,
+  IsFreeFor,
+  IsFreePlace,
   IsPlaceOf,
   IsRefused,
 };
+ghost use Rattle.site_book.specs.Positions.{OneEvseEach};
 ghost use Rattle.site_book.specs.Sites.{is_claimed, is_free, works, with_service, IsWorkingEvse, IsFreeEvse};
 
 use crate::claim::{Claim, SiteFault};
@@ -175,11 +179,12 @@ impl SiteBook {
         place_of(evse, connector_id)
     }
 
-    /// One of the EVSEs of the location that are in service.
+    /// The first EVSE of the location that is in service.
     fn first_working_evse(&self, at: &FoundLocation<'_>) -> Option<&Evse>
         requires { IsFoundIn self.now.site at.now }
         ensures found { IfSome result (λ e. IsEvseFor (location_of at.now) None e.now) }
         ensures works { IfSome result (λ e. IsWorkingEvse self.now e.now) }
+        ensures first { IfSome result (λ e. IsFirst (location_of at.now) (IsWorkingEvse self.now) e.now) }
         ensures none { IfNone result ((e : Evse) → IsEvseFor (location_of at.now) None e → IsWorkingEvse self.now e → ⊥) }
     {
         let place = find_flag(self.indexes.working.as_slice(), at.position)?;
@@ -200,23 +205,26 @@ impl SiteBook {
         }
     }
 
-    /// One of the EVSEs of the location that are in service and not claimed. None, where there is none.
+    /// The first EVSE of the location that is in service and not claimed, in the order of the site line. None, where there
+    /// is none.
     pub fn free_at(&self, at: &FoundLocation<'_>) -> Option<&Evse>
         requires { IsFoundIn self.now.site at.now }
         ensures found { IfSome result (λ e. IsEvseFor (location_of at.now) None e.now) }
         ensures free { IfSome result (λ e. IsFreeEvse self.now e.now) }
+        ensures first { IfSome result (λ e. IsFirst (location_of at.now) (IsFreeEvse self.now) e.now) }
         ensures none { IfNone result ((e : Evse) → IsEvseFor (location_of at.now) None e → IsFreeEvse self.now e → ⊥) }
     {
         let place = find_flag(self.indexes.free.as_slice(), at.position)?;
         evse_at(self.site.locations.as_slice(), (at.position, place))
     }
 
-    /// An EVSE of the location that is in service and not claimed: the one of the uid, or one of them where none is
-    /// named. None, where there is none.
+    /// The EVSE of the uid, or the first of the location where none is named, of those that are in service and not
+    /// claimed. None, where there is none.
     pub fn free_evse(&self, at: &FoundLocation<'_>, uid: &Option<CiText<36>>) -> Option<&Evse>
         requires { IsFoundIn self.now.site at.now }
         ensures found { IfSome result (λ e. IsEvseFor (location_of at.now) uid.now e.now) }
         ensures free { IfSome result (λ e. IsFreeEvse self.now e.now) }
+        ensures first { IfSome result (λ e. IsFirst (location_of at.now) (IsFreeFor self.now uid.now) e.now) }
         ensures sole { IfSome result (λ e. IsSome uid.now → (f : Evse) → IsEvseFor (location_of at.now) uid.now f → f ≡ e.now) }
         ensures none { IfNone result ((e : Evse) → IsEvseFor (location_of at.now) uid.now e → IsFreeEvse self.now e → ⊥) }
     {
@@ -232,8 +240,8 @@ impl SiteBook {
         }
     }
 
-    /// As `find_place`, of the EVSEs that are in service and not claimed. None, where the location has no such EVSE and
-    /// connector.
+    /// As `find_place`, of the EVSEs that are in service and not claimed: of the first of them where none is named. None,
+    /// where the location has no such EVSE and connector.
     pub fn free_place(
         &self,
         at: &FoundLocation<'_>,
@@ -242,7 +250,7 @@ impl SiteBook {
     ) -> Option<Place>
         requires found { IsFoundIn self.now.site at.now }
         requires named { IsSome connector_id.now × IsNone evse_uid.now → ⊥ }
-        ensures found { IfSome result (λ p. (e : Evse) × (k : Connector) × Fits (location_of at.now).evses evse_uid.now connector_id.now e k × IsFreeEvse self.now e × IsPlaceOf e k p) }
+        ensures found { IfSome result (λ p. IsFreePlace self.now (location_of at.now) evse_uid.now connector_id.now p) }
         ensures none { IfNone result ((e : Evse) (k : Connector) → Fits (location_of at.now).evses evse_uid.now connector_id.now e k → IsFreeEvse self.now e → ⊥) }
     {
         let evse = self.free_evse(at, evse_uid)?;
@@ -320,6 +328,14 @@ impl SiteBook {
     /// That only EVSEs of the site are claimed, which the type keeps.
     pub fn claims_are_of_site(&self)
         ensures { (uid : List ℕ) → IsTrue (is_claimed self.now.claims uid) → IsEvse self.now.site.locations uid }
+    {
+        // The invariant is known once a field is looked at.
+        let _indexes = &self.indexes;
+    }
+
+    /// That no two EVSEs of the site have one uid, which the type keeps.
+    pub fn evses_differ(&self)
+        ensures { OneEvseEach self.now.site.locations }
     {
         // The invariant is known once a field is looked at.
         let _indexes = &self.indexes;

@@ -18,17 +18,18 @@ ghost use Rattle.std.specs.Prelude.{
   IfSome,
   IfNone,
 };
-ghost use Rattle.site_book.specs.Flags.{IsTree, AreNone, AreFirst};
+ghost use Rattle.site_book.specs.Flags.{IsPowerOfTwo, IsTree, AreNone, AreFirst, NoneBefore};
 
 use std::alloc::{AllocError, Global};
 use std::marker::Model;
 
-/// A number of leaves: at least so many, at least one, and at most twice as many as a list may have places.
+/// A number of leaves, a power of two: at least so many, and at most twice as many as a list may have places.
 fn width_of(count: usize) -> usize
     requires { count ≤ 1000 }
     ensures enough { count ≤ result }
     ensures some { 0 < result }
     ensures bounded { result ≤ 2000 }
+    ensures level { IsPowerOfTwo result }
 {
     let mut width = 1;
     while width < count {
@@ -64,6 +65,7 @@ fn set_node(nodes: &mut [bool], width: usize, place: usize, value: bool)
 fn find_leaf(nodes: &[bool], width: usize) -> Option<usize>
     requires { IsTree width nodes.now }
     ensures some { IfSome result (λ i. slice_get (drop width nodes.now) i ≡ Some true) }
+    ensures first { IfSome result (λ i. NoneBefore (drop width nodes.now) i) }
     ensures none { IfNone result (AreNone (drop width nodes.now)) }
 {
     if !nodes[1] {
@@ -129,9 +131,10 @@ impl Flags {
         set_node(self.nodes.as_mut_slice(), self.width, place, value);
     }
 
-    /// A place whose flag is set: the first of them.
+    /// The first place whose flag is set.
     pub(crate) fn find(&self) -> Option<usize>
         ensures some { IfSome result (λ i. slice_get self.now i ≡ Some true) }
+        ensures first { IfSome result (λ i. NoneBefore self.now i) }
         ensures none { IfNone result (AreNone self.now) }
     {
         find_leaf(self.nodes.as_slice(), self.width)

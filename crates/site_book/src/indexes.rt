@@ -175,9 +175,10 @@ fn set_flag(flags: &mut [Flags], position: (usize, usize), value: bool)
     flags[position.0].set(position.1, value);
 }
 
-/// The second part of a position whose flag is set, of those with this first part: the first of them.
+/// The least second part of a position whose flag is set, of those with this first part.
 pub(crate) fn find_flag(flags: &[Flags], at: usize) -> Option<usize>
     ensures some { IfSome result (λ j. IsFlag flags.now (at, j) true) }
+    ensures first { IfSome result (λ j. (i : ℕ) → i < j → IsFlag flags.now (at, i) true → ⊥) }
     ensures none { IfNone result ((j : ℕ) → IsFlag flags.now (at, j) true → ⊥) }
 {
     match flags.get(at) {

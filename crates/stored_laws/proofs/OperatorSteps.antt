@@ -9,6 +9,7 @@ use Rattle.ocpi_text.specs.Party.{party_at}
 use Rattle.ocpi_text.specs.Text.{key}
 use Rattle.ocpi_text.specs.declared.own_ids.OwnIdKind.TheVariants as own
 use Rattle.ocpi_types.specs.Credits.{AreAlike, IsBill, IsCredit, credit_id, is_credit}
+use Rattle.ocpi_types.specs.Prices.{price_at}
 use Rattle.ocpi_types.specs.declared.cdrs.Cdr.{Cdr}
 use Rattle.ocpi_types.specs.declared.events.ChargerEvent.{ChargerEvent}
 use Rattle.ocpi_types.specs.declared.events.ChargerEvent.TheVariants as event
@@ -21,6 +22,7 @@ use Rattle.ocpi_types.specs.declared.site.Site.{Site}
 use Rattle.ocpi_types.specs.declared.site.SiteLine.{SiteLine}
 use Rattle.ocpi_types.specs.declared.words.SessionStatus.{SessionStatus}
 use Rattle.ocpi_types.specs.declared.words.SessionStatus.TheVariants.{Active, Completed, Invalid, Pending, Reservation}
+use Rattle.session_state.proofs.PastLemmas.{never_pending}
 use Rattle.session_state.specs.Pasts.{IsTurn, MayFollow}
 use Rattle.session_state.specs.Resuming.{CannotResume}
 use Rattle.session_tables.specs.Moves.{Ends, Makes}
@@ -66,11 +68,13 @@ pending_differs : Pending ≡ Reservation → ⊥
 pending_differs is = cc
 
 -- a session can go on from a version that may come next
-next_resumes : (price : ℤ) (o : Option Session) (v : Session) → IsNextOf price o v → ¬ CannotResume price v
+next_resumes : (price : ℕ → ℤ) (o : Option Session) (v : Session) → IsNextOf price o v → ¬ CannotResume (price v.start_date_time) v
 next_resumes price None v next (inl reserved) = pending_differs (sym next.0 ∙ reserved)
-next_resumes price None v next (inr unpriced) = unpriced next.1
+next_resumes price None v next (inr (inl unpriced)) = unpriced next.1
+next_resumes price None v next (inr (inr charged)) = charged next.2
 next_resumes price (Some w) v next (inl reserved) = never_reserved w.status (subst (IsTurn w.status) reserved next.turn)
-next_resumes price (Some w) v next (inr unpriced) = unpriced next.priced
+next_resumes price (Some w) v next (inr (inl unpriced)) = unpriced next.priced
+next_resumes price (Some w) v next (inr (inr charged)) = charged (λ pending. absurd (never_pending w.status v.status next.turn pending))
 
 -- a version that a report makes is of the session that it was
 ended_of : (at : ℕ) (v w : Session) → Ends at v w → w.id ≡ v.id
@@ -92,7 +96,7 @@ module _ (s t : State) (e : Event) (fine : IsConsistent s) (whole : IsWhole s) (
   own_session : (v : Session) → SessionCause s e.input (does s t e fine happens).acts v → (n : ℕ) × IsOwnId own.Session s.party v.id n
   own_session v (Begun at n b how above within is reference) = (n, record { is_number = within; made = ap (λ (z : Session). z.id) is })
   own_session v (Moved at report reports m is) =
-      let made : v.id ≡ m.before.id = ap (λ (z : Session). z.id) is ∙ made_of s.site.price at report m.before m.after m.moves.makes in
+      let made : v.id ≡ m.before.id = ap (λ (z : Session). z.id) is ∙ made_of (price_at s.site m.before.start_date_time) at report m.before m.after m.moves.makes in
       subst (λ (id : List ℕ). (n : ℕ) × IsOwnId own.Session s.party id n) (sym made) (whole.sessions (key m.before.id) m.before m.moves.here.stands)
 
   own_bill : (x : Cdr) → IsBill x → CdrCause s e.input (does s t e fine happens).acts x → (n : ℕ) × IsRecordId s.party x n
@@ -129,12 +133,12 @@ module _ (s t : State) (e : Event) (fine : IsConsistent s) (whole : IsWhole s) (
         | inr i ↦ own_session v (session_cause s t e fine d v i)
       ])
 
-  resumable_stay : (id : List ℕ) (v : Session) → get t.rows.charged.sessions id ≡ Some v → ¬ CannotResume t.site.price v
+  resumable_stay : (id : List ℕ) (v : Session) → get t.rows.charged.sessions id ≡ Some v → ¬ CannotResume (price_at t.site v.start_date_time) v
   resumable_stay id v has =
       let d = does s t e fine happens in
-      subst (λ (z : Site). ¬ CannotResume z.price v) (sym d.site) (elim (session_from s t e fine d id v has) [
+      subst (λ (z : Site). ¬ CannotResume (price_at z v.start_date_time) v) (sym d.site) (elim (session_from s t e fine d id v has) [
         | inl old ↦ whole.resumable id v old
-        | inr i ↦ next_resumes s.site.price (get s.rows.charged.sessions (key v.id)) v (d.sessions v i)
+        | inr i ↦ next_resumes (price_at s.site) (get s.rows.charged.sessions (key v.id)) v (d.sessions v i)
       ])
 
   cdrs_stay : (id : List ℕ) (x : Cdr) → get t.rows.charged.cdrs id ≡ Some x → (n : ℕ) × IsRecordId t.party x n
@@ -148,9 +152,9 @@ module _ (s t : State) (e : Event) (fine : IsConsistent s) (whole : IsWhole s) (
   -- no version is put of a session that is COMPLETED, which stays
   none_after : (id : List ℕ) (v w : Session) → get s.rows.charged.sessions id ≡ Some v → v.status ≡ Completed → Contains e.changes (Put (row.Session w)) → key w.id ≢ id
   none_after id v w has complete i at =
-      let next : IsNextOf s.site.price (get s.rows.charged.sessions id) w =
-      subst (λ (k : List ℕ). IsNextOf s.site.price (get s.rows.charged.sessions k) w) at ((does s t e fine happens).sessions w i) in
-      let follows : MayFollow s.site.price v w = subst (λ (o : Option Session). IsNextOf s.site.price o w) has next in
+      let next : IsNextOf (price_at s.site) (get s.rows.charged.sessions id) w =
+      subst (λ (k : List ℕ). IsNextOf (price_at s.site) (get s.rows.charged.sessions k) w) at ((does s t e fine happens).sessions w i) in
+      let follows : MayFollow (price_at s.site) v w = subst (λ (o : Option Session). IsNextOf (price_at s.site) o w) has next in
       completed_is_last w.status (subst (λ (a : SessionStatus). IsTurn a w.status) complete follows.turn)
 
   completed_stays : (id : List ℕ) (v : Session) → get s.rows.charged.sessions id ≡ Some v → v.status ≡ Completed → get t.rows.charged.sessions id ≡ Some v

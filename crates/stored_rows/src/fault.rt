@@ -2,7 +2,7 @@
 
 ghost use Rattle.std.specs.Prelude.{◌≡◌, Some};
 
-use ocpi_text::E4;
+use ocpi_text::{E4, Moment};
 use ocpi_types::RowKey;
 use std::alloc::{AllocError, AllocFailed};
 use std::error::Error;
@@ -51,13 +51,20 @@ pub enum BadReason {
     ReservationStatus,
     /// The session has no total cost.
     WithoutCost,
-    /// The session's cost is not that of its energy at the setup's price: another price made it.
+    /// The session is PENDING, and has energy.
+    EnergyWhilePending,
+    /// The session has not ended, and is in another currency than the setup's.
+    OtherCurrency,
+    /// The session's cost is not that of its energy at the setup's price at the moment at which the session began: another
+    /// price made it.
     OtherPrice {
+        /// When the session began: its `start_date_time`.
+        start_date_time: Moment,
         /// The energy of the session, in kilowatt-hours.
         kwh: E4,
         /// The cost that the session has, without tax.
         cost: E4,
-        /// What the setup asks for a kilowatt-hour.
+        /// What the setup asks for a kilowatt-hour at that moment.
         price: E4,
     },
     /// It bills a session that another charge detail record bills.

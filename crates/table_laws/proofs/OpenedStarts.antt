@@ -96,8 +96,8 @@ module _ (s : State) (sender : List ℕ) (c : StartSession) (are : AreLocations 
   takes d (start.Barred l v k at barred is) = absurd (unbarred s sender c may barred)
   takes d (start.Inoperative l v k at out is) = absurd (out (has_service l at.reached.placed.location))
   takes d (start.Occupied l v k at occupied is) = absurd (not_free s sender c are h l at.reached.placed.location occupied.none_held)
-  takes d (start.Held l v k at in_service x held is) = record { location = l; evse = v; connector = k; standing = x; of_site = at.reached.placed.location; held = held; decided = is }
-  takes d (start.Free l v k at in_service none free is) = absurd (not_free s sender c are h l at.reached.placed.location none)
+  takes d (start.Held l v k at in_service x held least is) = record { location = l; evse = v; connector = k; standing = x; of_site = at.reached.placed.location; held = held; decided = is }
+  takes d (start.Free l v k at in_service none free first is) = absurd (not_free s sender c are h l at.reached.placed.location none)
 
 -- ---- what it puts
 

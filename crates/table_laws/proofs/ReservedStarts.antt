@@ -170,7 +170,7 @@ reservations_are_used s t e are happens at q c input carries reserved o puts = b
     by (start.Barred l v k placed barred is) = absurd (answered_alone h.at s.rows.request h.to (key h.packet.from) h.packet.request h.command (key q.from) q.request o h.decision _ is decided)
     by (start.Inoperative l v k may out is) = absurd (resulted_alone (key h.packet.from) (key q.from) h.packet.request q.request o h.at s.rows.request h.to h.command h.decision _ is decided)
     by (start.Occupied l v k may none is) = absurd (resulted_alone (key h.packet.from) (key q.from) h.packet.request q.request o h.at s.rows.request h.to h.command h.decision _ is decided)
-    by (start.Held l v k may in_service x held_by is) =
+    by (start.Held l v k may in_service x held_by least is) =
         let started = subst (λ (z : Decision). Contains (all_changes (decided_acts h.at s.rows.request h.to (key h.packet.from) h.packet.request h.command z)) (Put (row.Pending (key q.from) q.request o))) is decided in
         let opened_is = started_is (key h.packet.from) (key q.from) h.packet.request q.request o h.at s.rows.request h.to h.command (place_of v k) (Some x.id) started in
         let gone = ends_used (key h.packet.from) (key q.from) h.packet.request q.request o h.at s.rows.request h.to h.command (place_of v k) x.id in
@@ -184,4 +184,4 @@ reservations_are_used s t e are happens at q c input carries reserved o puts = b
           reserved = reserved_for s q.from c l v x may.reached.placed.location held_by;
           ends = d.to_acts (Drop (keys.Reservation (key q.from) x.id)) (subst (λ (z : Packet). Contains (all_changes d.acts) (Drop (keys.Reservation (key z.from) x.id))) packet_is here);
         }
-    by (start.Free l v k may in_service none free is) = absurd (not_free s q.from c are reserved l may.reached.placed.location none)
+    by (start.Free l v k may in_service none free first is) = absurd (not_free s q.from c are reserved l may.reached.placed.location none)

@@ -6,6 +6,7 @@ use Rattle.std.proofs.lemmas.List.Elements.{Contains-append_right}
 use Rattle.tables.proofs.Elements.{in_front}
 use Rattle.tables.proofs.Options.{not_both}
 use Rattle.ocpi_text.specs.Text.{key}
+use Rattle.ocpi_types.specs.Prices.{price_at}
 use Rattle.ocpi_types.specs.declared.commands.Command.{Command}
 use Rattle.ocpi_types.specs.declared.commands.Command.TheVariants as command
 use Rattle.ocpi_types.specs.declared.commands.StopSession.{StopSession}
@@ -97,10 +98,10 @@ module _ (s t : State) (e : Event) (fine : IsConsistent s) (by : IsCarriedOut s 
   -- a session that it is about has a next version, which it makes
   record Next (v : Session) : Type 0 where
     pub next : Session
-    pub makes : Makes s.site.price at r v next
+    pub makes : Makes (price_at s.site v.start_date_time) at r v next
     pub stands : get t.rows.charged.sessions (key next.id) ≡ Some next
 
-  line_moves : (v w : Session) → IsSessionAt s.rows evse v → Makes s.site.price at r v w → ChargerLine s at r by.work → Next v
+  line_moves : (v w : Session) → IsSessionAt s.rows evse v → Makes (price_at s.site v.start_date_time) at r v w → ChargerLine s at r by.work → Next v
   line_moves v w here makes (charger.Ended f h is) = absurd (of.ends_none f.provider f.number h.command f.result h.by)
   line_moves v w here makes (charger.Started f b begun h begins is) = absurd (of.accepts_none h.provider f.number h.report_is)
   line_moves v w here makes (charger.Moved acts h is) =
@@ -109,14 +110,14 @@ module _ (s t : State) (e : Event) (fine : IsConsistent s) (by : IsCarriedOut s 
       let one : h.before ≡ v = one_session h.before v (subst (λ (z : List ℕ). IsSessionAt s.rows z h.before) same h.moves.here) here in
       record {
         next = h.after;
-        makes = subst (λ (z : Session). Makes s.site.price at r z h.after) one h.moves.makes;
+        makes = subst (λ (z : Session). Makes (price_at s.site z.start_date_time) at r z h.after) one h.moves.makes;
         stands = put_stands s t e fine by (row.Session h.after) (subst (λ (x : Work). Contains (all_changes x.acts) (Put (row.Session h.after))) (sym is) (moved_in s at r acts h));
       }
   line_moves v w here makes (charger.Begun b begun shows begins is) = absurd (of.shows_none (shown.Begins b) shows)
   line_moves v w here makes (charger.Asked token place_id place shows asked) = absurd (of.shows_none (shown.Asks token place_id place) shows)
   line_moves v w here makes (charger.Idle ends starts moves shows is) = absurd (moves v w (record { evse = evse; about = of.about; here = here; makes = makes }))
 
-  moves_on : e.input ≡ Reports at r → (v w : Session) → IsSessionAt s.rows evse v → Makes s.site.price at r v w → Next v
+  moves_on : e.input ≡ Reports at r → (v w : Session) → IsSessionAt s.rows evse v → Makes (price_at s.site v.start_date_time) at r v w → Next v
   moves_on input v w here makes = line_moves v w here makes (subst (λ (i : Input). Asks s i by.work) input by.line)
 
 session_at : (s : State) (v : Session) (evse_uid : List ℕ) → IsAt s v evse_uid → IsLive v.status → IsSessionAt s.rows (key evse_uid) v
@@ -136,7 +137,7 @@ later_end status at v = omega arith
 
 pub readings_are_kept : ReadingsAreKept
 readings_are_kept s t e fine by at evse_uid kwh input v here active no_less within =
-    let next : Session = metered at kwh s.site.price v in
+    let next : Session = metered at kwh (price_at s.site v.start_date_time) v in
     let h = moves_on s t e fine by at (event.Meter evse_uid kwh) (key evse_uid) (meter_is s evse_uid kwh) input v next (session_at s v evse_uid here (subst IsLive (sym active) tt))
     (active, record { no_less = no_less; within = within }, refl) in
     let is : h.next ≡ next = h.makes.2 in
@@ -145,7 +146,7 @@ readings_are_kept s t e fine by at evse_uid kwh input v here active no_less with
       newest = subst (λ (z : Session). get t.rows.charged.sessions (key z.id) ≡ Some z) is h.stands;
       status_is = active;
       kwh_is = refl;
-      later = later_reading at kwh s.site.price v;
+      later = later_reading at kwh (price_at s.site v.start_date_time) v;
     }
 
 -- the end of a session follows it

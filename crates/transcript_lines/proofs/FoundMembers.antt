@@ -67,6 +67,7 @@ found field.Party = refl
 found field.PartyId = refl
 found field.PowerType = refl
 found field.Price = refl
+found field.Prices = refl
 found field.Provider = refl
 found field.Providers = refl
 found field.Request = refl

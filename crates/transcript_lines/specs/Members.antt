@@ -81,6 +81,7 @@ field_o_to_p s =
     else if bytes_eq s (codes "party_id") then Some field.PartyId
     else if bytes_eq s (codes "power_type") then Some field.PowerType
     else if bytes_eq s (codes "price") then Some field.Price
+    else if bytes_eq s (codes "prices") then Some field.Prices
     else if bytes_eq s (codes "provider") then Some field.Provider
     else if bytes_eq s (codes "providers") then Some field.Providers else None
 

@@ -131,6 +131,7 @@ fn field_o_to_p(name: &str) -> Option<Field>
         "party_id" => Some(Field::PartyId),
         "power_type" => Some(Field::PowerType),
         "price" => Some(Field::Price),
+        "prices" => Some(Field::Prices),
         "provider" => Some(Field::Provider),
         "providers" => Some(Field::Providers),
         _ => None,

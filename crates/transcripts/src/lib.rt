@@ -22,7 +22,7 @@
 //! - Each entry is a step of the node. It is the event of its line, or that of a text that is told for it among
 //!   several; or a restart between runs. By `Transcript::is_told` (`IsTold` of `specs/Told`).
 //! - A file is accused (`NotARun`, `Wrong`) only where no history has it for its transcript that leaves its node no
-//!   choice. Of several equal EVSEs the rules leave open which one is taken. By `read_transcript`: `none`
+//!   choice. None leaves it one, by law `replays_have_one_answer` (`replay_laws`). By `read_transcript`: `none`
 //!   (`AccusesRightly` of `specs/Accusing`).
 //! - In each transcript a run is opened, whose line is the setup. Before the first one each line is refused as the
 //!   first one of a run, or a stop left it. By law `transcripts_have_beginnings`.

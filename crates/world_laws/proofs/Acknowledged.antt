@@ -7,6 +7,7 @@ use Rattle.tables.specs.Keys.{text_number_cmp, text_pair_cmp}
 use Rattle.tables.proofs.Options.{not_both}
 use Rattle.ocpi_text.specs.Text.{key}
 use Rattle.ocpi_types.specs.Stored.{body_of_push}
+use Rattle.ocpi_types.specs.Prices.{price_at}
 use Rattle.ocpi_types.specs.declared.cdrs.Cdr.{Cdr}
 use Rattle.ocpi_types.specs.declared.packet.Body.TheVariants as body
 use Rattle.ocpi_types.specs.declared.packet.Packet.{Packet}
@@ -161,7 +162,7 @@ module _ (setup : List Node) (is_setup : IsSetup setup) (w : World) (hs : Histor
           let held : get t.state.rows.inbox.sessions (o, id) ≡ Some y = ap (get t.state.rows.inbox.sessions) (sym its_key) ∙ has in
           let (ordered, is_last) = pasts_are_orderly (line_of setup at.trace.party at.trace.site) at.trace.events s at.trace.by_form run id in
           let among =
-          last_or_earlier at.trace.site.price (past id at.trace.events) v y ordered (sym is_last ∙ stands)
+          last_or_earlier (price_at at.trace.site) (past id at.trace.events) v y ordered (sym is_last ∙ stands)
           (of_past (key v.cdr_token.party) id t.place t.state (provider_at setup is_setup w hs traces (key v.cdr_token.party) t.place t.state t.of) y held) in
           record { place = t.place; state = t.state; at = t.of; held = held ∙ ap Some (newest v y among at_least) }
 

@@ -7,6 +7,7 @@ use Rattle.tables.proofs.Options.{known, none_contained, not_both}
 use Rattle.node_laws.specs.Nodes as nodes
 use Rattle.ocpi_text.specs.Text.{key}
 use Rattle.ocpi_types.specs.Commands.{url_of}
+use Rattle.ocpi_types.specs.Prices.{price_at}
 use Rattle.ocpi_types.specs.declared.commands.StartSession.{StartSession}
 use Rattle.ocpi_types.specs.declared.packet.Body.{Body}
 use Rattle.ocpi_types.specs.declared.packet.Body.TheVariants as body
@@ -183,7 +184,7 @@ module _ (setup : List Node) (is_setup : IsSetup setup) (w : World) (hs : Histor
             let (ordered, is_last) = pasts_are_orderly its_line es h.state h.there.trace.by_form ran (key b.session.id) in
             let of_past = in_past es b.event b.session b.happened b.begins in
             let (v, last) = has_last (past (key b.session.id) es) b.session of_past in
-            let (token, reference) = with_last v b.session (last_or_earlier its_line.site.price (past (key b.session.id) es) v b.session ordered last of_past) in
+            let (token, reference) = with_last v b.session (last_or_earlier (price_at its_line.site) (past (key b.session.id) es) v b.session ordered last of_past) in
             record {
               place = h.place;
               state = h.state;

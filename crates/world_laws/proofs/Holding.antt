@@ -10,6 +10,7 @@ use Rattle.tables.specs.Keys.{text_pair_cmp}
 use Rattle.tables.proofs.Options.{not_both}
 use Rattle.node_laws.proofs.Runs.{kept_runs}
 use Rattle.ocpi_text.specs.Text.{key}
+use Rattle.ocpi_types.specs.Prices.{price_at}
 use Rattle.ocpi_types.specs.declared.rows.Change.{Change}
 use Rattle.ocpi_types.specs.declared.rows.Change.TheVariants.{Put, Drop}
 use Rattle.ocpi_types.specs.declared.rows.Row.TheVariants as row
@@ -87,8 +88,8 @@ module _ (setup : List Node) (is_setup : IsSetup setup) (w : World) (hs : Histor
       let law = pasts_are_orderly (line_of setup at.trace.party at.trace.site) at.trace.events at.trace.state at.trace.by_form at.trace.run id in
       let same = past_is o p s at id in
       record {
-        orderly = subst (λ l. IsOrderly s.site.price l) (sym same)
-            (subst (λ (z : Site). IsOrderly z.price (pasts.past id at.trace.events)) (sym (site_is o p s at)) law.0);
+        orderly = subst (λ l. IsOrderly (price_at s.site) l) (sym same)
+            (subst (λ (z : Site). IsOrderly (price_at z) (pasts.past id at.trace.events)) (sym (site_is o p s at)) law.0);
         newest = ap (λ (z : operator.State). get z.rows.charged.sessions id) (sym at.state_is) ∙ law.1 ∙ ap (last_or None) (sym same);
       }
 
@@ -97,7 +98,7 @@ module _ (setup : List Node) (is_setup : IsSetup setup) (w : World) (hs : Histor
     versions = past_of id p.versions;
     is_past = record { place = p; state = s; at = of; past_is = refl };
     member = i;
-    last = λ final. final_is_newest s.site.price (past_of id p.versions) v (orderly o p s of id).orderly i (subst IsFinal (sym final) tt);
+    last = λ final. final_is_newest (price_at s.site) (past_of id p.versions) v (orderly o p s of id).orderly i (subst IsFinal (sym final) tt);
   }
 
   -- a version that came to a provider is of its session's past

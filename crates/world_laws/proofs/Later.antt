@@ -6,6 +6,7 @@ use Rattle.std.proofs.lemmas.List.Elements.{Contains-append_left, filter-append}
 use Rattle.std.proofs.lemmas.List.Concat.{flat_map-append}
 use Rattle.std.proofs.lemmas.List.{map-append}
 use Rattle.ocpi_text.specs.Text.{key}
+use Rattle.ocpi_types.specs.Prices.{price_at}
 use Rattle.ocpi_types.specs.declared.sessions.Session.{Session}
 use Rattle.ocpi_types.specs.declared.setup.Node.{Node}
 use Rattle.ocpi_types.specs.declared.site.SiteLine.{SiteLine}
@@ -181,8 +182,8 @@ module _ (setup : List Node) (is_setup : IsSetup setup) (w : World) (hs : Histor
       all ∙ past_grows id was.is_past.place h.place (versions_in h.more.events) h.more.versions_is ∙ ap (λ l. l ++ past_of id (versions_in h.more.events)) (sym was.is_past.past_is) in
       let member : Contains is.versions a = subst (λ l. Contains l a) (sym grown) (Contains-append_left was.versions (past_of id (versions_in h.more.events)) a was.member) in
       let in_order = (orderly setup is_setup v (joined hs ms) on o is.is_past.place is.is_past.state is.is_past.at id).orderly in
-      let follows = subst (IsOrderly is.is_past.state.site.price) (sym is.is_past.past_is) in_order in
-      (is.versions, is.is_past, stands_after is.is_past.state.site.price is.versions follows a b member is.member later)
+      let follows = subst (IsOrderly (price_at is.is_past.state.site)) (sym is.is_past.past_is) in_order in
+      (is.versions, is.is_past, stands_after (price_at is.is_past.state.site) is.versions follows a b member is.member later)
 
   held_later : (p o id : List ℕ) (a : Session) → Holds w p o id a →
       (b : Session) × Holds v p o id b × ((a ≡ b) ⊎ ((versions : List Session) × IsPast v o id versions × StandsAfter versions a b))

@@ -1,5 +1,5 @@
 -- Of an orderly past each version is the last, or comes before it and is of the same session.
-use Rattle.std.proofs.Common.{◌≡◌, ◌⊎◌, ◌<◌, ℤ, List, [], ◌∷◌, cond, inl, inr, refl, sym, subst, ◌∙◌, arith}
+use Rattle.std.proofs.Common.{◌≡◌, ◌⊎◌, ◌<◌, ℕ, ℤ, List, [], ◌∷◌, cond, inl, inr, refl, sym, subst, ◌∙◌, arith}
 use Rattle.std.specs.Prelude.{Some, None, Contains}
 use Rattle.std.specs.List.{last_or}
 use Rattle.std.proofs.lemmas.Slice.Eq.{bytes_eq-Decides}
@@ -36,27 +36,27 @@ same_both u v w f g = record {
   currency = f.currency ∙ g.currency;
 }
 
-next_earlier : (price : ℤ) (u x : Session) → MayFollow price u x → IsEarlier u x
+next_earlier : (price : ℕ → ℤ) (u x : Session) → MayFollow price u x → IsEarlier u x
 next_earlier price u x h = record { going = λ final. no_turn u.status x.status final h.turn; below = h.later; same = h.same }
 
 before_both : (u x v : Session) → IsEarlier u x → IsEarlier x v → IsEarlier u v
 before_both u x v f g = let first = f.below in let then = g.below in record { going = f.going; below = omega (arith, first, then); same = same_both u x v f.same g.same }
 
-first_or : (price : ℤ) (u : Session) (vs : List Session) (v : Session) → Follow price u vs → last_or (Some u) vs ≡ Some v → (u ≡ v) ⊎ IsEarlier u v
+first_or : (price : ℕ → ℤ) (u : Session) (vs : List Session) (v : Session) → Follow price u vs → last_or (Some u) vs ≡ Some v → (u ≡ v) ⊎ IsEarlier u v
 first_or price u [] v h last = inl (let is : u ≡ v = cc in is)
 first_or price u (x ∷ vs) v h last = inr (elim (first_or price x vs v h.1 last) [
   | inl same ↦ subst (IsEarlier u) same (next_earlier price u x h.0)
   | inr later ↦ before_both u x v (next_earlier price u x h.0) later
 ])
 
-among : (price : ℤ) (u : Session) (vs : List Session) (v y : Session) → Follow price u vs → last_or (Some u) vs ≡ Some v → Contains (u ∷ vs) y → (y ≡ v) ⊎ IsEarlier y v
+among : (price : ℕ → ℤ) (u : Session) (vs : List Session) (v y : Session) → Follow price u vs → last_or (Some u) vs ≡ Some v → Contains (u ∷ vs) y → (y ≡ v) ⊎ IsEarlier y v
 among price u [] v y h last i = subst (λ z. (z ≡ v) ⊎ IsEarlier z v) (in_single u y i) (first_or price u [] v h last)
 among price u (x ∷ vs) v y h last i = elim (of_cons u (x ∷ vs) y i) [
   | inl is ↦ subst (λ z. (z ≡ v) ⊎ IsEarlier z v) is (first_or price u (x ∷ vs) v h last)
   | inr j ↦ among price x vs v y h.1 last j
 ]
 
-pub last_or_earlier : (price : ℤ) (vs : List Session) (v y : Session) → IsOrderly price vs → last_or None vs ≡ Some v → Contains vs y → (y ≡ v) ⊎ IsEarlier y v
+pub last_or_earlier : (price : ℕ → ℤ) (vs : List Session) (v y : Session) → IsOrderly price vs → last_or None vs ≡ Some v → Contains vs y → (y ≡ v) ⊎ IsEarlier y v
 last_or_earlier price [] v y h last i = absurd (in_none y i)
 last_or_earlier price (u ∷ vs) v y h last i = among price u vs v y h.2 last i
 

@@ -42,7 +42,7 @@ seen_other a b z apart = elim (eq_by_cmp text_pair_cmp a b) as (λ c. eq_by_cmp 
 ] refl
 
 -- what is chosen by a test that may fail
-chosen : {V : Type 0} (b : Bool) (x : Option V) (v : V) → cond b x None ≡ Some v → (b ≡ true) × (x ≡ Some v)
+pub chosen : {V : Type 0} (b : Bool) (x : Option V) (v : V) → cond b x None ≡ Some v → (b ≡ true) × (x ≡ Some v)
 chosen true x v is = (refl, is)
 chosen false x v is = none_some v is
 
@@ -53,17 +53,17 @@ abbrev Entry : Type 0
 Entry = (List ℕ × List ℕ) × Cdr
 
 -- what there is of a record that is a credit, or of one that is a bill, where just one kind is asked for
-abbrev of_kind : {V : Type 0} → Bool → Bool → Option V → Option V
+abbrev pub of_kind : {V : Type 0} → Bool → Bool → Option V → Option V
 of_kind false credit x = cond credit None x
 of_kind true credit x = cond credit x None
 
-asked_kind : {V : Type 0} (asked credit : Bool) (x : Option V) (v : V) → of_kind asked credit x ≡ Some v → (credit ≡ asked) × (x ≡ Some v)
+pub asked_kind : {V : Type 0} (asked credit : Bool) (x : Option V) (v : V) → of_kind asked credit x ≡ Some v → (credit ≡ asked) × (x ≡ Some v)
 asked_kind false false x v is = (refl, is)
 asked_kind false true x v is = none_some v is
 asked_kind true false x v is = none_some v is
 asked_kind true true x v is = (refl, is)
 
-own_kind : {V : Type 0} (credit : Bool) (x : Option V) → of_kind credit credit x ≡ x
+pub own_kind : {V : Type 0} (credit : Bool) (x : Option V) → of_kind credit credit x ≡ x
 own_kind false x = refl
 own_kind true x = refl
 
@@ -76,12 +76,12 @@ abbrev version_of : Bool → List ℕ → Place → Entry → Option Session
 version_of asked o r e = cond (bytes_eq e.0.0 o) (of_kind asked (is_credit e.1) (last_of r e.1)) None
 
 -- what a record of either kind costs, of the cost of its session
-abbrev counted : Bool → ℤ → ℤ
+abbrev pub counted : Bool → ℤ → ℤ
 counted false cost = cost
 counted true cost = neg_ℤ cost
 
 -- it is what bills add, less what credits take off
-counted_is : (credit : Bool) (x : Option Session) (v : Session) → x ≡ Some v → counted credit (cost_of v) ≡ term_at cost_of (of_kind false credit x) -ℤ term_at cost_of (of_kind true credit x)
+pub counted_is : (credit : Bool) (x : Option Session) (v : Session) → x ≡ Some v → counted credit (cost_of v) ≡ term_at cost_of (of_kind false credit x) -ℤ term_at cost_of (of_kind true credit x)
 counted_is false x v is = subst (λ (y : Option Session). cost_of v ≡ term_at cost_of y -ℤ pos 0) (sym is) (omega (arith, ints))
 counted_is true x v is = subst (λ (y : Option Session). neg_ℤ (cost_of v) ≡ pos 0 -ℤ term_at cost_of y) (sym is) (omega (arith, ints))
 
@@ -94,7 +94,7 @@ abbrev CountsLast : Place → Cdr → Type 0
 CountsLast r x = (v : Session) × EndsAs r (key x.session_id) v × Counts v x
 
 -- a bill has the cost of the version in which its session ended
-bill_costs : (v : Session) (x : Cdr) → Bills v x → x.total_cost.excl_vat ≡ cost_of v
+pub bill_costs : (v : Session) (x : Cdr) → Bills v x → x.total_cost.excl_vat ≡ cost_of v
 bill_costs v x b = sym (ap (λ z. elim z [ None ↦ pos 0 | Some cost ↦ cost.excl_vat ]) b.cost)
 
 -- and a credit that negated

@@ -1,5 +1,5 @@
 -- The order of an orderly past: by moments, and by places.
-use Rattle.std.proofs.Common.{◌≡◌, ◌⊎◌, ◌<◌, ◌≤◌, ℤ, List, [], ◌∷◌, ◌++◌, inl, inr, refl, sym, ap, subst, ◌∙◌, arith}
+use Rattle.std.proofs.Common.{◌≡◌, ◌⊎◌, ◌<◌, ◌≤◌, ℕ, ℤ, List, [], ◌∷◌, ◌++◌, inl, inr, refl, sym, ap, subst, ◌∙◌, arith}
 use Rattle.std.specs.Prelude.{Option, Some, None, Contains}
 use Rattle.std.specs.List.{last_or}
 use Rattle.tables.proofs.Elements.{in_none, in_front}
@@ -11,15 +11,15 @@ use Rattle.operator_rows.proofs.RowChanges.{in_later, of_cons}
 use Rattle.world_laws.specs.Later.{StandsAfter}
 
 -- what comes after a version may follow it
-after_follows : (price : ℤ) (u : Session) (before : List Session) (v : Session) (after : List Session) → Follow price u (before ++ v ∷ after) → Follow price v after
+after_follows : (price : ℕ → ℤ) (u : Session) (before : List Session) (v : Session) (after : List Session) → Follow price u (before ++ v ∷ after) → Follow price v after
 after_follows price u [] v after h = h.1
 after_follows price u (x ∷ before) v after h = after_follows price x before v after h.1
 
-rest_follows : (price : ℤ) (before : List Session) (v : Session) (after : List Session) → IsOrderly price (before ++ v ∷ after) → Follow price v after
+rest_follows : (price : ℕ → ℤ) (before : List Session) (v : Session) (after : List Session) → IsOrderly price (before ++ v ∷ after) → Follow price v after
 rest_follows price [] v after h = h.2
 rest_follows price (u ∷ before) v after h = after_follows price u before v after h.2
 
-follow_is_later : (price : ℤ) (v : Session) (vs : List Session) (w : Session) → Follow price v vs → Contains vs w → v.last_updated < w.last_updated
+follow_is_later : (price : ℕ → ℤ) (v : Session) (vs : List Session) (w : Session) → Follow price v vs → Contains vs w → v.last_updated < w.last_updated
 follow_is_later price v [] w h i = absurd (in_none w i)
 follow_is_later price v (x ∷ vs) w h i = by (of_cons x vs w i) (λ j. follow_is_later price x vs w h.1 j)
   where
@@ -28,7 +28,7 @@ follow_is_later price v (x ∷ vs) w h i = by (of_cons x vs w i) (λ j. follow_i
     by (inr j) rest = let first = h.0.later in let second = rest j in omega (arith, first, second)
 
 -- what stands after a version is later
-pub after_is_later : (price : ℤ) (vs : List Session) (v w : Session) → IsOrderly price vs → StandsAfter vs v w → v.last_updated < w.last_updated
+pub after_is_later : (price : ℕ → ℤ) (vs : List Session) (v w : Session) → IsOrderly price vs → StandsAfter vs v w → v.last_updated < w.last_updated
 after_is_later price vs v w orderly at =
     follow_is_later price v at.after w (rest_follows price at.before v at.after (subst (IsOrderly price) at.all orderly)) at.later
 
@@ -59,7 +59,7 @@ places (x ∷ vs) v w i j = by (of_cons x vs v i) (of_cons x vs w j) (λ i j. pl
     by (inr v_in) (inl w_is) rest = Before (at_first x vs w v w_is v_in)
     by (inr v_in) (inr w_in) rest = more (rest v_in w_in)
 
-module _ (price : ℤ) (vs : List Session) (orderly : IsOrderly price vs) where
+module _ (price : ℕ → ℤ) (vs : List Session) (orderly : IsOrderly price vs) where
   -- of two versions the later one stands after the other
   pub stands_after : (v w : Session) → Contains vs v → Contains vs w → v.last_updated < w.last_updated → StandsAfter vs v w
   stands_after v w i j below = by (places vs v w i j)
@@ -114,14 +114,14 @@ stands_in (x ∷ vs) v i = by (of_cons x vs v i) (λ j. stands_in vs v j)
     by (inr j) rest = record { before = x ∷ (rest j).before; after = (rest j).after; all = ap (λ l. x ∷ l) (rest j).all }
 
 -- a version that is final is the newest
-pub final_is_newest : (price : ℤ) (vs : List Session) (v : Session) → IsOrderly price vs → Contains vs v → IsFinal v.status → last_or None vs ≡ Some v
+pub final_is_newest : (price : ℕ → ℤ) (vs : List Session) (v : Session) → IsOrderly price vs → Contains vs v → IsFinal v.status → last_or None vs ≡ Some v
 final_is_newest price vs v orderly i final =
     let at = stands_in vs v i in
     let none : at.after ≡ [] = final_is_last price at.before at.after v (subst (IsOrderly price) at.all orderly) final in
     ap (last_or None) at.all ∙ last_joined None at.before v at.after ∙ ap (last_or (Some v)) none
 
 -- no version is later than the newest
-pub none_is_later : (price : ℤ) (vs : List Session) (v l : Session) → IsOrderly price vs → Contains vs v → last_or None vs ≡ Some l → v.last_updated ≤ l.last_updated
+pub none_is_later : (price : ℕ → ℤ) (vs : List Session) (v l : Session) → IsOrderly price vs → Contains vs v → last_or None vs ≡ Some l → v.last_updated ≤ l.last_updated
 none_is_later price vs v l orderly i newest = by (places vs v l i (newest_is_in vs l newest))
   where
     by : Places vs v l → v.last_updated ≤ l.last_updated

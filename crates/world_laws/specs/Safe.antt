@@ -6,6 +6,7 @@ use Rattle.std.specs.List.{AllPairs, last_or}
 use Rattle.std.specs.FinMap.{get, values}
 use Rattle.ocpi_text.specs.Text.{key}
 use Rattle.ocpi_types.specs.Credits.{AreAlike, IsBill, IsCredit, IsCreditOf, is_credit}
+use Rattle.ocpi_types.specs.Prices.{price_at}
 use Rattle.ocpi_types.specs.declared.cdrs.Cdr.{Cdr}
 use Rattle.ocpi_types.specs.declared.sessions.Session.{Session}
 use Rattle.ocpi_types.specs.declared.words.SessionStatus.TheVariants.{Completed}
@@ -26,10 +27,10 @@ pub record Started (w : World) (p reference o id : List ℕ) : Type 0 where
   pub same : key spelled ≡ reference
 
 -- the past of a session is orderly: it begins PENDING, its statuses follow one another, each version is later than the
--- one before it, its energy never falls, its cost is that of its energy at the site's price, and what it is of stays.
--- The newest is what is stored
+-- one before it, its energy never falls, its cost is that of its energy at the site's price at its start, and what it is
+-- of stays. The newest is what is stored
 pub record GoesInOrder (p : Place) (s : operator.State) (id : List ℕ) : Type 0 where
-  pub orderly : IsOrderly s.site.price (past_of id p.versions)
+  pub orderly : IsOrderly (price_at s.site) (past_of id p.versions)
   pub newest : get s.rows.charged.sessions id ≡ last_or None (past_of id p.versions)
 
 -- a version that is held is one of its past; and one that is COMPLETED is the last

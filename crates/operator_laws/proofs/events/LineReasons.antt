@@ -7,6 +7,7 @@ use Rattle.tables.proofs.Elements.{in_single}
 use Rattle.tables.proofs.Options.{none_some}
 use Rattle.ocpi_text.specs.Text.{key}
 use Rattle.ocpi_types.specs.Commands.{reference_of, url_of}
+use Rattle.ocpi_types.specs.Prices.{price_at}
 use Rattle.ocpi_types.specs.declared.authorizations.Authorization.{Authorization}
 use Rattle.ocpi_types.specs.declared.cdrs.Cdr.{Cdr}
 use Rattle.ocpi_types.specs.declared.commands.StartSession.{StartSession}
@@ -306,7 +307,7 @@ module _ (s : State) (i : Input) (acts : List Act) where
       let front = first_part s i acts h.version_acts h.bill_acts inside in
       let back = second_part s i acts h.version_acts h.bill_acts inside in
       let stored = front.changes (Put (row.Session h.after)) (version_stored s i acts at s.rows.request h.after h.version_acts h.versioned) in
-      let same_id = moved_id s.site.price at report h.before h.after h.moves.makes in
+      let same_id = moved_id (price_at s.site h.before.start_date_time) at report h.before h.after h.moves.makes in
       all_acts Why h.version_acts h.bill_acts
       (version_reason s i acts at s.rows.request h.after h.version_acts h.versioned (omega arith) front
       (reasons.Goes h.before (ap (λ z. get s.rows.charged.sessions (key z)) same_id ∙ h.moves.here.stands) (billed_by s i acts at (s.rows.request + 1) h.after h.bill_acts h.billed back)))

@@ -7,6 +7,7 @@ use Rattle.tables.proofs.Elements.{of_map}
 use Rattle.tables.proofs.Options.{not_both}
 use Rattle.ocpi_text.specs.Text.{key}
 use Rattle.ocpi_types.specs.Rows.{key_of}
+use Rattle.ocpi_types.specs.Prices.{price_at}
 use Rattle.ocpi_types.specs.declared.cdrs.Cdr.{Cdr}
 use Rattle.ocpi_types.specs.declared.rows.Change.{Change}
 use Rattle.ocpi_types.specs.declared.rows.Change.TheVariants.{Put, Drop}
@@ -96,16 +97,16 @@ module _ (s t : State) (e : Event) (d : Does s e t) (fine : IsConsistent s) wher
   pub session_put : (v : Session) → Contains (all_changes d.acts) (Put (row.Session v)) → get t.rows.charged.sessions (key v.id) ≡ Some v
   session_put v i = put_now s t e d fine (row.Session v) i
 
-  pub next_session : (v : Session) → Contains (all_changes d.acts) (Put (row.Session v)) → IsNextOf s.site.price (get s.rows.charged.sessions (key v.id)) v
+  pub next_session : (v : Session) → Contains (all_changes d.acts) (Put (row.Session v)) → IsNextOf (price_at s.site) (get s.rows.charged.sessions (key v.id)) v
   next_session v i = (d.follows fine).sessions v (d.to_acts (Put (row.Session v)) i)
 
   -- a version goes in place of the one that stands
-  pub followed : (v w : Session) → get s.rows.charged.sessions (key w.id) ≡ Some v → Contains (all_changes d.acts) (Put (row.Session w)) → MayFollow s.site.price v w
-  followed v w has i = subst (λ o. IsNextOf s.site.price o w) has (next_session w i)
+  pub followed : (v w : Session) → get s.rows.charged.sessions (key w.id) ≡ Some v → Contains (all_changes d.acts) (Put (row.Session w)) → MayFollow (price_at s.site) v w
+  followed v w has i = subst (λ o. IsNextOf (price_at s.site) o w) has (next_session w i)
 
   pub data GoesOn (id : List ℕ) (v : Session) : Type 0 where
     Still : get t.rows.charged.sessions id ≡ Some v → GoesOn id v
-    Next : (w : Session) → get t.rows.charged.sessions id ≡ Some w → Contains (all_changes d.acts) (Put (row.Session w)) → MayFollow s.site.price v w → GoesOn id v
+    Next : (w : Session) → get t.rows.charged.sessions id ≡ Some w → Contains (all_changes d.acts) (Put (row.Session w)) → MayFollow (price_at s.site) v w → GoesOn id v
 
   pub session_goes_on : (id : List ℕ) (v : Session) → get s.rows.charged.sessions id ≡ Some v → GoesOn id v
   session_goes_on id v has = elim (row_goes_on (row.Session v) tt (ap (get s.rows.charged.sessions) (sym own) ∙ has)) [

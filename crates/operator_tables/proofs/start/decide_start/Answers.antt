@@ -4,7 +4,7 @@ use Rattle.ocpi_text.specs.Text.{key}
 use Rattle.site_book.specs.Sites.{location_of}
 use Rattle.operator_tables.specs.declared.decision.Decision.TheVariants.{Refused, Started}
 use Rattle.operator_tables.specs.Start as lines
-use Rattle.operator_tables.proofs.FreePlaces.{in_service, unclaimed, free_of, held_for, none_held}
+use Rattle.operator_tables.proofs.FreePlaces.{in_service, unclaimed, first_start, free_of, held_for, least_for, none_held}
 use Rattle.operator_tables.proofs.start.decide_start.Goals as goal
 
 pub returns-in_default : goal.returns-in_default
@@ -43,6 +43,7 @@ returns-in-Some-find_held c =
     (record { reached = record { placed = record { matched = c.if-is_mismatched.ensures.no refl; location = there }; place = place.held.place }; allowed = allowed })
     place.held.works place.reservation
     (held_for c.args.books.now.state.rows c.args.sender.now c.args.command.now (location_of c.in-Some.at) there.same place.reservation place.evse place.connector place.held)
+    (least_for c.args.books.now.state.rows c.args.sender.now c.args.command.now (location_of c.in-Some.at) there.same place.evse place.least)
     (λ i. Started (place.place_is i) (Some (place.id_is i)))
 
 pub returns-in-None : goal.returns-in-None
@@ -66,9 +67,12 @@ returns-in-Some-free_place c =
     let there = rw c.site_book-site.ensures.site at c.in-Some.ensures.named in
     let allowed = rw c.requires at (c.if-is_barred.ensures.no refl) in
     let no_held = rw c.requires at c.in_default-find_held.ensures.none in
-    let place = rw c.site_book-site.ensures.service at c.in-Some-free_place.ensures.found in
-    lines.Free (location_of c.in-Some.at) place.0 place.1
-    (record { reached = record { placed = record { matched = c.if-is_mismatched.ensures.no refl; location = there }; place = place.2 }; allowed = allowed })
-    (in_service _ _ c.args.books.now.state.rows c.site_book-site.ensures.claims (key place.0.uid) place.3)
+    let place = c.in-Some-free_place.ensures.found in
+    let free = rw c.site_book-site.ensures.service at place.free in
+    lines.Free (location_of c.in-Some.at) place.evse place.connector
+    (record { reached = record { placed = record { matched = c.if-is_mismatched.ensures.no refl; location = there }; place = place.fits }; allowed = allowed })
+    (in_service _ _ c.args.books.now.state.rows c.site_book-site.ensures.claims (key place.evse.uid) free)
     (none_held c.args.books.now.state.rows c.args.sender.now c.args.command.now (location_of c.in-Some.at) there.same no_held)
-    (unclaimed _ _ c.args.books.now.state.rows c.site_book-site.ensures.claims (key place.0.uid) place.3) (λ i. Started (place.4 i) None)
+    (unclaimed _ _ c.args.books.now.state.rows c.site_book-site.ensures.claims (key place.evse.uid) free)
+    (first_start _ c.args.books.now.state.rows c.site_book-site.ensures.claims c.site_book-site.ensures.service c.args.command.now (location_of c.in-Some.at) place.evse place.first)
+    (λ i. Started (place.place_is i) None)
