@@ -34,11 +34,8 @@ class Bridge:
     """One node among its partners and charge points. To be made while the event loop runs."""
 
     def __init__(self, configuration: Configuration) -> None:
-        self._state = state = State(configuration.state)
-        # The origin is kept, so that no new start sets the clock back.
-        origin = state.value("clock.origin")
-        clock = Clock(configuration.clock_factor, None if origin is None else float(origin))
-        state.set_value("clock.origin", repr(clock.origin))
+        self._state = state = _state_of(configuration)
+        clock = _clock_of(configuration, state)
         events = Events(configuration.node.party, clock)
         metrics = Metrics()
         self._feeder = feeder = RevocableFeeder(configuration.node, events, state, metrics)
@@ -120,6 +117,22 @@ class Bridge:
             group.create_task(self._orders.run())
 
 
+def _state_of(configuration: Configuration) -> State:
+    """The state. One that is new beside an older store numbers transactions behind those that nobody knows any more."""
+    state = State(configuration.state, configuration.is_restored)
+    if configuration.node.takes_new_state and state.value("node.was_opened") is None:
+        state.renumber_transactions()
+    return state
+
+
+def _clock_of(configuration: Configuration, state: State) -> Clock:
+    """The clock. Its origin is kept, so that no new start sets it back."""
+    origin = state.value("clock.origin")
+    clock = Clock(configuration.clock_factor, None if origin is None else float(origin))
+    state.set_value("clock.origin", repr(clock.origin))
+    return clock
+
+
 async def run(configuration: Configuration) -> int:
-    """Runs a bridge. Gives the status with which to end."""
+    """Runs a bridge. Gives the status with which to end. Raises WrongState."""
     return await Bridge(configuration).run()

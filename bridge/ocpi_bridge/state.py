@@ -1,5 +1,6 @@
 """What a bridge keeps in its own SQLite file, so that no stop of it loses what it promised to anybody."""
 import sqlite3
+import time
 from collections.abc import Iterator
 from contextlib import contextmanager
 from pathlib import Path
@@ -8,12 +9,21 @@ from typing import Any
 
 # The columns that a file from before may lack, by their tables.
 ADDED = {"ocpp_command": ("until", "REAL")}
+# 2020 in seconds since 1970: from then on the numbers of transactions are counted that begin anew.
+BEGINNING = 1_577_836_800
+BACKUP = ("{}: this is a backup, made at {}. Start once with --restored, but only beside the store that was copied "
+          "with it, and if no partner has seen a later packet of this node")
+
+
+class WrongState(Exception):
+    """The file is not one with which a bridge goes on: why, and what to do."""
 
 
 class State:
     """The file. Whoever keeps something in it has a table of its own (schema.sql), and changes it in a transaction."""
 
-    def __init__(self, path: Path) -> None:
+    def __init__(self, path: Path, is_restored: bool = False) -> None:
+        """A backup is taken only where it `is_restored`. Raises WrongState."""
         path.touch(0o600)
         self._connection = sqlite3.connect(path, isolation_level=None, timeout=10)
         self.query("PRAGMA journal_mode=WAL")
@@ -22,6 +32,27 @@ class State:
         for table, (column, kind) in ADDED.items():
             if column not in {row[1] for row in self.query(f"PRAGMA table_info({table})")}:
                 self.query(f"ALTER TABLE {table} ADD COLUMN {column} {kind}")
+        made = self.value("backup")
+        if made is not None and not is_restored:
+            self.close()
+            raise WrongState(BACKUP.format(path, made))
+
+    @property
+    def is_backup(self) -> bool:
+        """Whether it is one that no bridge has begun to use."""
+        return self.value("backup") is not None
+
+    def restore(self) -> None:
+        """Takes the mark of a backup away, and keeps the number of this restore: the seconds since 1970."""
+        with self.transaction():
+            self.query("DELETE FROM value_of WHERE name = 'backup'")
+            self.set_value("restored", str(int(time.time())))
+            self.renumber_transactions()
+
+    def renumber_transactions(self) -> None:
+        """Has the next transaction numbered as none was that this file does not know: by the seconds since 2020."""
+        self.query("DELETE FROM sqlite_sequence WHERE name = 'ocpp_transaction'")
+        self.query("INSERT INTO sqlite_sequence VALUES ('ocpp_transaction', ?)", int(time.time()) - BEGINNING)
 
     @contextmanager
     def transaction(self) -> Iterator[None]:

@@ -5,10 +5,8 @@ is refused, and so is what comes under another name than this machine's own. A b
 well, where a partner lists it as its own address: so what is sent to partners, by their tokens, is refused.
 """
 import asyncio
-import os
 import re
-import shutil
-import tempfile
+import sqlite3
 import time
 from collections.abc import Awaitable, Callable
 from functools import partial
@@ -17,6 +15,7 @@ from typing import NoReturn
 
 from aiohttp import web
 
+from ..backup import copy_together
 from ..configuration import Configuration
 from ..events import Events
 from ..json_text import Members, NotJson, NumberTooLarge, read_json, write_json
@@ -114,17 +113,19 @@ class Admin:
         return _answer(told)
 
     async def _backup(self, request: web.Request) -> web.Response:
-        """Copies the node's store to a new file, while the node is ended."""
+        """Copies the node's store and the state to a new folder, while the node is ended."""
         to = (await self._body(request)).get("to")
         if not isinstance(to, str) or "\0" in to or not Path(to).is_absolute():
-            raise web.HTTPBadRequest(text="to: wanted is the absolute path of a file that is not there yet")
-        store, copy, began = self._configuration.node.store, Path(to), time.monotonic()
+            raise web.HTTPBadRequest(text="to: wanted is the absolute path of a folder that is not there yet")
+        configuration, began = self._configuration, time.monotonic()
+        copy = partial(copy_together, configuration.node.store, configuration.state, Path(to),
+                       self._events.clock.seconds())
         try:
-            if copy.exists():
-                raise web.HTTPConflict(text="to: there is such a file")
-            size = await self._feeder.while_closed(lambda: asyncio.to_thread(_copy_whole, store, copy))
-        except OSError as fault:
-            raise web.HTTPConflict(text=f"to: no copy was made: {fault.strerror}") from None
+            if Path(to).exists():
+                raise web.HTTPConflict(text="to: there is such a file or folder")
+            size = await self._feeder.while_closed(lambda: asyncio.to_thread(copy))
+        except (OSError, sqlite3.Error) as fault:
+            raise web.HTTPConflict(text=f"to: no copy was made: {getattr(fault, 'strerror', fault)}") from None
         return _answer({"bytes": size, "seconds": round(time.monotonic() - began, 3)})
 
     async def _metrics_text(self, _: web.Request) -> web.Response:
@@ -179,19 +180,6 @@ class Admin:
 
 def _answer(value: object, status: int = 200) -> web.Response:
     return web.Response(text=write_json(value), status=status, content_type="application/json", headers=HEADERS)
-
-
-def _copy_whole(source: Path, copy: Path) -> int:
-    """Copies a file to a new one of mode 0600, which has its name once all of it is on the disk. Tells its bytes."""
-    with tempfile.NamedTemporaryFile(dir=copy.parent) as written, source.open("rb") as read:
-        shutil.copyfileobj(read, written)
-        written.flush()
-        os.fsync(written.fileno())
-        os.link(written.name, copy)
-    folder = os.open(copy.parent, os.O_RDONLY)
-    os.fsync(folder)
-    os.close(folder)
-    return copy.stat().st_size
 
 
 async def _page(request: web.Request) -> web.FileResponse:

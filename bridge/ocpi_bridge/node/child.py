@@ -9,6 +9,8 @@ from ..json_text import Members, read_json
 from .transcript import Transcript
 
 LOG = logging.getLogger("node")
+NEW_STATE = ("the store has rows, and `state` is a new file, which knows nothing of them. Bring back the one that "
+             "belongs to the store; where that is lost, start once with --new-state")
 # Longer than any line that a node writes.
 MOST_BYTES = 64 * 1024 * 1024
 LOCKED = "another program has it open"
@@ -21,23 +23,26 @@ class ChildEnded(Exception):
 class Child:
     """A running program. It is in a session of its own, so that a signal from the terminal reaches the bridge alone."""
 
-    def __init__(self, process: Process, settings: NodeSettings) -> None:
+    def __init__(self, process: Process, settings: NodeSettings, is_known: bool) -> None:
         assert process.stdin and process.stdout and process.stderr
         self._process, self._input, self._output = process, process.stdin, process.stdout
-        self._settings = settings
+        self._settings, self._is_known = settings, is_known
         self._transcript: Transcript | None = None
         self._refusal, self.found_lock = 0, False
+        # Whether the store has to be the very one that was copied with the state.
+        self.is_backup = False
         # Whether the output ended within a line.
         self.was_cut = False
         self._errors = asyncio.create_task(self._log_errors(process.stderr))
 
     @classmethod
     async def start(cls, settings: NodeSettings, existing: bool) -> "Child":
-        """Starts the program. Raises OSError where it cannot be started."""
+        """Starts the program, whose store is `existing` where the state knows it. Raises OSError where it cannot be
+        started."""
         words = ["node", settings.party, "--store", str(settings.store), *(["--existing"] if existing else [])]
         process = await asyncio.create_subprocess_exec(
             settings.program, *words, stdin=PIPE, stdout=PIPE, stderr=PIPE, limit=MOST_BYTES, start_new_session=True)
-        return cls(process, settings)
+        return cls(process, settings, existing)
 
     async def open(self, last_seen: int) -> int:
         """Feeds the setup, and gives the serial of the last packet that the node sent. Raises ChildEnded.
@@ -52,6 +57,10 @@ class Child:
             self._refusal, fault = 2, "the node refuses its setup"
         elif opened["serial"] < last_seen:
             self._refusal, fault = 3, f"the store is a copy from before serial {last_seen} was seen"
+        elif self.is_backup and opened["serial"] != last_seen:
+            self._refusal, fault = 3, "the store is not the one that was copied with `state`: bring back both"
+        elif opened["rows"] > 0 and not (self._is_known or self._settings.takes_new_state):
+            self._refusal, fault = 3, NEW_STATE
         if self._refusal:
             LOG.error("%s: %s", fault, line.decode().rstrip())
             raise ChildEnded()
@@ -87,8 +96,8 @@ class Child:
         return line
 
     async def end(self) -> int:
-        """Ends the program's input, and waits. Gives its status: 128 more of a signal, 2 of a wrong setup, 3 of an
-        older store."""
+        """Ends the program's input, and waits. Gives its status: 128 more of a signal, 2 of a wrong setup, 3 of a
+        store that is older than the state, or is not known to it."""
         self._input.close()
         await self._output.read()
         await self._errors

@@ -29,7 +29,13 @@ class RevocableFeeder(Feeder):
         return False
 
     async def _open(self, child: Child) -> None:
+        child.is_backup = self._state.is_backup and self._line is None
         left = [waiting.event for waiting in self._line.waiting] if self._line is not None else []
         for listener in self.before_opening:
             listener(left)
         await super()._open(child)
+
+    def _judge_kept_line(self, serial: int) -> None:
+        if self._state.is_backup:
+            self._state.restore()
+        super()._judge_kept_line(serial)

@@ -127,8 +127,11 @@ class Client:
     async def _ask(self, packet: Packet, partner: Partner) -> bool:
         """Asks a partner for what a request says, and hands on its answer. True where it answered."""
         name = _name(packet) if partner.kind == "ocpi" and packet.kind in ONCE else None
-        headers = {"X-Request-ID": f"{packet.sender}/{packet.serial}",
-                   "X-Correlation-ID": f"{packet.sender}/{packet.request}",
+        # A node that was restored gives numbers again, which no node has seen. Of other partners nobody knows.
+        number = self._state.value("restored") if partner.kind == "ocpi" else None
+        restored = "" if number is None else f"/{number}"
+        headers = {"X-Request-ID": f"{packet.sender}/{packet.serial}{restored}",
+                   "X-Correlation-ID": f"{packet.sender}/{packet.request}{restored}",
                    **routing_headers(packet.sender, packet.receiver)}
         if partner.kind == "node" and packet.kind in AGED:
             headers["X-Order-Age"] = str(self._orders.age(packet))

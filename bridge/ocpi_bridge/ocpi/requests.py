@@ -3,6 +3,7 @@ import hashlib
 import json
 import logging
 import re
+import time
 import uuid
 
 from ..parties import party_key, same_party
@@ -48,7 +49,9 @@ class Requests:
             return number
 
     def _new(self) -> int:
-        number = int(self._state.value("last_request") or "0") + 1
+        """A number that was given to no request. A new state has none of those that were given before it, so it begins
+        behind them all: with the milliseconds since 1970."""
+        number = int(self._state.value("last_request") or time.time() * 1000) + 1
         self._state.set_value("last_request", str(number))
         return number
 
