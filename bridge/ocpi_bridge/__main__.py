@@ -2,6 +2,7 @@
 import argparse
 import asyncio
 import resource
+import sqlite3
 import sys
 from dataclasses import replace
 from getpass import getpass
@@ -43,6 +44,9 @@ def main() -> int:
     except WrongState as wrong:
         print(wrong, file=sys.stderr)
         return 3
+    except sqlite3.Error as fault:
+        print(f"{configuration.state}: {fault}", file=sys.stderr)
+        return 1
 
 
 sys.exit(main())

@@ -62,7 +62,8 @@ class Bridge:
         late = LateCommands(state, events, feeder.feed)
         interfaces = Interfaces(configuration.ocpi.url, events, objects, requests, locations, feeder.feed,
                                 self._client.takes_orders, feeder.revoke, *([late.expect] if ocpp else ()))
-        server = Server(events, partners, Credentials(configuration, partners, exchange), interfaces, metrics)
+        server = Server(events, partners, Credentials(configuration, partners, exchange), interfaces, metrics,
+                        state.room)
         admin = Admin(configuration, state, events, feeder, objects, partners, metrics, locations, central_system,
                       self._client.takes_orders)
         self._listeners = [Listener("ocpi", configuration.ocpi.listen, server.application()),
@@ -89,7 +90,8 @@ class Bridge:
         for number in (signal.SIGTERM, signal.SIGINT):
             asyncio.get_running_loop().add_signal_handler(number, stopping.set)
         node, serving = asyncio.create_task(self._feeder.run()), asyncio.create_task(self._serve(opened))
-        tasks: list[asyncio.Task[Any]] = [node, serving, asyncio.create_task(stopping.wait())]
+        tasks: list[asyncio.Task[Any]] = [node, serving, asyncio.create_task(stopping.wait()),
+                                          asyncio.create_task(self._state.room.run())]
         await asyncio.wait(tasks, return_when=asyncio.FIRST_COMPLETED)
         for listener in self._listeners:
             listener.stop()

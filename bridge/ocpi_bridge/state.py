@@ -6,6 +6,8 @@ from contextlib import contextmanager
 from pathlib import Path
 from typing import Any
 
+from .room import Room
+
 
 # The columns that a file from before may lack, by their tables.
 ADDED = {"ocpp_command": ("until", "REAL")}
@@ -20,10 +22,14 @@ class WrongState(Exception):
 
 
 class State:
-    """The file. Whoever keeps something in it has a table of its own (schema.sql), and changes it in a transaction."""
+    """The file. Whoever keeps something in it has a table of its own (schema.sql), and changes it in a transaction.
+
+    Where its disk is full NoRoom is raised, which `room` keeps, as of all files of the bridge.
+    """
 
     def __init__(self, path: Path, is_restored: bool = False) -> None:
         """A backup is taken only where it `is_restored`. Raises WrongState."""
+        self._path, self.room = path, Room()
         path.touch(0o600)
         self._connection = sqlite3.connect(path, isolation_level=None, timeout=10)
         self.query("PRAGMA journal_mode=WAL")
@@ -61,12 +67,22 @@ class State:
             yield
             return
         self.query("BEGIN IMMEDIATE")
-        with self._connection:
+        with self._noting_room(), self._connection:
             yield
+
+    @contextmanager
+    def _noting_room(self) -> Iterator[None]:
+        try:
+            yield
+        except sqlite3.OperationalError as fault:
+            if getattr(fault, "sqlite_errorcode", None) == sqlite3.SQLITE_FULL:
+                raise self.room.lacks("state", self._path) from None
+            raise
 
     def query(self, statement: str, *values: object) -> list[Any]:
         """Carries out a statement, and gives its rows."""
-        return self._connection.execute(statement, values).fetchall()
+        with self._noting_room():
+            return self._connection.execute(statement, values).fetchall()
 
     def version(self) -> int:
         """Another number once another process has changed the file."""

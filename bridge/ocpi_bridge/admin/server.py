@@ -24,6 +24,7 @@ from ..ocpi.locations import Locations
 from ..ocpi.objects import Objects
 from ..ocpi.partners import Partners
 from ..ocpp.central_system import CentralSystem
+from ..room import NoRoom
 from ..state import State
 from .metrics import Metrics
 from .outstanding import Outstanding
@@ -43,6 +44,7 @@ OWN_NAME = re.compile(r"(localhost|127(\.\d{1,3}){3}|\[::1\])(:\d+)?")
 FAILURES = {
     NotJson: (400, "the body is no JSON that a node reads"), NodeEnded: (503, "the bridge is ending"),
     NumberTooLarge: (400, "the body has a number of a size that no node takes"),
+    NoRoom: (503, "nothing was done: a disk is full, and the log says which"),
     OutcomeLost: (504, "carried out, but a stop of the node lost what came of it: see the lists")}
 # Seconds within which a tick must have been answered, and the least seconds between two looks at what a page shows.
 HEALTHY_WITHIN = 5.0
@@ -60,7 +62,7 @@ class Admin:
         """`locations` are an operator's. `takes_orders` says whether a command more may wait for a partner."""
         self._configuration, self._events, self._feeder, self._metrics = configuration, events, feeder, metrics
         self._objects, self._locations, self._central_system = objects, locations, central_system
-        self._takes_orders = takes_orders
+        self._takes_orders, self._room = takes_orders, state.room
         self._outstanding = outstanding = Outstanding(state, objects, lambda: feeder.is_open)
         is_operator = configuration.is_operator
         feeder.before_commit.append(outstanding.note)
@@ -132,7 +134,8 @@ class Admin:
         return web.Response(text=self._metrics.text(), headers={"Content-Type": "text/plain; version=0.0.4"})
 
     async def _health(self, _: web.Request) -> web.Response:
-        is_healthy = self._feeder.is_open and time.monotonic() <= self._feeder.ticked + HEALTHY_WITHIN
+        is_healthy = (self._room.is_there and self._feeder.is_open
+                      and time.monotonic() <= self._feeder.ticked + HEALTHY_WITHIN)
         return _answer({"healthy": is_healthy}, 200 if is_healthy else 503)
 
     async def _stream(self, request: web.Request) -> NoReturn:
@@ -168,6 +171,8 @@ class Admin:
 
     async def _body(self, request: web.Request, is_operators: bool | None = None) -> Members:
         """The JSON object that a request carries, where the node has the role that the request wants."""
+        if not self._room.is_there:
+            raise NoRoom()
         if request.content_type != "application/json":
             raise web.HTTPUnsupportedMediaType(text="Content-Type: wanted is application/json")
         body = read_json(await request.read())

@@ -2,10 +2,14 @@
 import asyncio
 import logging
 from asyncio.subprocess import PIPE, Process
+from collections.abc import Callable
 from contextlib import suppress
+from functools import partial
+from pathlib import Path
 
 from ..configuration import NodeSettings
 from ..json_text import Members, read_json
+from ..room import FULL, Room
 from .transcript import Transcript
 
 LOG = logging.getLogger("node")
@@ -13,7 +17,7 @@ NEW_STATE = ("the store has rows, and `state` is a new file, which knows nothing
              "belongs to the store; where that is lost, start once with --new-state")
 # Longer than any line that a node writes.
 MOST_BYTES = 64 * 1024 * 1024
-LOCKED = "another program has it open"
+LOCKED, NO_ROOM = "another program has it open", "the disk is full"
 
 
 class ChildEnded(Exception):
@@ -28,10 +32,11 @@ class Child:
         self._process, self._input, self._output = process, process.stdin, process.stdout
         self._settings, self._is_known = settings, is_known
         self._transcript: Transcript | None = None
-        self._refusal, self.found_lock = 0, False
+        self._refusal, self.found_lock, self.found_no_room = 0, False, False
+        self.room = Room()
         # Whether the store has to be the very one that was copied with the state.
         self.is_backup = False
-        # Whether the output ended within a line.
+        # Whether the output ended within a line, or the transcript has not all of it.
         self.was_cut = False
         self._errors = asyncio.create_task(self._log_errors(process.stderr))
 
@@ -65,16 +70,28 @@ class Child:
             LOG.error("%s: %s", fault, line.decode().rstrip())
             raise ChildEnded()
         if self._settings.transcript is not None:
-            self._transcript = Transcript(self._settings.transcript)
-            self._transcript.echo(self._settings.setup_line.encode() + b"\n")
-            self._transcript.append(line)
+            self._record(partial(self._begin_transcript, self._settings.transcript, line))
         return int(opened["serial"])
 
+    def _begin_transcript(self, path: Path, line: bytes) -> None:
+        self._transcript = Transcript(path)
+        self._transcript.echo(self._settings.setup_line.encode() + b"\n")
+        self._transcript.append(line)
+
+    def _record(self, write: Callable[[], None]) -> None:
+        """Writes to the transcript. Raises NoRoom."""
+        try:
+            write()
+        except OSError as fault:
+            if fault.errno in FULL and self._settings.transcript is not None:
+                raise self.room.lacks("transcript", self._settings.transcript) from None
+            raise
+
     async def write(self, line: str) -> None:
-        """Feeds a line. The transcript has it before the program does. Raises ChildEnded."""
+        """Feeds a line. The transcript has it before the program does. Raises ChildEnded and NoRoom."""
         ended = line.encode() + b"\n"
         if self._transcript is not None:
-            self._transcript.echo(ended)
+            self._record(partial(self._transcript.echo, ended))
         try:
             self._input.write(ended)
             await self._input.drain()
@@ -82,10 +99,13 @@ class Child:
             raise ChildEnded() from None
 
     async def read(self) -> Members:
-        """The next line that the program writes. Raises ChildEnded where there is none, or where it was cut."""
+        """The next line that the program writes. Raises ChildEnded where there is none, or where it was cut, and
+        NoRoom."""
         line = await self._next_line()
         if self._transcript is not None:
-            self._transcript.append(line)
+            self.was_cut = True
+            self._record(partial(self._transcript.append, line))
+            self.was_cut = False
         return dict(read_json(line))
 
     async def _next_line(self) -> bytes:
@@ -112,4 +132,5 @@ class Child:
         async for line in errors:
             text = line.decode(errors="replace").rstrip()
             self.found_lock = self.found_lock or LOCKED in text
+            self.found_no_room = self.found_no_room or NO_ROOM in text
             LOG.warning("%s", text)

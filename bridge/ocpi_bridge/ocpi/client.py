@@ -15,6 +15,7 @@ from ..events import Events, Outcome, Packet
 from ..json_text import Members, NotJson, read_json, write_json
 from ..node.feeder import NodeEnded, repeated
 from ..parties import party_key
+from ..room import NoRoom
 from ..state import State
 from .envelope import INVALID, SUCCESS, routing_headers
 from .exchange import Exchange, NoAddress, NoResponse, NotSent, Response
@@ -154,7 +155,8 @@ class Client:
             _warn(packet, response, told, answer)
         if answer is not None:
             if name is not None:
-                self._state.set_value(name, write_json(answer.members()))
+                with suppress(NoRoom):
+                    self._state.set_value(name, write_json(answer.members()))
             await self.deliver(answer)
         return response.status < 500 and response.status not in TRANSIENT
 
