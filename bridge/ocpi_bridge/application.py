@@ -44,8 +44,8 @@ class Bridge:
         feeder.before_commit += [objects.note, warnings.note]
         feeder.after_commit.append(warnings.act)
         partners = Partners(configuration, state)
-        requests = Requests(state)
-        self._exchange = exchange = Exchange(clock, metrics)
+        self._requests = requests = Requests(state)
+        self._exchange = exchange = Exchange(clock, metrics, state.synced)
         self._orders = orders = Orders(configuration, state, events, objects, requests, feeder.feed)
         feeder.before_opening.append(orders.note_left)
         feeder.before_commit.append(orders.note)
@@ -63,7 +63,7 @@ class Bridge:
         interfaces = Interfaces(configuration.ocpi.url, events, objects, requests, locations, feeder.feed,
                                 self._client.takes_orders, feeder.revoke, *([late.expect] if ocpp else ()))
         server = Server(events, partners, Credentials(configuration, partners, exchange), interfaces, metrics,
-                        state.room)
+                        state)
         admin = Admin(configuration, state, events, feeder, objects, partners, metrics, locations, central_system,
                       self._client.takes_orders)
         self._listeners = [Listener("ocpi", configuration.ocpi.listen, server.application()),
@@ -102,6 +102,7 @@ class Bridge:
         await self._exchange.close()
         for listener in self._listeners:
             await listener.close()
+        await self._state.synced()
         self._state.close()
         fault = None if serving.cancelled() else serving.exception()
         if fault is not None:
@@ -117,6 +118,7 @@ class Bridge:
             group.create_task(self._client.run())
             group.create_task(self._pulling.run())
             group.create_task(self._orders.run())
+            group.create_task(self._requests.run())
 
 
 def _state_of(configuration: Configuration) -> State:

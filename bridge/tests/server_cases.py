@@ -100,7 +100,7 @@ class ServerCase(unittest.IsolatedAsyncioTestCase):
                                 lambda party: self.takes_orders, self.feeder.revoke)
         credentials = Credentials(self.configuration, partners, exchange)
         application = Server(self.events, partners, credentials, interfaces, self.metrics,
-                             self.state.room).application()
+                             self.state).application()
         # What the server feeds by: tests put another thing in its place.
         self.feeding: Callable[[Members], Awaitable[Outcome]] = self.feeder.feed
         self.server = TestServer(application)

@@ -62,7 +62,7 @@ class Admin:
         """`locations` are an operator's. `takes_orders` says whether a command more may wait for a partner."""
         self._configuration, self._events, self._feeder, self._metrics = configuration, events, feeder, metrics
         self._objects, self._locations, self._central_system = objects, locations, central_system
-        self._takes_orders, self._room = takes_orders, state.room
+        self._takes_orders, self._state, self._room = takes_orders, state, state.room
         self._outstanding = outstanding = Outstanding(state, objects, lambda: feeder.is_open)
         is_operator = configuration.is_operator
         feeder.before_commit.append(outstanding.note)
@@ -105,6 +105,7 @@ class Admin:
             raise web.HTTPServiceUnavailable(text="nothing was done: too many orders wait for the operator")
         members = {"token": body} if event == "token" else body | {"owner": True} if event == "service" else body
         outcome = await self._feeder.feed({**members, **self._events.make(event)})
+        await self._state.synced()
         told: Members = {"done": outcome.done, "packets": [packet.members() for packet in outcome.packets]}
         if outcome.word not in ("stepped", "idle"):
             words = " ".join(str(outcome.done[name]) for name in ("done", "name", "field") if name in outcome.done)

@@ -2,14 +2,15 @@
 import asyncio
 import logging
 from asyncio.subprocess import PIPE, Process
-from collections.abc import Callable
-from contextlib import suppress
+from collections.abc import Callable, Iterator
+from contextlib import contextmanager, suppress
 from functools import partial
 from pathlib import Path
 
 from ..configuration import NodeSettings
 from ..json_text import Members, read_json
-from ..room import FULL, Room
+from ..room import FULL
+from ..state import State
 from .transcript import Transcript
 
 LOG = logging.getLogger("node")
@@ -33,7 +34,8 @@ class Child:
         self._settings, self._is_known = settings, is_known
         self._transcript: Transcript | None = None
         self._refusal, self.found_lock, self.found_no_room = 0, False, False
-        self.room = Room()
+        # The state that has to be on the disk before a line is fed, where there is one.
+        self.state: State | None = None
         # Whether the store has to be the very one that was copied with the state.
         self.is_backup = False
         # Whether the output ended within a line, or the transcript has not all of it.
@@ -70,7 +72,7 @@ class Child:
             LOG.error("%s: %s", fault, line.decode().rstrip())
             raise ChildEnded()
         if self._settings.transcript is not None:
-            self._record(partial(self._begin_transcript, self._settings.transcript, line))
+            await self._record(partial(self._begin_transcript, self._settings.transcript, line))
         return int(opened["serial"])
 
     def _begin_transcript(self, path: Path, line: bytes) -> None:
@@ -78,20 +80,30 @@ class Child:
         self._transcript.echo(self._settings.setup_line.encode() + b"\n")
         self._transcript.append(line)
 
-    def _record(self, write: Callable[[], None]) -> None:
-        """Writes to the transcript. Raises NoRoom."""
+    async def _record(self, write: Callable[[], None]) -> None:
+        """Writes to the transcript, by the thread that waits for the disk. Raises NoRoom."""
+        with self._noting_room():
+            if self.state is None:
+                write()
+            else:
+                await self.state.in_writer(write)
+
+    @contextmanager
+    def _noting_room(self) -> Iterator[None]:
         try:
-            write()
+            yield
         except OSError as fault:
-            if fault.errno in FULL and self._settings.transcript is not None:
-                raise self.room.lacks("transcript", self._settings.transcript) from None
+            if fault.errno in FULL and self.state is not None and self._settings.transcript is not None:
+                raise self.state.room.lacks("transcript", self._settings.transcript) from None
             raise
 
     async def write(self, line: str) -> None:
         """Feeds a line. The transcript has it before the program does. Raises ChildEnded and NoRoom."""
         ended = line.encode() + b"\n"
+        if self.state is not None:
+            await self.state.synced()
         if self._transcript is not None:
-            self._record(partial(self._transcript.echo, ended))
+            await self._record(partial(self._transcript.echo, ended))
         try:
             self._input.write(ended)
             await self._input.drain()
@@ -104,7 +116,8 @@ class Child:
         line = await self._next_line()
         if self._transcript is not None:
             self.was_cut = True
-            self._record(partial(self._transcript.append, line))
+            with self._noting_room():
+                self._transcript.append(line)
             self.was_cut = False
         return dict(read_json(line))
 

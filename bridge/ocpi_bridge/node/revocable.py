@@ -35,7 +35,7 @@ class RevocableFeeder(Feeder):
         return False
 
     async def _open(self, child: Child) -> None:
-        child.room = self._state.room
+        child.state = self._state
         child.is_backup = self._state.is_backup and self._line is None
         left = [waiting.event for waiting in self._line.waiting] if self._line is not None else []
         for listener in self.before_opening:

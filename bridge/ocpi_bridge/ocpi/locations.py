@@ -77,7 +77,8 @@ class Locations:
         """The moment at which a place was first seen as it is now."""
         text, moment = write_json(place), self._clock.moment()
         with suppress(NoRoom):
-            self._state.query("INSERT INTO place VALUES (?, ?, ?) ON CONFLICT DO UPDATE SET text = excluded.text,"
-                              " since = excluded.since WHERE text <> excluded.text", name, text, moment)
+            self._state.query("INSERT INTO place (name, text, since) VALUES (?, ?, ?) ON CONFLICT DO UPDATE"
+                              " SET text = excluded.text, since = excluded.since WHERE text <> excluded.text", name,
+                              text, moment)
         rows = self._state.query("SELECT since FROM place WHERE name = ?", name)
         return str(rows[0][0]) if rows else moment

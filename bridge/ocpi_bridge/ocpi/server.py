@@ -12,7 +12,8 @@ from ..json_text import NotJson, NumberTooLarge, read_json
 from ..listening import Handler
 from ..node.feeder import NodeEnded, OutcomeLost
 from ..parties import codes
-from ..room import NoRoom, Room
+from ..room import NoRoom
+from ..state import State
 from .credentials import Credentials
 from .envelope import (CLIENT_ERROR, INVALID, SERVER_ERROR, Refusal, answer, is_printable, read_token, routing_headers,
                        written_token)
@@ -48,8 +49,8 @@ class Server:
     """Answers whoever has a token. What a registered partner may ask for is handled by `interfaces`."""
 
     def __init__(self, events: Events, partners: Partners, credentials: Credentials, interfaces: Interfaces,
-                 metrics: Metrics, room: Room) -> None:
-        self._room = room
+                 metrics: Metrics, state: State) -> None:
+        self._state, self._room = state, state.room
         self._party, self._clock, self._partners = events.node, events.clock, partners
         self._credentials, self._interfaces, self._metrics = credentials, interfaces, metrics
         self._large = asyncio.Semaphore(MOST_LARGE)
@@ -71,6 +72,7 @@ class Server:
             if not self._room.is_there:
                 raise NoRoom()
             response = await self._carry_out(request, handler)
+            await self._state.synced()
         except Refusal as refusal:
             response = self._error(refusal.http_status, refusal.status_code, refusal.message)
         except web.HTTPException as exception:

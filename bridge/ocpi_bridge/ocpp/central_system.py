@@ -43,7 +43,7 @@ class CentralSystem:
     def __init__(self, settings: OcppSettings, events: Events, state: State, feeder: Feeder, objects: Objects,
                  count: Callable[[str], None]) -> None:
         """`count` adds to a metric."""
-        self._clock, self._objects = events.clock, objects
+        self._clock, self._objects, self._synced = events.clock, objects, state.synced
         self._site = Site(settings, events, state, feeder, objects)
         self._orders = Orders(self._site, self._spawn)
         self._readings = Readings(self._site, state, count)
@@ -97,7 +97,7 @@ class CentralSystem:
         async def answer(action: str, payload: Members) -> Members:
             return await when_there_is_room(partial(self._reports.answer, charge_point, socket, action, payload))
 
-        connection = Connection(socket, self._clock, answer, abort, charge_point.settings.id)
+        connection = Connection(socket, self._clock, answer, abort, charge_point.settings.id, self._synced)
         if charge_point.connection is not None:
             self._spawn(charge_point.connection.close)
         charge_point.connection = connection
