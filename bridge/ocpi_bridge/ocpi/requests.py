@@ -6,9 +6,11 @@ import logging
 import re
 import time
 import uuid
+from contextlib import suppress
 
 from ..events import Packet
 from ..parties import party_key, same_party
+from ..room import NoRoom
 from ..state import State
 
 # What stands before such a text in the `response_url` that a node writes, and at a bridge before the number alone.
@@ -83,7 +85,10 @@ class Requests:
     async def run(self) -> None:
         """Forgets what is settled, until it is cancelled: a little each second, and then again in an hour."""
         while True:
-            await asyncio.sleep(1.0 if self.forget(time.time()) else 3600.0)
+            is_left = False
+            with suppress(NoRoom):
+                is_left = self.forget(time.time())
+            await asyncio.sleep(1.0 if is_left else 3600.0)
 
 
 FORGET = (
