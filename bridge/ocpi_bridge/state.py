@@ -14,7 +14,7 @@ from contextlib import contextmanager
 from pathlib import Path
 from typing import Any, TypeVar
 
-from .room import Room
+from .room import Room, has_room
 
 Result = TypeVar("Result")
 FOLDER = Path(__file__).parent
@@ -113,7 +113,9 @@ class State:
         try:
             yield
         except sqlite3.OperationalError as fault:
-            if getattr(fault, "sqlite_errorcode", None) == sqlite3.SQLITE_FULL:
+            code = getattr(fault, "sqlite_errorcode", 0)
+            # A file beside the log that cannot grow is told as a disk that fails.
+            if code == sqlite3.SQLITE_FULL or code & 0xff == sqlite3.SQLITE_IOERR and not has_room(self._path.parent):
                 raise self.room.lacks("state", self._path) from None
             raise
 

@@ -18,6 +18,12 @@ NODES_URL = "https://node.invalid/"
 RESULTS_PATH = "/ocpi/2.2.1/sender/commands/results/"
 # For how many seconds numbers and addresses are kept at least, and how many are forgotten at once.
 KEPT_FOR, AT_ONCE = 30 * 86_400, 500
+FORGET = (
+    """DELETE FROM request_digest WHERE (partner, correlation, digest) IN (SELECT partner, correlation, digest
+    FROM request_digest WHERE given_at < ? LIMIT ?) RETURNING number""",
+    f"""DELETE FROM response_url WHERE (partner, number) IN (SELECT partner, number FROM response_url WHERE kept_at < ?
+    AND NOT EXISTS (SELECT 1 FROM push_that_waits WHERE receiver = partner
+    AND subject = 'command_result ' || upper('{NODES_URL}' || partner || '/' || number)) LIMIT ?) RETURNING number""")
 
 log = logging.getLogger(__name__)
 
@@ -89,14 +95,6 @@ class Requests:
             with suppress(NoRoom):
                 is_left = self.forget(time.time())
             await asyncio.sleep(1.0 if is_left else 3600.0)
-
-
-FORGET = (
-    """DELETE FROM request_digest WHERE (partner, correlation, digest) IN (SELECT partner, correlation, digest
-    FROM request_digest WHERE given_at < ? LIMIT ?) RETURNING number""",
-    f"""DELETE FROM response_url WHERE (partner, number) IN (SELECT partner, number FROM response_url WHERE kept_at < ?
-    AND NOT EXISTS (SELECT 1 FROM push_that_waits WHERE receiver = partner
-    AND subject = 'command_result ' || upper('{NODES_URL}' || partner || '/' || number)) LIMIT ?) RETURNING number""")
 
 
 class SentOnce:
