@@ -8,7 +8,7 @@ from .cases import OperatorCase, ProviderCase
 from .charge_point_frames import ChargePoint
 from .ocpi_objects import start_session
 from .ocpi_party import now
-from .running import Members, RunningBridge
+from .running import Members, RunningBridge, eventually
 
 
 async def status_of_start(bridge: RunningBridge) -> int:
@@ -17,8 +17,14 @@ async def status_of_start(bridge: RunningBridge) -> int:
     return await bridge.ended()
 
 
-def put_back(backup: Path, bridge: RunningBridge) -> None:
-    """Puts the files of a backup in the places of those that stand there."""
+async def put_back(backup: Path, bridge: RunningBridge) -> None:
+    """Kills a bridge, and puts the files of a backup in the places of those that stand there."""
+    node = Path(f"/proc/{bridge.node_pid()}")
+    bridge.kill()
+
+    async def has_ended() -> bool:
+        return not (node / "cmdline").exists() or not (node / "cmdline").read_bytes()
+    await eventually(has_ended, "the node ends behind its bridge")
     for file in bridge.folder.glob("*.db*"):
         file.unlink()
     shutil.copy(backup / "store.db", bridge.store)
@@ -65,8 +71,7 @@ class OperatorRestore(OperatorCase):
         await charge_point.call("MeterValues", {"connectorId": 1, "transactionId": transaction, "meterValue": [
             {"timestamp": now(), "sampledValue": [{"value": "1500"}]}]})
         await charge_point.close()
-        self.bridge.kill()
-        put_back(self.backup, self.bridge)
+        await put_back(self.backup, self.bridge)
         for _ in range(2):
             self.assertEqual(3, await status_of_start(self.bridge))
         self.assertIn("bridge.db: this is a backup, made at 20", self.bridge.log())
@@ -135,8 +140,7 @@ class ProviderRestore(ProviderCase):
         self.operator.bridge_token = changed.data["token"]
         self.assert_status(await self.operator.ask("GET", url), 200, 1000)
         await self.bridge.admin_post("/backup", {"to": str(backup)})
-        self.bridge.kill()
-        put_back(backup, self.bridge)
+        await put_back(backup, self.bridge)
         self.bridge.words = ["--restored"]
         await self.bridge.start()
         self.assert_status(await self.operator.ask("GET", url), 200, 1000)
