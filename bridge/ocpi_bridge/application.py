@@ -34,11 +34,8 @@ class Bridge:
     """One node among its partners and charge points. To be made while the event loop runs."""
 
     def __init__(self, configuration: Configuration) -> None:
-        self._state = state = State(configuration.state)
-        # The origin is kept, so that no new start sets the clock back.
-        origin = state.value("clock.origin")
-        clock = Clock(configuration.clock_factor, None if origin is None else float(origin))
-        state.set_value("clock.origin", repr(clock.origin))
+        self._state = state = _state_of(configuration)
+        clock = _clock_of(configuration, state)
         events = Events(configuration.node.party, clock)
         metrics = Metrics()
         self._feeder = feeder = RevocableFeeder(configuration.node, events, state, metrics)
@@ -47,8 +44,8 @@ class Bridge:
         feeder.before_commit += [objects.note, warnings.note]
         feeder.after_commit.append(warnings.act)
         partners = Partners(configuration, state)
-        requests = Requests(state)
-        self._exchange = exchange = Exchange(clock, metrics)
+        self._requests = requests = Requests(state)
+        self._exchange = exchange = Exchange(clock, metrics, state.synced)
         self._orders = orders = Orders(configuration, state, events, objects, requests, feeder.feed)
         feeder.before_opening.append(orders.note_left)
         feeder.before_commit.append(orders.note)
@@ -65,7 +62,8 @@ class Bridge:
         late = LateCommands(state, events, feeder.feed)
         interfaces = Interfaces(configuration.ocpi.url, events, objects, requests, locations, feeder.feed,
                                 self._client.takes_orders, feeder.revoke, *([late.expect] if ocpp else ()))
-        server = Server(events, partners, Credentials(configuration, partners, exchange), interfaces, metrics)
+        server = Server(events, partners, Credentials(configuration, partners, exchange), interfaces, metrics,
+                        state)
         admin = Admin(configuration, state, events, feeder, objects, partners, metrics, locations, central_system,
                       self._client.takes_orders)
         self._listeners = [Listener("ocpi", configuration.ocpi.listen, server.application()),
@@ -92,7 +90,8 @@ class Bridge:
         for number in (signal.SIGTERM, signal.SIGINT):
             asyncio.get_running_loop().add_signal_handler(number, stopping.set)
         node, serving = asyncio.create_task(self._feeder.run()), asyncio.create_task(self._serve(opened))
-        tasks: list[asyncio.Task[Any]] = [node, serving, asyncio.create_task(stopping.wait())]
+        tasks: list[asyncio.Task[Any]] = [node, serving, asyncio.create_task(stopping.wait()),
+                                          asyncio.create_task(self._state.room.run())]
         await asyncio.wait(tasks, return_when=asyncio.FIRST_COMPLETED)
         for listener in self._listeners:
             listener.stop()
@@ -103,6 +102,7 @@ class Bridge:
         await self._exchange.close()
         for listener in self._listeners:
             await listener.close()
+        await self._state.synced()
         self._state.close()
         fault = None if serving.cancelled() else serving.exception()
         if fault is not None:
@@ -118,8 +118,25 @@ class Bridge:
             group.create_task(self._client.run())
             group.create_task(self._pulling.run())
             group.create_task(self._orders.run())
+            group.create_task(self._requests.run())
+
+
+def _state_of(configuration: Configuration) -> State:
+    """The state. One that is new beside an older store numbers transactions behind those that nobody knows any more."""
+    state = State(configuration.state, configuration.is_restored)
+    if configuration.node.takes_new_state and state.value("node.was_opened") is None:
+        state.renumber_transactions()
+    return state
+
+
+def _clock_of(configuration: Configuration, state: State) -> Clock:
+    """The clock. Its origin is kept, so that no new start sets it back."""
+    origin = state.value("clock.origin")
+    clock = Clock(configuration.clock_factor, None if origin is None else float(origin))
+    state.set_value("clock.origin", repr(clock.origin))
+    return clock
 
 
 async def run(configuration: Configuration) -> int:
-    """Runs a bridge. Gives the status with which to end."""
+    """Runs a bridge. Gives the status with which to end. Raises WrongState."""
     return await Bridge(configuration).run()

@@ -25,13 +25,17 @@ class WrongConfiguration(Exception):
 
 @dataclass(frozen=True)
 class NodeSettings:
-    """The program, the party that it is, and its files. `setup_line` is the setup on one line."""
+    """The program, the party that it is, and its files. `setup_line` is the setup on one line.
+
+    Only with `takes_new_state` may the store have rows where the state is new.
+    """
 
     program: Path
     party: str
     setup_line: str
     store: Path
     transcript: Path | None
+    takes_new_state: bool = False
 
 
 @dataclass(frozen=True)
@@ -90,7 +94,10 @@ class PartnerSettings:
 
 @dataclass(frozen=True)
 class Configuration:
-    """All of it. `site` is the node's site in the setup, and None for a provider. Where to listen is HOST:PORT."""
+    """All of it. `site` is the node's site in the setup, and None for a provider. Where to listen is HOST:PORT.
+
+    The state may be a backup where it `is_restored`.
+    """
 
     node: NodeSettings
     state: Path
@@ -101,6 +108,7 @@ class Configuration:
     clock_factor: float
     site: Members | None
     setup: Members
+    is_restored: bool = False
 
     @property
     def is_operator(self) -> bool:

@@ -99,7 +99,8 @@ class ServerCase(unittest.IsolatedAsyncioTestCase):
         interfaces = Interfaces(URL_OF_BRIDGE, self.events, self.objects, self.requests, locations, self.feed,
                                 lambda party: self.takes_orders, self.feeder.revoke)
         credentials = Credentials(self.configuration, partners, exchange)
-        application = Server(self.events, partners, credentials, interfaces, self.metrics).application()
+        application = Server(self.events, partners, credentials, interfaces, self.metrics,
+                             self.state).application()
         # What the server feeds by: tests put another thing in its place.
         self.feeding: Callable[[Members], Awaitable[Outcome]] = self.feeder.feed
         self.server = TestServer(application)

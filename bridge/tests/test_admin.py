@@ -170,22 +170,20 @@ class OperatorTest(AdminTest):
     party = "BE/BEC"
 
     async def test_backup_waits_for_nothing_and_is_whole(self) -> None:
-        """The copy is made of a node that has ended: one file, for its owner alone, which `settle` reads."""
+        """The copy is made of a node that has ended: one file of the store, which `settle` reads."""
         await self.bridge.admin_post("/service", {"evse_uid": "E1", "in_service": False})
-        copy = self.folder / "copy.db"
+        copy = self.folder / "copy"
         made, fed = await asyncio.gather(
             self.bridge.admin_post("/backup", {"to": str(copy)}),
             self.bridge.admin_post("/service", {"evse_uid": "E2", "in_service": False}))
         self.assertEqual((made["status"], fed["status"]), (200, 200))
-        self.assertEqual((made["answer"]["bytes"], copy.stat().st_mode & 0o777), (copy.stat().st_size, 0o600))
-        settled = subprocess.run([PROGRAM, "settle", copy], capture_output=True, timeout=30)
+        before = (copy / "store.db").read_bytes()
+        settled = subprocess.run([PROGRAM, "settle", copy / "store.db"], capture_output=True, timeout=30)
         self.assertEqual((settled.returncode, settled.stdout), (0, b""))
-        before = copy.read_bytes()
-        self.assertEqual(await self.status_of("POST", "/backup", json={"to": str(copy)}), 409)
-        self.assertEqual(await self.status_of("POST", "/backup", json={"to": str(self.folder / "none" / "a.db")}), 409)
-        self.assertEqual(await self.status_of("POST", "/backup", json={"to": "copy.db"}), 400)
-        self.assertEqual(copy.read_bytes(), before)
-        self.assertEqual(sorted(path.name for path in self.folder.iterdir()), ["bridge", "copy.db"])
+        for to, status in ((copy, 409), (copy / "store.db", 409), (self.folder / "none" / "a", 409), ("copy", 400)):
+            self.assertEqual(await self.status_of("POST", "/backup", json={"to": str(to)}), status)
+        self.assertEqual((copy / "store.db").read_bytes(), before)
+        self.assertEqual(sorted(path.name for path in self.folder.iterdir()), ["bridge", "copy"])
         credited = await self.bridge.admin_post("/credits", {"session_id": "S"})
         self.assertEqual(credited["answer"]["done"]["done"], "idle")
 

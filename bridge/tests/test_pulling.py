@@ -127,7 +127,7 @@ class Sessions(ClientCase):
         with self.assertLogs("ocpi_bridge.ocpi.pulling"):
             self.assertEqual(["S0", "S1"], await self.pull())
         self.begin()
-        self.state.set_value("pulled sessions of BE/BEC", "0")
+        self.state.query("DELETE FROM list_pulled")
         self.assertEqual([], await self.pull())
         self.status_code = 1000
         self.party.lists["sessions"][1] |= {"last_updated": "2025-01-01T10:05:00Z"}

@@ -87,7 +87,7 @@ class OperatorServer(ServerCase):
             answer = await self.ask("ocpi", "PUT", "receiver/tokens/DE/EVC/AA01", token, headers=headers)
             self.assertEqual(answer.told, (200, 1000))
         numbers = [outcome.event["packet"]["request"] for outcome in self.outcomes if "packet" in outcome.event]
-        self.assertEqual(numbers, [1, 2, 1, 3, 4])
+        self.assertEqual([number - numbers[0] for number in numbers], [0, 1, 0, 2, 3])
 
     async def test_another_party_has_to_give_a_reference(self) -> None:
         body = ocpi_objects.start_session(ocpi_objects.token("DE/EVC"), "https://evc.example/results/a")

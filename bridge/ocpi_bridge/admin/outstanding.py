@@ -27,11 +27,12 @@ class Outstanding:
         for packet in outcome.packets:
             if packet.kind in PUSHES:
                 subject = " ".join([packet.kind, *(packet.body[name].upper() for name in PUSHES[packet.kind])])
-                self._state.query("INSERT OR REPLACE INTO push_that_waits VALUES (?, ?, ?)",
-                                  party_key(packet.receiver), subject, packet.request)
+                self._state.query("INSERT OR REPLACE INTO push_that_waits (receiver, subject, request)"
+                                  " VALUES (?, ?, ?)", party_key(packet.receiver), subject, packet.request)
             elif packet.kind in COMMANDS:
-                self._state.query("INSERT OR IGNORE INTO command_given VALUES (?, ?, ?, ?, NULL, NULL)", packet.request,
-                                  party_key(packet.receiver), packet.kind, write_json(packet.body))
+                self._state.query("INSERT OR IGNORE INTO command_given (request, operator, kind, body)"
+                                  " VALUES (?, ?, ?, ?)", packet.request, party_key(packet.receiver), packet.kind,
+                                  write_json(packet.body))
         if outcome.event["event"] == "deliver" and outcome.word in ("stepped", "idle"):
             packet = Packet.of(outcome.event["packet"])
             answer = outcome.answer_to(packet.sender, packet.request)
@@ -58,15 +59,16 @@ class Outstanding:
                               " AND result IS NULL", body["result"], body["response_url"].rpartition("/")[2], sender)
         elif packet.kind == "post_cdr" and self._objects.find("cdrs", sender, body["id"]) == body:
             amount = int(Decimal(str(body["total_cost"]["excl_vat"])).scaleb(4))
-            self._state.query("INSERT OR IGNORE INTO owed_for VALUES (?, ?, ?, ?)", sender, party_key(body["id"]),
-                              body["currency"], amount)
+            self._state.query("INSERT OR IGNORE INTO owed_for (operator, record, currency, amount) VALUES (?, ?, ?, ?)",
+                              sender, party_key(body["id"]), body["currency"], amount)
 
     def commands(self, most: int = 1000) -> list[Members]:
         """The newest commands that a provider gave, the newest first, with what was answered and what came of each."""
         return [{"number": number, "operator": operator, "kind": kind, "response": response, "result": result,
                  "body": read_json(body)}
                 for number, operator, kind, body, response, result in self._state.query(
-                    "SELECT * FROM command_given ORDER BY request DESC LIMIT ?", most)]
+                    "SELECT request, operator, kind, body, response, result FROM command_given"
+                    " ORDER BY request DESC LIMIT ?", most)]
 
     def open_commands(self) -> int:
         """How many commands of a provider wait for a response or a result."""

@@ -5,10 +5,8 @@ is refused, and so is what comes under another name than this machine's own. A b
 well, where a partner lists it as its own address: so what is sent to partners, by their tokens, is refused.
 """
 import asyncio
-import os
 import re
-import shutil
-import tempfile
+import sqlite3
 import time
 from collections.abc import Awaitable, Callable
 from functools import partial
@@ -17,6 +15,7 @@ from typing import NoReturn
 
 from aiohttp import web
 
+from ..backup import copy_together
 from ..configuration import Configuration
 from ..events import Events
 from ..json_text import Members, NotJson, NumberTooLarge, read_json, write_json
@@ -25,6 +24,7 @@ from ..ocpi.locations import Locations
 from ..ocpi.objects import Objects
 from ..ocpi.partners import Partners
 from ..ocpp.central_system import CentralSystem
+from ..room import NoRoom
 from ..state import State
 from .metrics import Metrics
 from .outstanding import Outstanding
@@ -44,6 +44,7 @@ OWN_NAME = re.compile(r"(localhost|127(\.\d{1,3}){3}|\[::1\])(:\d+)?")
 FAILURES = {
     NotJson: (400, "the body is no JSON that a node reads"), NodeEnded: (503, "the bridge is ending"),
     NumberTooLarge: (400, "the body has a number of a size that no node takes"),
+    NoRoom: (503, "nothing was done: a disk is full, and the log says which"),
     OutcomeLost: (504, "carried out, but a stop of the node lost what came of it: see the lists")}
 # Seconds within which a tick must have been answered, and the least seconds between two looks at what a page shows.
 HEALTHY_WITHIN = 5.0
@@ -61,7 +62,7 @@ class Admin:
         """`locations` are an operator's. `takes_orders` says whether a command more may wait for a partner."""
         self._configuration, self._events, self._feeder, self._metrics = configuration, events, feeder, metrics
         self._objects, self._locations, self._central_system = objects, locations, central_system
-        self._takes_orders = takes_orders
+        self._takes_orders, self._state, self._room = takes_orders, state, state.room
         self._outstanding = outstanding = Outstanding(state, objects, lambda: feeder.is_open)
         is_operator = configuration.is_operator
         feeder.before_commit.append(outstanding.note)
@@ -104,6 +105,7 @@ class Admin:
             raise web.HTTPServiceUnavailable(text="nothing was done: too many orders wait for the operator")
         members = {"token": body} if event == "token" else body | {"owner": True} if event == "service" else body
         outcome = await self._feeder.feed({**members, **self._events.make(event)})
+        await self._state.synced()
         told: Members = {"done": outcome.done, "packets": [packet.members() for packet in outcome.packets]}
         if outcome.word not in ("stepped", "idle"):
             words = " ".join(str(outcome.done[name]) for name in ("done", "name", "field") if name in outcome.done)
@@ -114,24 +116,27 @@ class Admin:
         return _answer(told)
 
     async def _backup(self, request: web.Request) -> web.Response:
-        """Copies the node's store to a new file, while the node is ended."""
+        """Copies the node's store and the state to a new folder, while the node is ended."""
         to = (await self._body(request)).get("to")
         if not isinstance(to, str) or "\0" in to or not Path(to).is_absolute():
-            raise web.HTTPBadRequest(text="to: wanted is the absolute path of a file that is not there yet")
-        store, copy, began = self._configuration.node.store, Path(to), time.monotonic()
+            raise web.HTTPBadRequest(text="to: wanted is the absolute path of a folder that is not there yet")
+        configuration, began = self._configuration, time.monotonic()
+        copy = partial(copy_together, configuration.node.store, configuration.state, Path(to),
+                       self._events.clock.seconds())
         try:
-            if copy.exists():
-                raise web.HTTPConflict(text="to: there is such a file")
-            size = await self._feeder.while_closed(lambda: asyncio.to_thread(_copy_whole, store, copy))
-        except OSError as fault:
-            raise web.HTTPConflict(text=f"to: no copy was made: {fault.strerror}") from None
+            if Path(to).exists():
+                raise web.HTTPConflict(text="to: there is such a file or folder")
+            size = await self._feeder.while_closed(lambda: asyncio.to_thread(copy))
+        except (OSError, sqlite3.Error) as fault:
+            raise web.HTTPConflict(text=f"to: no copy was made: {getattr(fault, 'strerror', fault)}") from None
         return _answer({"bytes": size, "seconds": round(time.monotonic() - began, 3)})
 
     async def _metrics_text(self, _: web.Request) -> web.Response:
         return web.Response(text=self._metrics.text(), headers={"Content-Type": "text/plain; version=0.0.4"})
 
     async def _health(self, _: web.Request) -> web.Response:
-        is_healthy = self._feeder.is_open and time.monotonic() <= self._feeder.ticked + HEALTHY_WITHIN
+        is_healthy = (self._room.is_there and self._feeder.is_open
+                      and time.monotonic() <= self._feeder.ticked + HEALTHY_WITHIN)
         return _answer({"healthy": is_healthy}, 200 if is_healthy else 503)
 
     async def _stream(self, request: web.Request) -> NoReturn:
@@ -167,6 +172,8 @@ class Admin:
 
     async def _body(self, request: web.Request, is_operators: bool | None = None) -> Members:
         """The JSON object that a request carries, where the node has the role that the request wants."""
+        if not self._room.is_there:
+            raise NoRoom()
         if request.content_type != "application/json":
             raise web.HTTPUnsupportedMediaType(text="Content-Type: wanted is application/json")
         body = read_json(await request.read())
@@ -179,19 +186,6 @@ class Admin:
 
 def _answer(value: object, status: int = 200) -> web.Response:
     return web.Response(text=write_json(value), status=status, content_type="application/json", headers=HEADERS)
-
-
-def _copy_whole(source: Path, copy: Path) -> int:
-    """Copies a file to a new one of mode 0600, which has its name once all of it is on the disk. Tells its bytes."""
-    with tempfile.NamedTemporaryFile(dir=copy.parent) as written, source.open("rb") as read:
-        shutil.copyfileobj(read, written)
-        written.flush()
-        os.fsync(written.fileno())
-        os.link(written.name, copy)
-    folder = os.open(copy.parent, os.O_RDONLY)
-    os.fsync(folder)
-    os.close(folder)
-    return copy.stat().st_size
 
 
 async def _page(request: web.Request) -> web.FileResponse:

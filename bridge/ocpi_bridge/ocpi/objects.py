@@ -54,8 +54,8 @@ class Objects:
 
     def _accept(self, packet: Packet) -> None:
         """Keeps an object of a partner's own. A node answers a repeat unseen: so another object in one is none."""
-        is_first = self._state.query("INSERT OR IGNORE INTO accepted_request VALUES (?, ?) RETURNING number",
-                                     party_key(packet.sender), packet.request)
+        is_first = self._state.query("INSERT OR IGNORE INTO accepted_request (partner, number) VALUES (?, ?)"
+                                     " RETURNING 1", party_key(packet.sender), packet.request)
         if is_first and same_party(_party(packet.body), packet.sender):
             self._keep(packet, packet.sender)
 
@@ -63,7 +63,8 @@ class Objects:
         (module, identifier), body = OBJECTS[packet.kind], packet.body
         status, evse_uid = (body["status"], body["evse_uid"].upper()) if module == "sessions" else ("", "")
         self._state.query(
-            """INSERT INTO object_of VALUES (?, ?, ?, ?, ?, ?, ?, ?, ?)
+            """INSERT INTO object_of (module, party, identifier, token_type, partner, last_updated, status, evse_uid,
+                body) VALUES (?, ?, ?, ?, ?, ?, ?, ?, ?)
             ON CONFLICT DO UPDATE SET partner = excluded.partner, last_updated = excluded.last_updated,
                 status = excluded.status, evse_uid = excluded.evse_uid, body = excluded.body
             WHERE excluded.last_updated > last_updated AND status NOT IN ('COMPLETED', 'INVALID')""",
@@ -87,8 +88,8 @@ class Objects:
 
     def refuse(self, module: str, body: Members) -> None:
         """Keeps that the node refused a version of an object."""
-        self._state.query("INSERT OR REPLACE INTO refused_object VALUES (?, ?, ?, ?, ?)", *_key(module, body),
-                          milliseconds_of(body["last_updated"]))
+        self._state.query("INSERT OR REPLACE INTO refused_object (module, party, identifier, token_type, last_updated)"
+                          " VALUES (?, ?, ?, ?, ?)", *_key(module, body), milliseconds_of(body["last_updated"]))
 
     def has(self, module: str, body: Members) -> bool:
         """Whether a version of an object, or a later one, is held, or whether just this one was refused.
@@ -189,8 +190,9 @@ class Claims:
 
     def _begin(self, command: Packet, status: str, name: str, until: int) -> None:
         if command.body.get("evse_uid") is not None:
-            self._state.query("INSERT OR REPLACE INTO claim VALUES (?, ?, ?, ?, ?)", command.body["evse_uid"].upper(),
-                              status, party_key(command.sender), name, until)
+            self._state.query("INSERT OR REPLACE INTO claim (evse_uid, status, partner, name, until)"
+                              " VALUES (?, ?, ?, ?, ?)", command.body["evse_uid"].upper(), status,
+                              party_key(command.sender), name, until)
 
     def _end(self, partner: str, name: str) -> None:
         self._state.query("DELETE FROM claim WHERE partner = ? AND name = ?", party_key(partner), name)

@@ -51,8 +51,9 @@ class Orders:
             if packet.kind in COMMANDS:
                 # The first tick behind a stop has commands whose own outcome that lost.
                 moments = [milliseconds_of(event["at"]), *(self._left if event["event"] != "submit" else ())]
-                self._state.query("INSERT OR IGNORE INTO order_given VALUES (?, ?, ?, ?, 'open', NULL)", packet.request,
-                                  party_key(packet.receiver), packet.body.get("authorization_reference"), min(moments))
+                self._state.query("INSERT OR IGNORE INTO order_given (request, operator, reference, at, state)"
+                                  " VALUES (?, ?, ?, ?, 'open')", packet.request, party_key(packet.receiver),
+                                  packet.body.get("authorization_reference"), min(moments))
         if event["event"] == "deliver" and party_key(event["packet"]["from"]) in self._others:
             self._note_delivered(outcome, Packet.of(event["packet"]))
 
@@ -83,7 +84,8 @@ class Orders:
                               session["id"])
         elif self._state.query("SELECT 1 FROM order_given WHERE operator = ? AND reference = ? AND state = 'late'",
                                operator, session.get("authorization_reference")):
-            self._state.query("INSERT OR IGNORE INTO session_to_stop VALUES (?, ?, 0)", operator, session["id"])
+            self._state.query("INSERT OR IGNORE INTO session_to_stop (operator, session_id, ordered_at)"
+                              " VALUES (?, ?, 0)", operator, session["id"])
 
     def _now(self) -> int:
         return int(self._events.clock.seconds() * 1000)

@@ -16,6 +16,7 @@ from ..events import Events, Outcome
 from ..json_text import Members
 from ..node.feeder import Feeder, NodeEnded
 from ..ocpi.objects import Objects
+from ..room import when_there_is_room
 from ..state import State
 from .connection import Connection
 from .orders import Orders
@@ -42,7 +43,7 @@ class CentralSystem:
     def __init__(self, settings: OcppSettings, events: Events, state: State, feeder: Feeder, objects: Objects,
                  count: Callable[[str], None]) -> None:
         """`count` adds to a metric."""
-        self._clock, self._objects = events.clock, objects
+        self._clock, self._objects, self._synced = events.clock, objects, state.synced
         self._site = Site(settings, events, state, feeder, objects)
         self._orders = Orders(self._site, self._spawn)
         self._readings = Readings(self._site, state, count)
@@ -93,8 +94,10 @@ class CentralSystem:
 
     async def _serve(self, charge_point: ChargePoint, socket: web.WebSocketResponse, abort: Callable[[], None]) -> None:
         """Serves a connection until it ends. It takes the place of one that the charge point has."""
-        connection = Connection(socket, self._clock, partial(self._reports.answer, charge_point, socket), abort,
-                                charge_point.settings.id)
+        async def answer(action: str, payload: Members) -> Members:
+            return await when_there_is_room(partial(self._reports.answer, charge_point, socket, action, payload))
+
+        connection = Connection(socket, self._clock, answer, abort, charge_point.settings.id, self._synced)
         if charge_point.connection is not None:
             self._spawn(charge_point.connection.close)
         charge_point.connection = connection

@@ -21,7 +21,7 @@ class LateCommands:
 
     def expect(self, provider: str, number: int) -> None:
         """Keeps that a command which is about to be fed was ordered too long ago."""
-        self._state.query("INSERT OR IGNORE INTO late_command VALUES (?, ?)", provider, number)
+        self._state.query("INSERT OR IGNORE INTO late_command (provider, number) VALUES (?, ?)", provider, number)
 
     def note(self, outcome: Outcome) -> None:
         """Has a late command refused that no charge point was asked for, in the transaction that ends its line."""

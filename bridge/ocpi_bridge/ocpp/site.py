@@ -75,39 +75,52 @@ class Site:
 
     def status(self, place: Place) -> str | None:
         """The last status that a connector reported."""
-        return self._state.value(f"ocpp.status {place.settings.evse_uid.upper()}")
+        return self._kept(place.settings.evse_uid)[0]
 
     def set_status(self, place: Place, status: str) -> None:
-        self._state.set_value(f"ocpp.status {place.settings.evse_uid.upper()}", status)
+        if status != self.status(place):
+            self._keep(place.settings.evse_uid, "status", status)
+
+    def _kept(self, evse_uid: str) -> tuple[str | None, str | None]:
+        """What is kept of an EVSE: its last status, and whether it is in service."""
+        for status, service in self._state.query("SELECT status, service FROM ocpp_evse WHERE evse_uid = ?",
+                                                 evse_uid.upper()):
+            return status, service
+        return None, None
+
+    def _keep(self, evse_uid: str, column: str, word: str) -> None:
+        self._state.query(f"INSERT INTO ocpp_evse (evse_uid, {column}) VALUES (?, ?) ON CONFLICT DO UPDATE"
+                          f" SET {column} = excluded.{column}", evse_uid.upper(), word)
 
     def note_service(self, event: Members) -> None:
         """Keeps what an event `service` said, and whether the owner takes the EVSE out of service by it."""
         word = "in" if event["in_service"] else "owner" if event.get("owner") else "out"
-        self._state.set_value(f"ocpp.service {event['evse_uid'].upper()}", word)
+        self._keep(event["evse_uid"], "service", word)
 
     def is_kept_out(self, place: Place) -> bool:
         """Whether the owner took an EVSE out of service: then it stays so until the owner puts it back."""
-        return self._state.value(f"ocpp.service {place.settings.evse_uid.upper()}") == "owner"
+        return self._kept(place.settings.evse_uid)[1] == "owner"
 
     def evse_status(self, evse_uid: str) -> str | None:
         """`OUTOFORDER` where nothing can be charged, `INOPERATIVE` where the EVSE is out of service, else None."""
         place = self.place(evse_uid)
         if place is None or place.charge_point.connection is None or self.status(place) == "Faulted":
             return "OUTOFORDER"
-        word = self._state.value(f"ocpp.service {evse_uid.upper()}")
-        return "INOPERATIVE" if word in ("out", "owner") else None
+        return "INOPERATIVE" if self._kept(evse_uid)[1] in ("out", "owner") else None
 
     def id_tag_of(self, uid: str) -> str:
         """What a token is called at charge points: its uid, or a text of the bridge where that is too long for OCPP."""
         if len(uid) <= LONGEST_ID_TAG:
             return uid
         id_tag = hashlib.sha256(uid.upper().encode()).hexdigest()[:LONGEST_ID_TAG].upper()
-        self._state.set_value(f"ocpp.uid {id_tag}", uid)
+        self._state.query("INSERT INTO ocpp_id_tag (id_tag, token_uid) VALUES (?, ?) ON CONFLICT DO UPDATE"
+                          " SET token_uid = excluded.token_uid WHERE token_uid <> excluded.token_uid", id_tag, uid)
         return id_tag
 
     def uid_of(self, id_tag: str) -> str:
         """The uid of the token that a charge point calls so."""
-        return self._state.value(f"ocpp.uid {id_tag.upper()}") or id_tag
+        return next((uid for uid, in self._state.query("SELECT token_uid FROM ocpp_id_tag WHERE id_tag = ?",
+                                                       id_tag.upper())), id_tag)
 
     def seconds_at(self, timestamp: object, session: Members | None = None) -> float:
         """When a message says that something was, in seconds since 1970.
