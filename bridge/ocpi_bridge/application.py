@@ -66,8 +66,7 @@ class Bridge:
         interfaces = Interfaces(configuration.ocpi.url, events, objects, requests, locations, feeder.feed,
                                 self._client.takes_orders, feeder.revoke, *([late.expect] if ocpp else ()))
         server = Server(events, partners, Credentials(configuration, partners, exchange), interfaces, metrics)
-        admin = Admin(configuration, state, events, feeder, objects, partners, metrics, locations, central_system,
-                      self._client.takes_orders)
+        admin = Admin(configuration, state, events, feeder, objects, self._client, metrics, locations, central_system)
         self._listeners = [Listener("ocpi", configuration.ocpi.listen, server.application()),
                            Listener("admin", configuration.admin, admin.application())]
         if ocpp is not None:

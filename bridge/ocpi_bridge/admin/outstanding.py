@@ -2,9 +2,10 @@
 from collections.abc import Callable
 from decimal import Decimal
 
+from ..clock import moment_of
 from ..events import Outcome, Packet
-from ..json_text import Members, Number, read_json, write_json
-from ..ocpi.objects import Objects
+from ..json_text import Members, read_json, write_json
+from ..ocpi.objects import Objects, ten_thousandths
 from ..parties import party_key
 from ..state import State
 
@@ -62,11 +63,13 @@ class Outstanding:
                               body["currency"], amount)
 
     def commands(self, most: int = 1000) -> list[Members]:
-        """The newest commands that a provider gave, the newest first, with what was answered and what came of each."""
-        return [{"number": number, "operator": operator, "kind": kind, "response": response, "result": result,
-                 "body": read_json(body)}
-                for number, operator, kind, body, response, result in self._state.query(
-                    "SELECT * FROM command_given ORDER BY request DESC LIMIT ?", most)]
+        """The newest commands that a provider gave, the newest first, with when (`at`), what was answered and what came
+        of each."""
+        return [{"number": number, "at": None if at is None else moment_of(at / 1000), "operator": operator,
+                 "kind": kind, "response": response, "result": result, "body": read_json(body)}
+                for number, at, operator, kind, body, response, result in self._state.query(
+                    "SELECT request, at, command_given.operator, kind, body, response, result FROM command_given"
+                    " LEFT JOIN order_given USING (request) ORDER BY request DESC LIMIT ?", most)]
 
     def open_commands(self) -> int:
         """How many commands of a provider wait for a response or a result."""
@@ -79,6 +82,6 @@ class Outstanding:
 
     def owed(self) -> list[Members]:
         """What a provider owes each operator in each currency, to four decimals."""
-        return [{"operator": operator, "currency": currency, "amount": Number(f"{Decimal(amount).scaleb(-4):.4f}")}
+        return [{"operator": operator, "currency": currency, "amount": ten_thousandths(amount)}
                 for operator, currency, amount in self._state.query(
                     "SELECT operator, currency, SUM(amount) FROM owed_for GROUP BY operator, currency ORDER BY 1, 2")]

@@ -56,6 +56,19 @@ class Client:
         lanes = self._lanes.get(party_key(party))
         return lanes is None or not lanes.is_full
 
+    def told(self) -> list[Members]:
+        """Each partner: how it stands (`state`), and how many requests are `waiting` for it or under way."""
+        return [{"party": partner.party, "kind": partner.kind, "registered": partner.is_registered,
+                 "versions_url": partner.versions_url, "state": self._state_of(partner),
+                 "waiting": self._lanes[party_key(partner.party)].waiting} for partner in self.partners.all()]
+
+    def _state_of(self, partner: Partner) -> str:
+        if not partner.is_registered:
+            return "UNREGISTERED"
+        if self.exchange.is_resting(partner):
+            return "RESTING"
+        return "FAILING" if self._lanes[party_key(partner.party)].is_failing else "ANSWERING"
+
     async def run(self) -> None:
         """Sends what waits, until it is cancelled or the bridge ends."""
         await asyncio.gather(*(self._work(lanes, number == 0) for lanes in self._lanes.values()

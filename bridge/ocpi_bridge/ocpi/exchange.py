@@ -120,6 +120,10 @@ class Exchange:
                 seconds = seconds or parsedate_to_datetime(after).timestamp() - self.clock.seconds()
             self._rested_at[partner.party] = self.clock.seconds() + min(seconds, LONGEST_REST)
 
+    def is_resting(self, partner: Partner) -> bool:
+        """Whether a partner said `Retry-After`, and that is not over."""
+        return self.clock.seconds() < self._rested_at.get(partner.party, 0.0)
+
     async def may_ask(self, partner: Partner, at_most: float = LONGEST_REST) -> bool:
         """Waits until a partner may be asked that said `Retry-After`, so many seconds at most. Whether it may be."""
         seconds = self._rested_at.get(partner.party, 0.0) - self.clock.seconds()

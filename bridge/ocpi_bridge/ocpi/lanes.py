@@ -87,6 +87,16 @@ class Lanes:
         """Whether no command more may wait."""
         return len(self._urgent.waiting) >= MOST_WAITING
 
+    @property
+    def waiting(self) -> int:
+        """How many requests wait, or are under way."""
+        return sum(len(lane.waiting) + lane.under_way for lane in (self._urgent, self._others))
+
+    @property
+    def is_failing(self) -> bool:
+        """Whether what was asked last got no answer."""
+        return self._urgent.failures + self._others.failures > 0
+
     def put(self, packet: Packet) -> bool:
         """Takes a request to be sent. False where it is lost, since too many wait."""
         is_taken = self._of(packet).put(packet)

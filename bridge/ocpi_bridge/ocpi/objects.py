@@ -5,10 +5,11 @@ sent or accepted. Beside these stand the EVSEs that commands claim.
 """
 import logging
 from dataclasses import dataclass
+from decimal import Decimal
 
 from ..clock import milliseconds_of
 from ..events import Outcome, Packet
-from ..json_text import Members, read_json, write_json
+from ..json_text import Members, Number, read_json, write_json
 from ..parties import party_key, party_of, same_party
 from ..state import State
 
@@ -116,6 +117,19 @@ class Objects:
         """The objects of a module, the newest first: all of them, or so many at most."""
         return self._bodies("module = ? ORDER BY last_updated DESC, identifier DESC LIMIT ?", module, most)
 
+    def totals(self, date_from: int, date_to: int) -> list[Members]:
+        """Of the bills by their `last_updated`, in each currency: how many there are and how many were taken back, and
+        their energy and price without those."""
+        rows = self._state.query(
+            """SELECT json_extract(body, '$.currency'), SUM(1 - credit), SUM(credit),
+                SUM((1 - 2 * credit) * CAST(ROUND(10000 * json_extract(body, '$.total_energy')) AS INTEGER)),
+                SUM(CAST(ROUND(10000 * json_extract(body, '$.total_cost.excl_vat')) AS INTEGER))
+            FROM (SELECT body, coalesce(json_extract(body, '$.credit'), 0) AS credit FROM object_of
+                WHERE module = 'cdrs' AND last_updated >= ? AND last_updated < ?) GROUP BY 1 ORDER BY 1""",
+            date_from, date_to)
+        return [{"currency": currency, "bills": bills, "credits": credits, "kwh": ten_thousandths(energy),
+                 "excl_vat": ten_thousandths(price)} for currency, bills, credits, energy, price in rows]
+
     def living_session(self, evse_uid: str) -> Members | None:
         """The session at an EVSE of the node that is PENDING or ACTIVE."""
         found = self._bodies(f"evse_uid = ? AND {LIVING} ORDER BY last_updated DESC LIMIT 1", evse_uid.upper())
@@ -136,6 +150,11 @@ class Objects:
 
     def _bodies(self, where: str, *values: object) -> list[Members]:
         return [read_json(body) for body, in self._state.query(f"SELECT body FROM object_of WHERE {where}", *values)]
+
+
+def ten_thousandths(amount: int) -> Number:
+    """An amount in ten thousandths, with its four decimals."""
+    return Number(f"{Decimal(amount).scaleb(-4):.4f}")
 
 
 def _key(module: str, body: Members) -> tuple[str, str, str, str]:

@@ -25,6 +25,7 @@ from .watch import Watch
 
 LOG = logging.getLogger("ocpp")
 HEARTBEAT_EACH = 60
+NO_ERROR, LONGEST_ERROR = "NoError", 50
 # For how many seconds a token may be used that was shown at a charge point with several connectors.
 SHOWN_FOR = 60
 
@@ -46,6 +47,7 @@ class Reports:
 
         Raises CallError, NodeEnded, and EventRefused where the charge point may repeat.
         """
+        charge_point.heard = self._site.clock.seconds()
         check_payload(action, payload)
         self._note_taken(charge_point, connection, action, payload)
         if action in self._handlers:
@@ -69,6 +71,7 @@ class Reports:
         """A status of one connector, or at connector 0 of each: there one in service only ends one that is not. None
         puts an EVSE back that its owner took out of service."""
         status, connector = payload["status"], payload["connectorId"]
+        charge_point.errors[connector] = str(payload.get("errorCode", NO_ERROR))[:LONGEST_ERROR]
         for place in charge_point.places.values():
             changes_service = {status, self._site.status(place)} & OUT_OF_SERVICE
             if connector == place.connector or connector == 0 and changes_service:

@@ -37,6 +37,9 @@ class ChargePoint:
     settings: ChargePointSettings
     places: "dict[int, Place]" = field(default_factory=dict)
     connection: Connection | None = None
+    # When its last call came since the bridge was started, and the errors that it told, by connector (0: its own).
+    heard: float | None = None
+    errors: dict[int, str] = field(default_factory=dict)
     lock: asyncio.Lock = field(default_factory=asyncio.Lock)
 
     async def alone(self, action: Callable[[], Awaitable[Result]]) -> Result:
@@ -84,6 +87,10 @@ class Site:
         """Keeps what an event `service` said, and whether the owner takes the EVSE out of service by it."""
         word = "in" if event["in_service"] else "owner" if event.get("owner") else "out"
         self._state.set_value(f"ocpp.service {event['evse_uid'].upper()}", word)
+
+    def is_in_service(self, place: Place) -> bool:
+        """Whether the node was told last that an EVSE is in service, or nothing."""
+        return self._state.value(f"ocpp.service {place.settings.evse_uid.upper()}") in (None, "in")
 
     def is_kept_out(self, place: Place) -> bool:
         """Whether the owner took an EVSE out of service: then it stays so until the owner puts it back."""
