@@ -3,6 +3,7 @@ import asyncio
 import json
 import os
 import random
+import re
 import signal
 import subprocess
 import tempfile
@@ -12,10 +13,11 @@ from typing import Any
 
 import aiohttp
 
-from ocpi_bridge.admin.metrics import METRICS
+from ocpi_bridge.admin.feeding import EVENTS
 from ocpi_bridge.json_text import Members
+from ocpi_bridge.metrics import METRICS
 
-from .running import PROGRAM, RunningBridge, charge_point, eventually, operator, partner, provider
+from .running import PROGRAM, REPOSITORY, RunningBridge, charge_point, eventually, operator, partner, provider
 
 SETUP = [operator("BE/BEC", ["E1", "E2"]), provider("NL/TNM")]
 NOBODY = "http://127.0.0.1:9/ocpi/versions"
@@ -224,7 +226,27 @@ class OperatorTest(AdminTest):
         for name, (kind, _) in METRICS.items():
             self.assertIn(f"# TYPE {name} {kind}\n", text)
         self.assertIn('ocpi_lines_total{done="stepped"} 1\n', text)
-        self.assertEqual(await self.bridge.admin_get("/health"), {"healthy": True})
+        health = await self.bridge.admin_get("/health")
+        self.assertEqual([True, "open"], [health["healthy"], health["node"]])
+        newest = re.search(r"^## (.+)$", (REPOSITORY / "CHANGELOG.md").read_text(), re.MULTILINE)
+        self.assertEqual(newest and newest[1], health["version"])
+        self.assertEqual(["store", "state", "transcript"], list(health["free_bytes"]))
+        self.assertGreater(min(health["free_bytes"].values()), 0)
+
+    async def test_each_address_stands_in_the_openapi_page(self) -> None:
+        """Every other one is not there."""
+        page = await self.bridge.admin_get("/openapi.json")
+        listed = {(method.upper(), path) for path, methods in page["paths"].items() for method in methods}
+        wanted = {("POST", path) for path in (*EVENTS, "/backup")} | {("GET", path) for path in (
+            "/", "/cdrs", "/charge_points", "/commands", "/events", "/health", "/metrics", "/openapi.json",
+            "/partners", "/sessions", "/tokens", "/totals")}
+        self.assertEqual(wanted, listed)
+        names = set(re.findall(r'"#/components/schemas/(\w+)"', json.dumps(page)))
+        self.assertEqual(set(page["components"]["schemas"]), names)
+        async with aiohttp.ClientSession() as session:
+            for method, path in listed:
+                async with session.request(method, self.bridge.admin_url + path) as response:
+                    self.assertNotIn(response.status, (404, 405), path)
 
 
 if __name__ == "__main__":

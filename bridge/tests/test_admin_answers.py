@@ -15,6 +15,7 @@ from ocpi_bridge.clock import Clock
 from ocpi_bridge.events import Events, Outcome
 from ocpi_bridge.json_text import Members
 from ocpi_bridge.ocpi.objects import Objects
+from ocpi_bridge.records import Event
 from ocpi_bridge.state import State
 
 from .cases import OperatorCase
@@ -126,7 +127,7 @@ class AnswersTest(unittest.IsolatedAsyncioTestCase):
         self.state = State(Path(folder.name) / "state.db")
         self.addCleanup(self.state.close)
         self.clock = Clock()
-        self.event: Members = {"event": "submit", MARK: ["/orders", "key", ""]}
+        self.event: Event = {"event": "submit", "idempotency": ["/orders", "key", ""]}
 
     def feeding(self) -> Feeding:
         """A feeding that never feeds."""
@@ -156,7 +157,8 @@ class AnswersTest(unittest.IsolatedAsyncioTestCase):
         self.feeding().note(Outcome(self.event, {"done": "stepped", "packets": 0}, ()))
         self.assertEqual({"done": {"done": "stepped", "packets": 0}, "packets": []}, (await self.told())[1])
         self.state.query("UPDATE answer_given SET at = at - ?", SECONDS_KEPT + 1)
-        self.feeding().note(Outcome({**self.event, MARK: ["/orders", "another", ""]}, {"done": "idle"}, ()))
+        self.event[MARK][1] = "another"
+        self.feeding().note(Outcome(self.event, {"done": "idle"}, ()))
         self.assertIn(MARK, (await self.told())[1])
 
 

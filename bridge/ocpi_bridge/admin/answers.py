@@ -3,19 +3,20 @@ import asyncio
 import hashlib
 from collections.abc import Callable, Coroutine
 from functools import partial
-from typing import Any
+from typing import Any, Final
 
 from aiohttp import web
 
 from ..clock import Clock
 from ..json_text import Members, read_json, write_json
+from ..records import Event
 from ..state import State
 
 # The status and the body of an answer.
 Told = tuple[int, Members]
 LOST: Told = 504, {"error": "carried out, but a stop of the node lost what came of it: see the lists"}
 # The member of an event that has the address, the key and the digest of its request.
-MARK = "idempotency"
+MARK: Final = "idempotency"
 LONGEST_KEY = 255
 SECONDS_KEPT = 30 * 86_400
 
@@ -53,14 +54,14 @@ class Answers:
         if not task.cancelled():
             task.exception()
 
-    def keep(self, event: Members, told: Told) -> None:
+    def keep(self, event: Event, told: Told) -> None:
         """Keeps an answer, and forgets those that are old."""
         now = self._clock.seconds()
         self._state.query("DELETE FROM answer_given WHERE at < ?", now - SECONDS_KEPT)
         self._state.query("INSERT OR REPLACE INTO answer_given VALUES (?, ?, ?, ?, ?, ?)", *event[MARK], now, told[0],
                           write_json(told[1]))
 
-    def keep_lost(self, event: Members) -> None:
+    def keep_lost(self, event: Event) -> None:
         """Keeps that the answer is lost, where none is kept."""
         self._state.query("INSERT OR IGNORE INTO answer_given VALUES (?, ?, ?, ?, ?, ?)", *event[MARK],
                           self._clock.seconds(), LOST[0], write_json(LOST[1]))

@@ -1,5 +1,6 @@
 """Feeds what the owner asks for: orders, tokens, credits, service and faults, and says what came of it."""
 from collections.abc import Callable
+from typing import cast
 
 from aiohttp import web
 
@@ -9,6 +10,7 @@ from ..node.feeder import Feeder
 from ..ocpi.locations import Locations
 from ..ocpi.objects import Objects
 from ..ocpp.central_system import CentralSystem
+from ..records import Event
 from .answers import MARK, Answers, Told
 
 # The addresses that feed an event, and whether it is an operator's.
@@ -46,7 +48,7 @@ class Feeding:
         if event in ("service", "fault") and self._lacks_evse(body.get("evse_uid")):
             raise web.HTTPNotFound(text="nothing was done: the site has no EVSE of that evse_uid")
         members = {"token": body} if event == "token" else body | {"owner": True} if event == "service" else body
-        outcome = await self._feeder.feed({**members, **(mark or {}), **self._events.make(event)})
+        outcome = await self._feeder.feed(cast(Event, {**members, **(mark or {}), **self._events.make(event)}))
         status, told = self._told(outcome)
         if event == "service" and status == 200 and self._central_system is not None:
             told["charge_point"] = await self._central_system.change_availability(body["evse_uid"], body["in_service"])
@@ -60,7 +62,7 @@ class Feeding:
         """The status and the body that tell an outcome."""
         told: Members = {"done": outcome.done, "packets": [packet.members() for packet in outcome.packets]}
         if outcome.word not in ("stepped", "idle"):
-            words = " ".join(str(outcome.done[name]) for name in ("done", "name", "field") if name in outcome.done)
+            words = " ".join(str(word) for word in map(outcome.done.get, ("done", "name", "field")) if word is not None)
             return 400 if outcome.word == "malformed" else 409, {"error": f"the node does not do it: {words}", **told}
         if outcome.event["event"] == "credit" and outcome.word == "idle":
             status, words = self._why_no_credit(str(outcome.event["session_id"]))
@@ -80,7 +82,7 @@ class Feeding:
         if MARK in outcome.event:
             self._answers.keep(outcome.event, self._told(outcome))
 
-    def note_left(self, events: list[Members]) -> None:
+    def note_left(self, events: list[Event]) -> None:
         """Keeps that what came of these was lost, until it is known after all. They stood in the line that a stop left.
         """
         for event in events:

@@ -1,12 +1,14 @@
 """What is outstanding: commands without a result, pushes without an acknowledgement, and what a provider owes."""
 from collections.abc import Callable
 from decimal import Decimal
+from typing import cast
 
 from ..clock import moment_of
 from ..events import Outcome, Packet
 from ..json_text import Members, read_json, write_json
 from ..ocpi.objects import Objects, ten_thousandths
 from ..parties import party_key
+from ..records import Body
 from ..state import State
 
 COMMANDS = ("start_session", "stop_session", "reserve_now", "cancel_reservation", "unlock_connector")
@@ -27,7 +29,8 @@ class Outstanding:
             self._forget_answered(outcome)
         for packet in outcome.packets:
             if packet.kind in PUSHES:
-                subject = " ".join([packet.kind, *(packet.body[name].upper() for name in PUSHES[packet.kind])])
+                body = cast(Members, packet.body)
+                subject = " ".join([packet.kind, *(str(body[name]).upper() for name in PUSHES[packet.kind])])
                 self._state.query("INSERT OR REPLACE INTO push_that_waits VALUES (?, ?, ?)",
                                   party_key(packet.receiver), subject, packet.request)
             elif packet.kind in COMMANDS:
@@ -46,7 +49,7 @@ class Outstanding:
         self._state.query("UPDATE command_given SET response = 'LOST' WHERE response IS NULL AND result IS NULL"
                           f" AND request NOT IN ({sent})")
 
-    def _take(self, packet: Packet, sender: str, body: Members) -> None:
+    def _take(self, packet: Packet, sender: str, body: Body) -> None:
         """Keeps what an answer says, or a request that was answered with success."""
         if packet.kind == "ack" and body["status_code"] == 1000:
             self._state.query("DELETE FROM push_that_waits WHERE receiver = ? AND request = ?", sender, packet.request)

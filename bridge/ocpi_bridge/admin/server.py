@@ -10,16 +10,18 @@ import re
 import shutil
 import tempfile
 import time
-from collections.abc import Awaitable, Callable
+from collections.abc import Awaitable, Callable, Sequence
 from functools import partial
 from pathlib import Path
 from typing import NoReturn
 
 from aiohttp import web
 
+from .. import __version__
 from ..configuration import Configuration
 from ..events import Events
 from ..json_text import Members, NotJson, NumberTooLarge, read_json, write_json
+from ..metrics import Metrics
 from ..node.feeder import NodeEnded, OutcomeLost
 from ..node.revocable import RevocableFeeder
 from ..ocpi.client import Client
@@ -29,7 +31,6 @@ from ..ocpp.central_system import CentralSystem
 from ..state import State
 from .answers import LOST, Answers
 from .feeding import EVENTS, Feeding
-from .metrics import Metrics
 from .outstanding import Outstanding
 from .shown import Shown
 
@@ -54,28 +55,26 @@ MOST_LISTED = 10_000
 
 
 class Admin:
-    """All these addresses. To be made before the feeder runs, since it follows what is outstanding from then on."""
+    """All these addresses. What `feeding` and `outstanding` note of each outcome they have to be told."""
 
     def __init__(self, configuration: Configuration, state: State, events: Events, feeder: RevocableFeeder,
                  objects: Objects, client: Client, metrics: Metrics, locations: Locations | None,
                  central_system: CentralSystem) -> None:
         """`locations` are an operator's."""
         self._configuration, self._feeder, self._metrics = configuration, feeder, metrics
-        self._feeding = feeding = Feeding(
+        self.feeding = Feeding(
             events, feeder, objects, Answers(state, events.clock), locations,
             None if configuration.ocpp is None else central_system, client.takes_orders)
-        outstanding = Outstanding(state, objects, lambda: feeder.is_open)
+        self.outstanding = outstanding = Outstanding(state, objects, lambda: feeder.is_open)
         self._shown = Shown(configuration, objects, outstanding, client, locations, central_system)
         is_operator = configuration.is_operator
-        feeder.before_opening.append(feeding.note_left)
-        feeder.before_commit += [outstanding.note, feeding.note]
         metrics.gauge("ocpi_unacknowledged_pushes", outstanding.pushes)
         metrics.gauge("ocpi_open_commands",
                       lambda: len(central_system.commands()) if is_operator else outstanding.open_commands())
         metrics.gauge("ocpi_charge_points_connected", central_system.connected_count)
         if is_operator:
             metrics.gauge("ocpi_silent_sessions", central_system.silent_count)
-        self._lists: dict[str, Callable[[], list[Members]]] = {
+        self._lists: dict[str, Callable[[], Sequence[object]]] = {
             **{f"/{module}": partial(objects.newest, module, MOST_LISTED) for module in ("sessions", "cdrs", "tokens")},
             "/commands": lambda: central_system.commands() if is_operator else outstanding.commands(),
             "/charge_points": central_system.charge_points, "/partners": client.told}
@@ -86,7 +85,7 @@ class Admin:
             *(web.post(path, self._feed) for path in EVENTS), *(web.get(path, self._list) for path in self._lists),
             web.post("/backup", self._backup), web.get("/metrics", self._metrics_text),
             web.get("/totals", self._totals), web.get("/health", self._health), web.get("/events", self._stream),
-            web.get("/", _page), web.get(r"/{file:page\.(js|css)}", _page)])
+            web.get("/openapi.json", _openapi), web.get("/", _page), web.get(r"/{file:page\.(js|css)}", _page)])
         return application
 
     async def _list(self, request: web.Request) -> web.Response:
@@ -97,7 +96,7 @@ class Admin:
     async def _feed(self, request: web.Request) -> web.Response:
         """Feeds the body of a request as an event, and answers what came of it."""
         body = await self._body(request, EVENTS[request.path][1])
-        status, told = await self._feeding.feed(request.path, body, request.headers.get("Idempotency-Key"))
+        status, told = await self.feeding.feed(request.path, body, request.headers.get("Idempotency-Key"))
         return _answer(told, status)
 
     async def _backup(self, request: web.Request) -> web.Response:
@@ -119,7 +118,13 @@ class Admin:
 
     async def _health(self, _: web.Request) -> web.Response:
         is_healthy = self._feeder.is_open and time.monotonic() <= self._feeder.ticked + HEALTHY_WITHIN
-        return _answer({"healthy": is_healthy}, 200 if is_healthy else 503)
+        node, settings = self._feeder, self._configuration
+        files = {"store": settings.node.store, "state": settings.state, "transcript": settings.node.transcript}
+        return _answer({
+            "healthy": is_healthy, "version": __version__,
+            "node": "closed" if not node.is_open else "open" if is_healthy else "silent",
+            "free_bytes": {name: shutil.disk_usage(file.parent).free for name, file in files.items() if file},
+        }, 200 if is_healthy else 503)
 
     async def _stream(self, request: web.Request) -> NoReturn:
         """Server-sent events: all that the page shows, at once and whenever it changed, until the connection ends.
@@ -175,6 +180,10 @@ def _copy_whole(source: Path, copy: Path) -> int:
 
 async def _page(request: web.Request) -> web.FileResponse:
     return web.FileResponse(PAGE / request.match_info.get("file", "page.html"), headers=HEADERS)
+
+
+async def _openapi(_: web.Request) -> web.FileResponse:
+    return web.FileResponse(Path(__file__).with_name("openapi.json"), headers=HEADERS)
 
 
 @web.middleware

@@ -10,9 +10,9 @@ from urllib.parse import quote
 import aiohttp
 from yarl import URL
 
-from ..admin.metrics import Metrics
 from ..clock import Clock
 from ..json_text import Members, NotJson, NumberTooLarge, read_json, write_json
+from ..metrics import Metrics
 from .envelope import SUCCESS, authorization
 from .partners import Endpoints, Partner
 

@@ -24,7 +24,7 @@ Subject = tuple[str, ...]
 def subject_of(packet: Packet) -> Subject:
     """What requests go about one after the other: a session with its bill, a token, or the request alone."""
     if packet.kind in ("put_session", "post_cdr"):
-        return "session", str(packet.body["id" if packet.kind == "put_session" else "session_id"]).upper()
+        return "session", (packet.body["id"] if packet.kind == "put_session" else packet.body["session_id"]).upper()
     if packet.kind == "put_token":
         return "token", str(packet.body["type"]), str(packet.body["uid"]).upper()
     return "request", str(packet.request)

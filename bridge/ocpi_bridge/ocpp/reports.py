@@ -17,6 +17,7 @@ from functools import partial
 
 from ..clock import moment_of
 from ..json_text import Members
+from ..records import Session
 from .frames import check_payload
 from .readings import Readings, number_in, register_of
 from .site import OUT_OF_SERVICE, ChargePoint, Place, Site
@@ -132,7 +133,7 @@ class Reports:
         status = "Invalid" if transaction.session_id is None or transaction.state == LOST else "Accepted"
         return {"idTagInfo": {"status": status}, "transactionId": transaction.number}
 
-    async def _session_of(self, place: Place, transaction: Transaction) -> Members | None:
+    async def _session_of(self, place: Place, transaction: Transaction) -> Session | None:
         """The session of a new transaction: one that it is known to be, or that waits for its token, or of a swipe."""
         uid = self._site.uid_of(transaction.id_tag)
         if transaction.session_id is not None:

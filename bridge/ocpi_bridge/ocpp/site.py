@@ -1,7 +1,7 @@
 """The site of a node: its EVSEs with their charge points, what is kept of these, and how the node is told of them."""
 import asyncio
 import hashlib
-from collections.abc import Awaitable, Callable
+from collections.abc import Awaitable, Callable, Sequence
 from dataclasses import dataclass, field
 from typing import TypeVar
 
@@ -12,6 +12,7 @@ from ..json_text import Members
 from ..node.feeder import Feeder, OutcomeLost, repeated
 from ..ocpi.objects import Objects
 from ..parties import party_key
+from ..records import Event, Session
 from ..state import State
 from .commands import Command, Commands
 from .connection import Connection
@@ -83,7 +84,7 @@ class Site:
     def set_status(self, place: Place, status: str) -> None:
         self._state.set_value(f"ocpp.status {place.settings.evse_uid.upper()}", status)
 
-    def note_service(self, event: Members) -> None:
+    def note_service(self, event: Event) -> None:
         """Keeps what an event `service` said, and whether the owner takes the EVSE out of service by it."""
         word = "in" if event["in_service"] else "owner" if event.get("owner") else "out"
         self._state.set_value(f"ocpp.service {event['evse_uid'].upper()}", word)
@@ -116,7 +117,7 @@ class Site:
         """The uid of the token that a charge point calls so."""
         return self._state.value(f"ocpp.uid {id_tag.upper()}") or id_tag
 
-    def seconds_at(self, timestamp: object, session: Members | None = None) -> float:
+    def seconds_at(self, timestamp: object, session: Session | None = None) -> float:
         """When a message says that something was, in seconds since 1970.
 
         It is the clock's moment where that cannot be: before 2020, before the start of its session, or later than now.
@@ -136,20 +137,20 @@ class Site:
             raise EventRefused(f"{event}: {outcome.word}")
         return outcome
 
-    def at(self, place: Place) -> Members | None:
+    def at(self, place: Place) -> Session | None:
         """The session at a connector that is PENDING or ACTIVE."""
         return self._objects.living_session(place.settings.evse_uid)
 
-    def session(self, session_id: str | None) -> Members | None:
+    def session(self, session_id: str | None) -> Session | None:
         """The session of an id."""
         return self._objects.find("sessions", self._events.node, session_id or "")
 
-    def living(self, session_id: str | None) -> Members | None:
+    def living(self, session_id: str | None) -> Session | None:
         """The session of an id, where it is PENDING or ACTIVE."""
         session = self.session(session_id)
         return session if session is not None and session["status"] in ("PENDING", "ACTIVE") else None
 
-    def all_living(self) -> list[Members]:
+    def all_living(self) -> Sequence[Session]:
         """The sessions that are PENDING or ACTIVE."""
         return self._objects.living_sessions()
 
