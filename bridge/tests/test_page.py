@@ -1,8 +1,10 @@
 """The pages in a browser: what a person sees there, asks for, and is asked and told."""
 import asyncio
+import sqlite3
 import subprocess
 import tempfile
 import unittest
+from contextlib import closing
 from pathlib import Path
 
 from .browser import CHROMIUM, Browser
@@ -149,19 +151,22 @@ class PageTest(unittest.IsolatedAsyncioTestCase):
     async def see_filter(self, session_id: str) -> None:
         """A filter looks at all rows, also at those that are older than the newest 50."""
         browser = self.browser
-        async def order(number: int) -> None:
-            await self.provider.admin_post("/tokens", {
-                "country_code": "NL", "party_id": "TNM", "uid": f"OTHER{number}", "type": "RFID", "contract_id": "C",
-                "issuer": "TNM", "valid": True, "whitelist": "ALWAYS", "last_updated": "2025-01-01T09:00:00Z"})
-        await asyncio.gather(*(order(number) for number in range(3)))
-        await browser.until(row_with("tokens", "OTHER2"))
-        await browser.evaluate(enter("look", filter="aa01"))
+        await self.provider.admin_post("/tokens", {
+            "country_code": "NL", "party_id": "TNM", "uid": "OTHER", "type": "RFID", "contract_id": "C",
+            "issuer": "TNM", "valid": True, "whitelist": "ALWAYS", "last_updated": "2025-01-01T09:00:00Z"})
+        with closing(sqlite3.connect(self.provider.folder / "bridge.db", timeout=30)) as state, state:
+            for number in range(60):
+                state.execute(
+                    """INSERT INTO object_of SELECT module, party, ?1, token_type, partner, last_updated + 1, status,
+                        evse_uid, json_set(body, '$.id', ?1) FROM object_of WHERE module = 'sessions' LIMIT 1""",
+                    (f"LATER{number}",))
+        await browser.until(f"{row_with('tokens', 'OTHER')} && {row_with('sessions', 'LATER')}")
+        await browser.until(f"!{row_with('sessions', session_id)}")
+        await browser.evaluate(enter("look", filter=session_id[-12:]))
         await browser.until(row_with("sessions", session_id))
-        await browser.until(f"!{row_with('tokens', 'OTHER2')} && {row_with('tokens', '<b>AA01</b>')}")
-        await browser.evaluate(enter("look", filter="no such text"))
-        await browser.until(f"{row_with('sessions', 'none')} && {row_with('cdrs', 'none')}")
+        await browser.until(f"{row_with('tokens', 'none')} && !{row_with('sessions', 'LATER')}")
         await browser.evaluate(enter("look", filter=""))
-        await browser.until(row_with("tokens", "OTHER2"))
+        await browser.until(f"{row_with('tokens', 'OTHER')} && {row_with('sessions', 'LATER')}")
 
     async def test_charge_points_and_partners(self) -> None:
         browser = self.browser
