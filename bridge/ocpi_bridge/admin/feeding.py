@@ -40,7 +40,7 @@ class Feeding:
 
     async def _feed(self, path: str, body: Members, mark: Members | None = None) -> Told:
         """Of `service` the node is told first, so that nothing new is let charge there while the charge point is asked.
-        It has `owner`, which the node reads past: no charge point takes it back. So has the mark of a key.
+        It has `owner`: no charge point takes it back. The node reads past that, and past the mark of a key.
         """
         event, body = EVENTS[path][0], {name: member for name, member in body.items() if name != MARK}
         if event == "submit" and not self._takes_orders(str(body.get("operator"))):
@@ -83,8 +83,7 @@ class Feeding:
             self._answers.keep(outcome.event, self._told(outcome))
 
     def note_left(self, events: list[Event]) -> None:
-        """Keeps that what came of these was lost, until it is known after all. They stood in the line that a stop left.
-        """
+        """Keeps that what came of events was lost that stood in the line which a stop left, until it is known."""
         for event in events:
             if MARK in event:
                 self._answers.keep_lost(event)

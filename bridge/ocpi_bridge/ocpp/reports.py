@@ -72,7 +72,8 @@ class Reports:
         """A status of one connector, or at connector 0 of each: there one in service only ends one that is not. None
         puts an EVSE back that its owner took out of service."""
         status, connector = payload["status"], payload["connectorId"]
-        charge_point.errors[connector] = str(payload.get("errorCode", NO_ERROR))[:LONGEST_ERROR]
+        if connector == 0 or connector in charge_point.places:
+            charge_point.errors[connector] = str(payload.get("errorCode") or NO_ERROR)[:LONGEST_ERROR]
         for place in charge_point.places.values():
             changes_service = {status, self._site.status(place)} & OUT_OF_SERVICE
             if connector == place.connector or connector == 0 and changes_service:
