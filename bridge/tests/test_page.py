@@ -8,7 +8,7 @@ from contextlib import closing
 from pathlib import Path
 
 from .browser import CHROMIUM, Browser
-from .running import REPOSITORY, RunningBridge, charge_point, operator, partner, provider
+from .running import REPOSITORY, RunningBridge, charge_point, eventually, operator, partner, provider
 
 SETUP = [operator("BE/BEC", ["E1", "E2"]), provider("NL/TNM")]
 
@@ -61,9 +61,13 @@ class PageTest(unittest.IsolatedAsyncioTestCase):
             stdin=subprocess.PIPE, stdout=subprocess.DEVNULL)
         self.addCleanup(self.charging.communicate)
         self.addCleanup(self.charging.kill)
+        await eventually(self.is_connected, "the charge point is connected")
         self.browser = Browser()
         await self.browser.start()
         self.addAsyncCleanup(self.browser.stop)
+
+    async def is_connected(self) -> bool:
+        return bool((await self.operator.admin_get("/charge_points"))[0]["connected"])
 
     async def open(self, bridge: RunningBridge) -> None:
         await self.browser.open(f"{bridge.admin_url}/")
