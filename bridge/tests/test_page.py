@@ -61,7 +61,7 @@ class PageTest(unittest.IsolatedAsyncioTestCase):
             stdin=subprocess.PIPE, stdout=subprocess.DEVNULL)
         self.addCleanup(self.charging.communicate)
         self.addCleanup(self.charging.kill)
-        await eventually(self.is_connected, "the charge point is connected")
+        await eventually(self.is_connected, "the charge point is connected", within=180)
         self.browser = Browser()
         await self.browser.start()
         self.addAsyncCleanup(self.browser.stop)

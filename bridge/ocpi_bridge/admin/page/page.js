@@ -215,13 +215,14 @@ function showSessions() {
       badge(session.status),
       { number: durationOf(session.start_date_time, session.end_date_time || session.last_updated) },
       { number: energyOf(session.kwh) }, { number: priceOf(session.total_cost, session.kwh, session.currency) },
-      { number: costOf(session.total_cost, session.currency) }, copied(session.id)];
+      { number: costOf(session.total_cost, session.currency) }];
     const stop = () => post("orders", { operator: partyOf(session), order: "stop_session", session_id: session.id },
       `The session at ${session.evse_uid} was asked to stop`);
     if (!shown.is_operator) {
       const words = `Stop the session at ${session.evse_uid}`;
       cells.push(LIVING.includes(session.status) ? button("Stop", words, stop) : "");
     }
+    cells.push(copied(session.id));
     return { key: `${partyOf(session)} ${session.id}`, says: session, cells };
   }));
 }
@@ -235,13 +236,13 @@ function showBills() {
     const cost = costOf(cdr.total_cost, cdr.currency);
     const cells = [momentOf(cdr.end_date_time), cdr.cdr_location.evse_uid, partnerOf(cdr), cdr.cdr_token.uid, kind,
       { number: durationOf(cdr.start_date_time, cdr.end_date_time) }, { number: energyOf(cdr.total_energy) },
-      { number: priceOf(cdr.total_cost, cdr.total_energy, cdr.currency) }, { number: cost }, copied(cdr.id),
-      copied(cdr.session_id)];
+      { number: priceOf(cdr.total_cost, cdr.total_energy, cdr.currency) }, { number: cost }];
     const credit = () => ask(`Take back the bill of ${cost}? This cannot be undone, and no second bill can be made.`,
       "credits", { session_id: cdr.session_id }, "The bill was taken back");
     if (shown.is_operator) {
       cells.push(cdr.credit || isCredited ? "" : button("Take back", `Take back the bill of ${cost}`, credit));
     }
+    cells.push(copied(cdr.id), copied(cdr.session_id));
     return { key: `${partyOf(cdr)} ${cdr.id}`, says: [cdr, isCredited], cells };
   }));
 }
