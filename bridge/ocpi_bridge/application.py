@@ -4,12 +4,12 @@ import logging
 import signal
 from typing import Any
 
-from .admin.metrics import Metrics
 from .admin.server import Admin
 from .clock import Clock
 from .configuration import Configuration, OcppSettings
 from .events import Events, Outcome
 from .listening import Listener
+from .metrics import Metrics
 from .node.revocable import RevocableFeeder
 from .ocpi.client import Client
 from .ocpi.credentials import Credentials
@@ -41,18 +41,12 @@ class Bridge:
         self._feeder = feeder = RevocableFeeder(configuration.node, events, state, metrics)
         objects = Objects(state)
         warnings = Warnings(state, objects, clock.seconds())
-        feeder.before_commit += [objects.note, warnings.note]
-        feeder.after_commit.append(warnings.act)
         partners = Partners(configuration, state)
         self._requests = requests = Requests(state)
         self._exchange = exchange = Exchange(clock, metrics, state.synced)
         self._orders = orders = Orders(configuration, state, events, objects, requests, feeder.feed)
-        feeder.before_opening.append(orders.note_left)
-        feeder.before_commit.append(orders.note)
         self._client = Client(configuration, state, partners, exchange, requests, events, feeder.feed, orders)
         self._pulling = Pulling(self._client, objects, state, configuration.is_operator)
-        feeder.after_opening.append(self._pulling.wake)
-        feeder.after_commit.append(self._send)
         ocpp = configuration.ocpp
         central_system = CentralSystem(ocpp or OcppSettings("", {}), events, state, feeder, objects,
                                        metrics.count)
@@ -64,19 +58,27 @@ class Bridge:
                                 self._client.takes_orders, feeder.revoke, *([late.expect] if ocpp else ()))
         server = Server(events, partners, Credentials(configuration, partners, exchange), interfaces, metrics,
                         state)
-        admin = Admin(configuration, state, events, feeder, objects, partners, metrics, locations, central_system,
-                      self._client.takes_orders)
+        admin = Admin(configuration, state, events, feeder, objects, self._client, metrics, locations, central_system)
         self._listeners = [Listener("ocpi", configuration.ocpi.listen, server.application()),
                            Listener("admin", configuration.admin, admin.application())]
         if ocpp is not None:
-            self._serve_charge_points(ocpp.listen, central_system, late)
+            self._listeners.append(Listener("ocpp", ocpp.listen, central_system.application()))
+        self._follow(objects, warnings, admin, None if ocpp is None else (late, central_system))
 
-    def _serve_charge_points(self, listen: str, central_system: CentralSystem, late: LateCommands) -> None:
-        """Has charge points served at an address, by what comes of events."""
-        self._feeder.before_commit += [central_system.note, late.note]
-        self._feeder.after_commit += [late.act, central_system.act]
-        self._feeder.after_opening.append(central_system.opened)
-        self._listeners.append(Listener("ocpp", listen, central_system.application()))
+    def _follow(self, objects: Objects, warnings: Warnings, admin: Admin,
+                charge_points: tuple[LateCommands, CentralSystem] | None) -> None:
+        """Says who is told of what the node does, and in which order: those that look at the state of another come
+        behind it. (Which commands come late is noted behind the commands, and acted on before these.)"""
+        feeder, orders = self._feeder, self._orders
+        feeder.before_opening = [orders.note_left, admin.feeding.note_left]
+        feeder.before_commit = [objects.note, warnings.note, orders.note, admin.outstanding.note, admin.feeding.note]
+        feeder.after_commit = [warnings.act, self._send]
+        feeder.after_opening = [self._pulling.wake]
+        if charge_points is not None:
+            late, central_system = charge_points
+            feeder.before_commit += [central_system.note, late.note]
+            feeder.after_commit += [late.act, central_system.act]
+            feeder.after_opening.append(central_system.opened)
 
     def _send(self, outcome: Outcome) -> None:
         for packet in outcome.packets:

@@ -100,3 +100,9 @@ CREATE TABLE IF NOT EXISTS command_given (
     request INTEGER PRIMARY KEY, operator TEXT, kind TEXT, body TEXT, response TEXT, result TEXT);
 CREATE TABLE IF NOT EXISTS owed_for (
     operator TEXT, record TEXT, currency TEXT, amount INTEGER, PRIMARY KEY (operator, record));
+
+-- admin/answers.py
+CREATE TABLE IF NOT EXISTS answer_given (
+    path TEXT, key TEXT, digest TEXT NOT NULL, at REAL NOT NULL, status INTEGER NOT NULL, body TEXT NOT NULL,
+    PRIMARY KEY (path, key)) WITHOUT ROWID;
+CREATE INDEX IF NOT EXISTS answer_given_at ON answer_given (at);

@@ -9,10 +9,10 @@ from pathlib import Path
 from unittest import mock
 
 from ocpi_bridge import room
-from ocpi_bridge.admin.metrics import Metrics
 from ocpi_bridge.clock import Clock
 from ocpi_bridge.configuration import NodeSettings
 from ocpi_bridge.events import Events, Outcome
+from ocpi_bridge.metrics import Metrics
 from ocpi_bridge.node.feeder import OutcomeLost
 from ocpi_bridge.node.revocable import RevocableFeeder
 from ocpi_bridge.room import NoRoom, when_there_is_room

@@ -13,11 +13,12 @@ from ocpi_bridge.node.feeder import OutcomeLost
 from ocpi_bridge.ocpi.exchange import NoResponse
 from ocpi_bridge.ocpi.objects import Objects
 from ocpi_bridge.ocpi.pulling import Pulling
+from ocpi_bridge.records import Event
 
 from .client_cases import ClientCase
 from .ocpi_objects import session, token
 from .ocpi_party import OcpiParty, Received, answered
-from .running import Members, eventually
+from .running import eventually
 
 
 class Sessions(ClientCase):
@@ -31,7 +32,7 @@ class Sessions(ClientCase):
         self.objects = Objects(self.state)
         self.pulling = Pulling(self.client, self.objects, self.state, is_operator=False)
 
-    async def feed(self, event: Members) -> Outcome:
+    async def feed(self, event: Event) -> Outcome:
         """Takes an object as a node does that accepts it."""
         await super().feed(event)
         packet = Packet.of(event["packet"])
@@ -175,7 +176,7 @@ class Tokens(ClientCase):
     is_operator = True
     kind = "ocpi"
 
-    async def feed(self, event: Members) -> Outcome:
+    async def feed(self, event: Event) -> Outcome:
         await super().feed(event)
         return Outcome(event, {"done": "refused", "name": "WrongForm", "field": "issuer"}, ())
 

@@ -4,6 +4,7 @@ import base64
 
 from ocpi_bridge.events import Outcome
 from ocpi_bridge.node.feeder import OutcomeLost
+from ocpi_bridge.records import Event
 
 from . import ocpi_objects
 from .running import Members
@@ -236,11 +237,11 @@ class OperatorServer(ServerCase):
         self.assertEqual([evse["last_updated"] > seen for evse in changed["evses"]], [False, True])
 
     async def test_an_answer_that_is_late_or_lost(self) -> None:
-        async def late(_: Members) -> Outcome:
+        async def late(_: Event) -> Outcome:
             await asyncio.Event().wait()
             raise AssertionError
 
-        async def lost(_: Members) -> Outcome:
+        async def lost(_: Event) -> Outcome:
             raise OutcomeLost()
         self.clock.factor = 40.0
         for self.feeding in (late, lost):

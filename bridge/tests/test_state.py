@@ -11,10 +11,10 @@ from contextlib import closing
 from pathlib import Path
 from unittest import mock
 
-from ocpi_bridge.admin.metrics import Metrics
 from ocpi_bridge.clock import Clock
 from ocpi_bridge.configuration import NodeSettings, PartnerSettings
 from ocpi_bridge.events import Events, Packet
+from ocpi_bridge.metrics import Metrics
 from ocpi_bridge.node.revocable import RevocableFeeder
 from ocpi_bridge.ocpi.exchange import Exchange
 from ocpi_bridge.ocpi.partners import Partner, Partners

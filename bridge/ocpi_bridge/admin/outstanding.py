@@ -1,11 +1,14 @@
 """What is outstanding: commands without a result, pushes without an acknowledgement, and what a provider owes."""
 from collections.abc import Callable
 from decimal import Decimal
+from typing import cast
 
+from ..clock import moment_of
 from ..events import Outcome, Packet
-from ..json_text import Members, Number, read_json, write_json
-from ..ocpi.objects import Objects
+from ..json_text import Members, read_json, write_json
+from ..ocpi.objects import Objects, ten_thousandths
 from ..parties import party_key
+from ..records import Body
 from ..state import State
 
 COMMANDS = ("start_session", "stop_session", "reserve_now", "cancel_reservation", "unlock_connector")
@@ -26,7 +29,8 @@ class Outstanding:
             self._forget_answered(outcome)
         for packet in outcome.packets:
             if packet.kind in PUSHES:
-                subject = " ".join([packet.kind, *(packet.body[name].upper() for name in PUSHES[packet.kind])])
+                body = cast(Members, packet.body)
+                subject = " ".join([packet.kind, *(str(body[name]).upper() for name in PUSHES[packet.kind])])
                 self._state.query("INSERT OR REPLACE INTO push_that_waits (receiver, subject, request)"
                                   " VALUES (?, ?, ?)", party_key(packet.receiver), subject, packet.request)
             elif packet.kind in COMMANDS:
@@ -46,7 +50,7 @@ class Outstanding:
         self._state.query("UPDATE command_given SET response = 'LOST' WHERE response IS NULL AND result IS NULL"
                           f" AND request NOT IN ({sent})")
 
-    def _take(self, packet: Packet, sender: str, body: Members) -> None:
+    def _take(self, packet: Packet, sender: str, body: Body) -> None:
         """Keeps what an answer says, or a request that was answered with success."""
         if packet.kind == "ack" and body["status_code"] == 1000:
             self._state.query("DELETE FROM push_that_waits WHERE receiver = ? AND request = ?", sender, packet.request)
@@ -63,12 +67,13 @@ class Outstanding:
                               sender, party_key(body["id"]), body["currency"], amount)
 
     def commands(self, most: int = 1000) -> list[Members]:
-        """The newest commands that a provider gave, the newest first, with what was answered and what came of each."""
-        return [{"number": number, "operator": operator, "kind": kind, "response": response, "result": result,
-                 "body": read_json(body)}
-                for number, operator, kind, body, response, result in self._state.query(
-                    "SELECT request, operator, kind, body, response, result FROM command_given"
-                    " ORDER BY request DESC LIMIT ?", most)]
+        """The newest commands that a provider gave, the newest first, with when (`at`), what was answered and what came
+        of each."""
+        return [{"number": number, "at": None if at is None else moment_of(at / 1000), "operator": operator,
+                 "kind": kind, "response": response, "result": result, "body": read_json(body)}
+                for number, at, operator, kind, body, response, result in self._state.query(
+                    "SELECT request, at, command_given.operator, kind, body, response, result FROM command_given"
+                    " LEFT JOIN order_given USING (request) ORDER BY request DESC LIMIT ?", most)]
 
     def open_commands(self) -> int:
         """How many commands of a provider wait for a response or a result."""
@@ -81,6 +86,6 @@ class Outstanding:
 
     def owed(self) -> list[Members]:
         """What a provider owes each operator in each currency, to four decimals."""
-        return [{"operator": operator, "currency": currency, "amount": Number(f"{Decimal(amount).scaleb(-4):.4f}")}
+        return [{"operator": operator, "currency": currency, "amount": ten_thousandths(amount)}
                 for operator, currency, amount in self._state.query(
                     "SELECT operator, currency, SUM(amount) FROM owed_for GROUP BY operator, currency ORDER BY 1, 2")]

@@ -3,9 +3,9 @@ import asyncio
 from collections.abc import Callable
 
 from ..configuration import NodeSettings
-from ..admin.metrics import Metrics
 from ..events import Events, Outcome
-from ..json_text import Members
+from ..metrics import Metrics
+from ..records import Event
 from ..room import NoRoom
 from ..state import State
 from .child import Child
@@ -22,9 +22,9 @@ class RevocableFeeder(Feeder):
     def __init__(self, settings: NodeSettings, events: Events, state: State, metrics: Metrics) -> None:
         super().__init__(settings, events, state, metrics)
         # Called with the events of the line that a stop left, before the node is opened anew.
-        self.before_opening: list[Callable[[list[Members]], None]] = []
+        self.before_opening: list[Callable[[list[Event]], None]] = []
 
-    def revoke(self, event: Members) -> bool:
+    def revoke(self, event: Event) -> bool:
         """Takes back an event that nobody awaits any more. False where it stands in a line already, or is done."""
         for place, waiting in enumerate(self._queue):
             if waiting.event is event:

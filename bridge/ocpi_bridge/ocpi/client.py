@@ -7,7 +7,7 @@ import asyncio
 import logging
 from collections.abc import Awaitable, Callable
 from contextlib import suppress
-from typing import Any
+from typing import Any, cast
 
 from ..clock import Clock, milliseconds_of, moment_of
 from ..configuration import Configuration
@@ -15,6 +15,7 @@ from ..events import Events, Outcome, Packet
 from ..json_text import Members, NotJson, read_json, write_json
 from ..node.feeder import NodeEnded, repeated
 from ..parties import party_key
+from ..records import Body, Event
 from ..room import NoRoom
 from ..state import State
 from .envelope import INVALID, SUCCESS, routing_headers
@@ -39,7 +40,7 @@ class Client:
     """Asks each partner a few requests at a time, and one that fails again and again less often."""
 
     def __init__(self, configuration: Configuration, state: State, partners: Partners, exchange: Exchange,
-                 requests: Requests, events: Events, feed: Callable[[Members], Awaitable[Outcome]],
+                 requests: Requests, events: Events, feed: Callable[[Event], Awaitable[Outcome]],
                  orders: Orders) -> None:
         self._orders = orders
         self._url, self._state, self._sent, self._feed = configuration.ocpi.url, state, SentOnce(state), feed
@@ -56,6 +57,19 @@ class Client:
         """Whether a partner may be sent one command or result more. (Of no partner its node has a word.)"""
         lanes = self._lanes.get(party_key(party))
         return lanes is None or not lanes.is_full
+
+    def told(self) -> list[Members]:
+        """Each partner: how it stands (`state`), and how many requests are `waiting` for it or under way."""
+        return [{"party": partner.party, "kind": partner.kind, "registered": partner.is_registered,
+                 "versions_url": partner.versions_url, "state": self._state_of(partner),
+                 "waiting": self._lanes[party_key(partner.party)].waiting} for partner in self.partners.all()]
+
+    def _state_of(self, partner: Partner) -> str:
+        if not partner.is_registered:
+            return "UNREGISTERED"
+        if self.exchange.is_resting(partner):
+            return "RESTING"
+        return "FAILING" if self._lanes[party_key(partner.party)].is_failing else "ANSWERING"
 
     async def run(self) -> None:
         """Sends what waits, until it is cancelled or the bridge ends."""
@@ -165,7 +179,7 @@ class Client:
 
         No log tells a driver's token.
         """
-        form, body = FORMS[packet.kind], packet.body
+        form, body = FORMS[packet.kind], cast(Members, packet.body)
         if packet.kind == "command_result":
             url: str | None = body["response_url"]
             if partner.kind == "node":
@@ -209,7 +223,7 @@ def answer_of(packet: Packet, kind: str, response: Response, clock: Clock) -> Pa
     serial = number_of(response.headers.get("X-Serial", "")) if kind == "node" else None
     if kind == "node" and serial is None and (not question or status_code == SUCCESS):
         return None
-    body: Members = {"status_code": status_code, "timestamp": response.body.get("timestamp")}
+    body: Body = {"status_code": status_code, "timestamp": str(response.body.get("timestamp"))}
     if serial is None:
         body["timestamp"] = clock.moment()
         with suppress(ValueError, OverflowError):

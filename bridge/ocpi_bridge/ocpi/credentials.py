@@ -12,10 +12,10 @@ import logging
 import sys
 from dataclasses import replace
 
-from ..admin.metrics import Metrics
 from ..clock import Clock
 from ..configuration import Configuration
 from ..json_text import Members
+from ..metrics import Metrics
 from ..parties import codes, party_key, party_of
 from ..state import State
 from .envelope import INVALID, Refusal

@@ -10,9 +10,9 @@ from urllib.parse import quote
 import aiohttp
 from yarl import URL
 
-from ..admin.metrics import Metrics
 from ..clock import Clock
 from ..json_text import Members, NotJson, NumberTooLarge, read_json, write_json
+from ..metrics import Metrics
 from .envelope import SUCCESS, authorization
 from .partners import Endpoints, Partner
 
@@ -125,6 +125,10 @@ class Exchange:
             with suppress(ValueError, OverflowError):
                 seconds = seconds or parsedate_to_datetime(after).timestamp() - self.clock.seconds()
             self._rested_at[partner.party] = self.clock.seconds() + min(seconds, LONGEST_REST)
+
+    def is_resting(self, partner: Partner) -> bool:
+        """Whether a partner said `Retry-After`, and that is not over."""
+        return self.clock.seconds() < self._rested_at.get(partner.party, 0.0)
 
     async def may_ask(self, partner: Partner, at_most: float = LONGEST_REST) -> bool:
         """Waits until a partner may be asked that said `Retry-After`, so many seconds at most. Whether it may be."""

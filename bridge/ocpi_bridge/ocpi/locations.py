@@ -22,6 +22,10 @@ class Locations:
         self._evse_setups = {(name, evse["uid"].upper()): evse for name, location in self._setups.items()
                              for evse in location["evses"]}
 
+    def has_evse(self, evse_uid: str) -> bool:
+        """Whether the site has an EVSE of a uid."""
+        return any(uid == evse_uid.upper() for _, uid in self._evse_setups)
+
     def all(self) -> list[Members]:
         """All locations, by `last_updated` and then by id."""
         with self._state.transaction():

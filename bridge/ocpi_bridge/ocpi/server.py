@@ -6,10 +6,10 @@ from urllib.parse import unquote
 
 from aiohttp import web
 
-from ..admin.metrics import Metrics
 from ..events import Events
 from ..json_text import NotJson, NumberTooLarge, read_json
 from ..listening import Handler
+from ..metrics import Metrics
 from ..node.feeder import NodeEnded, OutcomeLost
 from ..parties import codes
 from ..room import NoRoom

@@ -10,7 +10,7 @@ from typing import Any
 
 from aiohttp import web
 
-from ..clock import seconds_of
+from ..clock import moment_of, seconds_of
 from ..configuration import ChargePointSettings, OcppSettings
 from ..events import Events, Outcome
 from ..json_text import Members
@@ -138,7 +138,7 @@ class CentralSystem:
         if outcome.event["event"] == "tick":
             self._end_unused()
             self._watch.tick()
-        if outcome.event["event"] == "fault":
+        if outcome.event["event"] == "fault" and outcome.word in ("stepped", "idle"):
             self._watch.stop_at(outcome.event["evse_uid"])
         if outcome.sent("command_response"):
             self._orders.begin()
@@ -161,11 +161,15 @@ class CentralSystem:
         await charge_point.alone(lambda: self._site.withdraw(session_id))
 
     def charge_points(self) -> list[Members]:
-        """Each charge point: its `id`, whether it is `connected`, and its `connectors` with their `status`."""
-        return [{"id": point.settings.id, "connected": point.connection is not None, "connectors": [
-            {"connector": place.connector, "evse_uid": place.settings.evse_uid,
-             "connector_id": place.settings.connector_id, "status": self._site.status(place)}
-            for place in point.places.values()]} for point in self._site.by_id.values()]
+        """Each charge point: its `id`, whether it is `connected`, when its `last_message` came since the bridge was
+        started, and its own `error` of OCPP. Its `connectors` have their `status` and `error`, and their EVSE."""
+        return [{"id": point.settings.id, "connected": point.connection is not None,
+                 "last_message": None if point.heard is None else moment_of(point.heard),
+                 "error": point.errors.get(0), "connectors": [
+                     {"connector": place.connector, "evse_uid": place.settings.evse_uid,
+                      "connector_id": place.settings.connector_id, "status": self._site.status(place),
+                      "error": point.errors.get(place.connector), "in_service": self._site.is_in_service(place)}
+                     for place in point.places.values()]} for point in self._site.by_id.values()]
 
     def warnings(self, most: int) -> list[Members]:
         """What the owner has to look at: `at`, `evse_uid` and words. First come sessions that are silent, then the

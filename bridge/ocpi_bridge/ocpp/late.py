@@ -6,6 +6,7 @@ from contextlib import suppress
 from ..events import Events, Outcome, Packet
 from ..json_text import Members
 from ..node.feeder import NodeEnded, repeated
+from ..records import Event
 from ..state import State
 from .commands import OPEN, REFUSED
 
@@ -14,7 +15,7 @@ class LateCommands:
     """Keeps which commands came late, before the node has them. `note` and `act` come behind and before those of the
     central system, which then finds them refused."""
 
-    def __init__(self, state: State, events: Events, feed: Callable[[Members], Awaitable[Outcome]]) -> None:
+    def __init__(self, state: State, events: Events, feed: Callable[[Event], Awaitable[Outcome]]) -> None:
         self._state, self._events, self._feed = state, events, feed
         self._refused: list[tuple[str, int]] = []
         self._tasks: set[asyncio.Task[None]] = set()

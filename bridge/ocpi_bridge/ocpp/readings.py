@@ -8,6 +8,7 @@ from decimal import Decimal, InvalidOperation
 from ..clock import milliseconds_of, moment_of
 from ..configuration import ConnectorSettings
 from ..json_text import Members
+from ..records import Session
 from ..state import State
 from .site import EventRefused, Site
 from .transactions import Transaction
@@ -64,7 +65,7 @@ class Readings:
                           transaction.number, at, str(register))
         return Reading(at, register)
 
-    def last(self, transaction: Transaction, session: Members) -> Reading:
+    def last(self, transaction: Transaction, session: Session) -> Reading:
         """The highest reading of a transaction that was taken: at first that of its start."""
         for at, register in self._state.query("SELECT at, register FROM ocpp_reading WHERE number = ?",
                                               transaction.number):
