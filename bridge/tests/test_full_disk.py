@@ -73,8 +73,10 @@ class FullDisk(OperatorCase):
         self.assert_status(await self.provider.put_token(token(self.provider.party, "LAST")), 503, 3000)
         self.assertEqual(503, await self.health())
         self.assertIn(f"{self.name}: the disk is full: make room for {self.disk}/file.db", self.bridge.log())
-        refused = await self.bridge.admin_post("/service", {"evse_uid": "E3", "in_service": False})
-        self.assertEqual(503, refused["status"])
+        credit = {"session_id": "none"}, "key"
+        for refused in (await self.bridge.admin_post("/service", {"evse_uid": "E3", "in_service": False}),
+                        await self.bridge.admin_post("/credits", *credit)):
+            self.assertEqual(503, refused["status"])
         starting = asyncio.create_task(charge_point.call("StartTransaction", {
             "connectorId": 1, "idTag": "AA01", "meterStart": 0, "timestamp": now()}))
         await asyncio.sleep(2)
@@ -86,6 +88,8 @@ class FullDisk(OperatorCase):
         await eventually(is_healthy, "the bridge goes on")
         self.assertEqual("Accepted", (await starting)["idTagInfo"]["status"])
         self.assertIn(f"{self.name}: there is room again", self.bridge.log())
+        # That there was no room is not what the key stands for.
+        self.assertEqual(404, (await self.bridge.admin_post("/credits", *credit))["status"])
         for uid in (*taken, "LAST"):
             self.assert_status(await self.provider.put_token(token(self.provider.party, uid)), 200, 1000)
         self.assertLessEqual({*taken, "LAST"}, {each["uid"] for each in await self.bridge.admin_get("/tokens")})

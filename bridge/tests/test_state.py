@@ -104,6 +104,12 @@ class FilesOfBefore(unittest.TestCase):
                 wanted, found = ([row[1:] for row in each.query(f"PRAGMA table_info({name})")] for each in (new, state))
                 self.assertEqual(wanted, found, name)
 
+    def test_a_table_that_is_new_needs_no_other_version(self) -> None:
+        state = self.opened("new.db")
+        state.query("DROP TABLE answer_given")
+        state.close()
+        self.assertEqual([], self.opened("new.db").query("SELECT key FROM answer_given"))
+
     def test_a_file_is_brought_on_whole_or_not_at_all(self) -> None:
         with self.assertRaises(sqlite3.IntegrityError):
             self.before("CREATE TRIGGER no BEFORE DELETE ON value_of BEGIN SELECT RAISE(ABORT, 'no'); END")
