@@ -2,7 +2,9 @@
 import argparse
 import asyncio
 import resource
+import sqlite3
 import sys
+from dataclasses import replace
 from getpass import getpass
 from pathlib import Path
 
@@ -10,6 +12,7 @@ from .application import run
 from .configuration import WrongConfiguration, read_configuration
 from .logs import set_up_logs
 from .ocpi.credentials import register
+from .state import WrongState
 
 
 def main() -> int:
@@ -20,6 +23,8 @@ def main() -> int:
     parser.add_argument("--register", nargs=2, metavar=("PARTY", "URL"),
                         help="register at a partner, whose versions stand at URL, by its token, and end: standard "
                              "input has the token")
+    parser.add_argument("--restored", action="store_true", help="the state and the store are those of a backup")
+    parser.add_argument("--new-state", action="store_true", help="the state is new, and the store is not")
     words = parser.parse_args()
     most_files = resource.getrlimit(resource.RLIMIT_NOFILE)[1]
     resource.setrlimit(resource.RLIMIT_NOFILE, (most_files, most_files))
@@ -29,11 +34,19 @@ def main() -> int:
     except WrongConfiguration as wrong:
         print(wrong, file=sys.stderr)
         return 2
-    if words.register is None:
-        return asyncio.run(run(configuration))
-    party, url = words.register
-    token = getpass("token: ") if sys.stdin.isatty() else sys.stdin.readline().strip()
-    return asyncio.run(register(configuration, party, url, token))
+    try:
+        if words.register is None:
+            node = replace(configuration.node, takes_new_state=words.new_state)
+            return asyncio.run(run(replace(configuration, node=node, is_restored=words.restored)))
+        party, url = words.register
+        token = getpass("token: ") if sys.stdin.isatty() else sys.stdin.readline().strip()
+        return asyncio.run(register(configuration, party, url, token))
+    except WrongState as wrong:
+        print(wrong, file=sys.stderr)
+        return 3
+    except sqlite3.Error as fault:
+        print(f"{configuration.state}: {fault}", file=sys.stderr)
+        return 1
 
 
 sys.exit(main())

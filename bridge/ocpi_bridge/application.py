@@ -4,12 +4,12 @@ import logging
 import signal
 from typing import Any
 
-from .admin.metrics import Metrics
 from .admin.server import Admin
 from .clock import Clock
 from .configuration import Configuration, OcppSettings
 from .events import Events, Outcome
 from .listening import Listener
+from .metrics import Metrics
 from .node.revocable import RevocableFeeder
 from .ocpi.client import Client
 from .ocpi.credentials import Credentials
@@ -34,28 +34,19 @@ class Bridge:
     """One node among its partners and charge points. To be made while the event loop runs."""
 
     def __init__(self, configuration: Configuration) -> None:
-        self._state = state = State(configuration.state)
-        # The origin is kept, so that no new start sets the clock back.
-        origin = state.value("clock.origin")
-        clock = Clock(configuration.clock_factor, None if origin is None else float(origin))
-        state.set_value("clock.origin", repr(clock.origin))
+        self._state = state = _state_of(configuration)
+        clock = _clock_of(configuration, state)
         events = Events(configuration.node.party, clock)
         metrics = Metrics()
         self._feeder = feeder = RevocableFeeder(configuration.node, events, state, metrics)
         objects = Objects(state)
         warnings = Warnings(state, objects, clock.seconds())
-        feeder.before_commit += [objects.note, warnings.note]
-        feeder.after_commit.append(warnings.act)
         partners = Partners(configuration, state)
-        requests = Requests(state)
-        self._exchange = exchange = Exchange(clock, metrics)
+        self._requests = requests = Requests(state)
+        self._exchange = exchange = Exchange(clock, metrics, state.synced)
         self._orders = orders = Orders(configuration, state, events, objects, requests, feeder.feed)
-        feeder.before_opening.append(orders.note_left)
-        feeder.before_commit.append(orders.note)
         self._client = Client(configuration, state, partners, exchange, requests, events, feeder.feed, orders)
         self._pulling = Pulling(self._client, objects, state, configuration.is_operator)
-        feeder.after_opening.append(self._pulling.wake)
-        feeder.after_commit.append(self._send)
         ocpp = configuration.ocpp
         central_system = CentralSystem(ocpp or OcppSettings("", {}), events, state, feeder, objects,
                                        metrics.count)
@@ -65,20 +56,29 @@ class Bridge:
         late = LateCommands(state, events, feeder.feed)
         interfaces = Interfaces(configuration.ocpi.url, events, objects, requests, locations, feeder.feed,
                                 self._client.takes_orders, feeder.revoke, *([late.expect] if ocpp else ()))
-        server = Server(events, partners, Credentials(configuration, partners, exchange), interfaces, metrics)
-        admin = Admin(configuration, state, events, feeder, objects, partners, metrics, locations, central_system,
-                      self._client.takes_orders)
+        server = Server(events, partners, Credentials(configuration, partners, exchange), interfaces, metrics,
+                        state)
+        admin = Admin(configuration, state, events, feeder, objects, self._client, metrics, locations, central_system)
         self._listeners = [Listener("ocpi", configuration.ocpi.listen, server.application()),
                            Listener("admin", configuration.admin, admin.application())]
         if ocpp is not None:
-            self._serve_charge_points(ocpp.listen, central_system, late)
+            self._listeners.append(Listener("ocpp", ocpp.listen, central_system.application()))
+        self._follow(objects, warnings, admin, None if ocpp is None else (late, central_system))
 
-    def _serve_charge_points(self, listen: str, central_system: CentralSystem, late: LateCommands) -> None:
-        """Has charge points served at an address, by what comes of events."""
-        self._feeder.before_commit += [central_system.note, late.note]
-        self._feeder.after_commit += [late.act, central_system.act]
-        self._feeder.after_opening.append(central_system.opened)
-        self._listeners.append(Listener("ocpp", listen, central_system.application()))
+    def _follow(self, objects: Objects, warnings: Warnings, admin: Admin,
+                charge_points: tuple[LateCommands, CentralSystem] | None) -> None:
+        """Says who is told of what the node does, and in which order: those that look at the state of another come
+        behind it. (Which commands come late is noted behind the commands, and acted on before these.)"""
+        feeder, orders = self._feeder, self._orders
+        feeder.before_opening = [orders.note_left, admin.feeding.note_left]
+        feeder.before_commit = [objects.note, warnings.note, orders.note, admin.outstanding.note, admin.feeding.note]
+        feeder.after_commit = [warnings.act, self._send]
+        feeder.after_opening = [self._pulling.wake]
+        if charge_points is not None:
+            late, central_system = charge_points
+            feeder.before_commit += [central_system.note, late.note]
+            feeder.after_commit += [late.act, central_system.act]
+            feeder.after_opening.append(central_system.opened)
 
     def _send(self, outcome: Outcome) -> None:
         for packet in outcome.packets:
@@ -92,7 +92,8 @@ class Bridge:
         for number in (signal.SIGTERM, signal.SIGINT):
             asyncio.get_running_loop().add_signal_handler(number, stopping.set)
         node, serving = asyncio.create_task(self._feeder.run()), asyncio.create_task(self._serve(opened))
-        tasks: list[asyncio.Task[Any]] = [node, serving, asyncio.create_task(stopping.wait())]
+        tasks: list[asyncio.Task[Any]] = [node, serving, asyncio.create_task(stopping.wait()),
+                                          asyncio.create_task(self._state.room.run())]
         await asyncio.wait(tasks, return_when=asyncio.FIRST_COMPLETED)
         for listener in self._listeners:
             listener.stop()
@@ -103,6 +104,7 @@ class Bridge:
         await self._exchange.close()
         for listener in self._listeners:
             await listener.close()
+        await self._state.synced()
         self._state.close()
         fault = None if serving.cancelled() else serving.exception()
         if fault is not None:
@@ -118,8 +120,25 @@ class Bridge:
             group.create_task(self._client.run())
             group.create_task(self._pulling.run())
             group.create_task(self._orders.run())
+            group.create_task(self._requests.run())
+
+
+def _state_of(configuration: Configuration) -> State:
+    """The state. One that is new beside an older store numbers transactions behind those that nobody knows any more."""
+    state = State(configuration.state, configuration.is_restored)
+    if configuration.node.takes_new_state and state.value("node.was_opened") is None:
+        state.renumber_transactions()
+    return state
+
+
+def _clock_of(configuration: Configuration, state: State) -> Clock:
+    """The clock. Its origin is kept, so that no new start sets it back."""
+    origin = state.value("clock.origin")
+    clock = Clock(configuration.clock_factor, None if origin is None else float(origin))
+    state.set_value("clock.origin", repr(clock.origin))
+    return clock
 
 
 async def run(configuration: Configuration) -> int:
-    """Runs a bridge. Gives the status with which to end."""
+    """Runs a bridge. Gives the status with which to end. Raises WrongState."""
     return await Bridge(configuration).run()

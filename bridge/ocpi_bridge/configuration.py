@@ -1,8 +1,7 @@
 """The configuration of a bridge: a JSON file, whose every fault is refused by its path before anything starts.
 
-Its form is in configuration.json: an object of the members that are wanted (those whose names end in `?` may be left
-out), an object with the name `*` for members of any names, a list for elements of one form, and a word for any other
-value. Here is what the parts and the setup must have in common.
+Its form is the JSON Schema configuration.schema.json, where `fault` is what is said of a value that does not fit, and
+`unknown` of a name. Here is what the parts, the files and the setup must have in common.
 """
 import json
 import os
@@ -13,10 +12,12 @@ from decimal import Decimal
 from pathlib import Path
 from typing import Any, NoReturn
 
+import fastjsonschema
+
 from .json_text import Members, NotJson, Number, NumberTooLarge, read_json, write_json
 
-# The `form`, and the `texts` that its words stand for: the pattern that each matches, and what is wrong with others.
-TABLES = json.loads(Path(__file__).with_name("configuration.json").read_text())
+USUAL_MAX_KW = 400
+SCHEMA = Path(__file__).parents[1] / "configuration.schema.json"
 
 
 class WrongConfiguration(Exception):
@@ -25,13 +26,17 @@ class WrongConfiguration(Exception):
 
 @dataclass(frozen=True)
 class NodeSettings:
-    """The program, the party that it is, and its files. `setup_line` is the setup on one line."""
+    """The program, the party that it is, and its files. `setup_line` is the setup on one line.
+
+    Only with `takes_new_state` may the store have rows where the state is new.
+    """
 
     program: Path
     party: str
     setup_line: str
     store: Path
     transcript: Path | None
+    takes_new_state: bool = False
 
 
 @dataclass(frozen=True)
@@ -52,7 +57,7 @@ class ConnectorSettings:
 
     evse_uid: str
     connector_id: str
-    max_kw: Decimal = Decimal(400)
+    max_kw: Decimal = Decimal(USUAL_MAX_KW)
 
 
 @dataclass(frozen=True)
@@ -90,7 +95,10 @@ class PartnerSettings:
 
 @dataclass(frozen=True)
 class Configuration:
-    """All of it. `site` is the node's site in the setup, and None for a provider. Where to listen is HOST:PORT."""
+    """All of it. `site` is the node's site in the setup, and None for a provider. Where to listen is HOST:PORT.
+
+    The state may be a backup where it `is_restored`.
+    """
 
     node: NodeSettings
     state: Path
@@ -101,6 +109,7 @@ class Configuration:
     clock_factor: float
     site: Members | None
     setup: Members
+    is_restored: bool = False
 
     @property
     def is_operator(self) -> bool:
@@ -109,74 +118,64 @@ class Configuration:
 
 def read_configuration(path: Path) -> Configuration:
     """Reads the file, and the setup that it names. Raises WrongConfiguration with the path of what is wrong."""
-    file = _read_by(TABLES["form"], _read_file(path, str(path)), "", path.absolute().parent)
-    node, ocpi = file["node"], file["ocpi"]
-    setup = _read_file(node["setup"], "node.setup")
+    text, file = _read_file(path, str(path))
+    _try_form(json.loads(text))
+    folder, ocpi = path.absolute().parent, file["ocpi"]
+    files = {name: _file(folder, file["node"][name], f"node.{name}")
+             for name in ("program", "setup", "store", "transcript") if name in file["node"]}
+    state = _file(folder, file["state"], "state")
+    _, setup = _read_file(files["setup"], "node.setup")
     sites = _sites(setup)
-    party = spelled(node["party"], sites) or refuse("node.party", "not in the setup")
+    party = spelled(file["node"]["party"], sites) or refuse("node.party", "not in the setup")
     site = sites[party]
-    if not os.access(node["program"], os.X_OK):
+    if not os.access(files["program"], os.X_OK):
         refuse("node.program", "no program")
-    if file["state"] == node["store"]:
+    if state == files["store"]:
         refuse("state", "the node's store")
-    if file["ocpp"] and site is None:
+    if "ocpp" in file and site is None:
         refuse("ocpp", "a provider has no charge points")
     return Configuration(
-        node=NodeSettings(node["program"], party, write_json(setup), node["store"], node["transcript"]),
-        state=file["state"], ocpi=OcpiSettings(ocpi["listen"], ocpi["url"].rstrip("/"), ocpi["business"]),
-        ocpp=_ocpp(file["ocpp"], site) if file["ocpp"] and site else None, admin=file["admin"]["listen"],
+        node=NodeSettings(files["program"], party, write_json(setup), files["store"], files.get("transcript")),
+        state=state, ocpi=OcpiSettings(ocpi["listen"], ocpi["url"].rstrip("/"), ocpi["business"]),
+        ocpp=_ocpp(file["ocpp"], site) if "ocpp" in file and site else None, admin=file["admin"]["listen"],
         partners=_partners(file["partners"], [name for name in sites if (sites[name] is None) == (site is not None)]),
-        clock_factor=file["clock_factor"] or 1.0, site=site, setup=setup)
+        clock_factor=float(file.get("clock_factor", 1)), site=site, setup=setup)
 
 
 def refuse(path: str, fault: str) -> NoReturn:
     raise WrongConfiguration(f"{path}: {fault}")
 
 
-def _read_file(path: Path, name: str) -> Any:
-    """The JSON of a file, which a refusal calls by its name."""
+def _read_file(path: Path, name: str) -> tuple[bytes, Any]:
+    """The text of a file, which a refusal calls by its name, and the JSON there."""
     try:
-        return read_json(path.read_bytes())
+        text = path.read_bytes()
+        return text, read_json(text)
     except OSError as fault:
         refuse(name, fault.strerror)
     except (NotJson, NumberTooLarge):
         refuse(name, "no JSON")
 
 
-def _read_by(form: Any, value: Any, path: str, folder: Path) -> Any:
-    """The value as the form wants it. A member that was left out is None, and files are relative to the folder."""
-    if isinstance(form, str):
-        return _read_word(form, value, path, folder)
-    if isinstance(form, list):
-        if not isinstance(value, list):
-            refuse(path, "no list")
-        return [_read_by(form[0], element, f"{path}[{place}]", folder) for place, element in enumerate(value)]
-    if not isinstance(value, dict):
-        refuse(path or "configuration", "no object")
-    start = f"{path}." if path else ""
-    if "*" in form:
-        return {name: _read_by(form["*"], member, start + name, folder) for name, member in value.items()}
-    forms = {name.rstrip("?"): member for name, member in form.items()}
-    for name in (*value, *(name for name in form if not name.endswith("?"))):
-        if name not in forms or name not in value:
-            refuse(start + name, "missing" if name in forms else "unknown")
-    return {name: _read_by(member, value[name], start + name, folder) if name in value else None
-            for name, member in forms.items()}
+def _try_form(value: object) -> None:
+    """Sees that a value is what the schema wants. A name that is missing or unknown is told by its own path."""
+    try:
+        fastjsonschema.compile(json.loads(SCHEMA.read_text()))(value)
+    except fastjsonschema.JsonSchemaValueException as wrong:
+        path, form = wrong.name.partition(".")[2], wrong.definition
+        start = f"{path}." if path else ""
+        if wrong.rule == "required":
+            refuse(start + next(name for name in form["required"] if name not in wrong.value), "missing")
+        if wrong.rule == "additionalProperties":
+            patterns = "|".join(form.get("patternProperties", ()))
+            refuse(start + next(name for name in wrong.value if name not in form.get("properties", ())
+                                and not (patterns and re.fullmatch(patterns, name))), form.get("unknown", "unknown"))
+        refuse(path or "configuration", form["fault"])
 
 
-def _read_word(word: str, value: Any, path: str, folder: Path) -> Any:
-    """What a word of the form stands for: a truth, a number above 0, a text, or a file in a folder that is there."""
-    if word == "truth":
-        return value if isinstance(value, bool) else refuse(path, "neither true nor false")
-    if word == "number":
-        number = float(value) if isinstance(value, (int, Number)) and not isinstance(value, bool) else 0.0
-        return number if 0 < number < float("inf") else refuse(path, "no number above 0")
-    pattern, fault = TABLES["texts"][word]
-    if not isinstance(value, str) or not re.fullmatch(pattern, value):
-        refuse(path, fault)
-    if word != "file":
-        return value
-    file = folder / value
+def _file(folder: Path, name: str, path: str) -> Path:
+    """A file in a folder that is there."""
+    file = folder / name
     return file if file.parent.is_dir() else refuse(path, f"no folder {file.parent}")
 
 
@@ -203,10 +202,8 @@ def _ocpp(ocpp: Members, site: Members) -> OcppSettings:
             refuse(f"{path}.id", "that of another charge point")
         connectors = {}
         for number, connector in entry["connectors"].items():
-            if not number.isdecimal() or not 0 < int(number) < 10**9:
-                refuse(f"{path}.connectors.{number}", "no number of a connector, from 1")
             connectors[int(number)] = _connector(connector, f"{path}.connectors.{number}", evses)
-        charge_points[entry["id"]] = ChargePointSettings(entry["id"], entry["password"], connectors)
+        charge_points[entry["id"]] = ChargePointSettings(entry["id"], entry.get("password"), connectors)
     return OcppSettings(ocpp["listen"], charge_points)
 
 
@@ -216,8 +213,7 @@ def _connector(connector: Members, path: str, evses: dict[str, list[str]]) -> Co
                 or refuse(f"{path}.evse_uid", "not in the site, or that of another connector"))
     connector_id = (spelled(connector["connector_id"], evses.pop(evse_uid))
                     or refuse(f"{path}.connector_id", f"not at the EVSE {evse_uid}"))
-    max_kw = connector["max_kw"]
-    return ConnectorSettings(evse_uid, connector_id, *([] if max_kw is None else [Decimal(str(max_kw))]))
+    return ConnectorSettings(evse_uid, connector_id, Decimal(str(connector.get("max_kw", USUAL_MAX_KW))))
 
 
 def _partners(entries: list[Members], missing: list[str]) -> tuple[PartnerSettings, ...]:
@@ -232,13 +228,12 @@ def _partners(entries: list[Members], missing: list[str]) -> tuple[PartnerSettin
                  or refuse(f"{path}.party", "no partner of this node in the setup, or here twice"))
         missing.remove(party)
         for name, other in (("their_token", "versions_url"), ("versions_url", "their_token")):
-            if entry[name] is None and entry[other] is not None:
+            if name not in entry and other in entry:
                 refuse(f"{path}.{name}", "missing")
         for name in ("token_base64", "own_references"):
-            if entry[name] is not None and entry["kind"] != "ocpi":
+            if name in entry and entry["kind"] != "ocpi":
                 refuse(f"{path}.{name}", "only of a partner of kind ocpi")
-        members: Members = {**entry, "party": party, "token_base64": entry["token_base64"] is not False,
-                            "own_references": entry["own_references"] is True}
+        members: Members = {"their_token": None, "versions_url": None, **entry, "party": party}
         partner = PartnerSettings(**members)
         if any(partner.token == other.token and ((partner.kind, other.kind) != ("ocpi", "ocpi")
                                                  or partner.token_base64 != other.token_base64) for other in found):

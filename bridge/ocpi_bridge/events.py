@@ -1,9 +1,10 @@
 """What goes into a node and what comes out: event lines, packets, and what became of an event."""
 from dataclasses import dataclass
+from typing import cast
 
 from .clock import Clock
-from .json_text import Members
 from .parties import same_party
+from .records import Body, Done, Event, PacketLine
 
 # The packets that are requests, and those that answer them.
 ANSWERS = ("command_response", "authorization", "ack")
@@ -18,14 +19,14 @@ class Packet:
     serial: int
     request: int
     kind: str
-    body: Members
+    body: Body
 
     @staticmethod
-    def of(line: Members) -> "Packet":
+    def of(line: PacketLine) -> "Packet":
         """The packet of a line that a node wrote."""
         return Packet(line["from"], line["to"], line["serial"], line["request"], line["kind"], line["body"])
 
-    def members(self) -> Members:
+    def members(self) -> PacketLine:
         """The packet as a node reads it."""
         return {"from": self.sender, "to": self.receiver, "serial": self.serial, "request": self.request,
                 "kind": self.kind, "body": self.body}
@@ -39,8 +40,8 @@ class Packet:
 class Outcome:
     """What became of an event: its `done`, and the packets that the node sent for it."""
 
-    event: Members
-    done: Members
+    event: Event
+    done: Done
     packets: tuple[Packet, ...]
 
     @property
@@ -65,13 +66,13 @@ class Events:
         self.node = node
         self.clock = clock
 
-    def make(self, event: str, at: str | None = None, **members: object) -> Members:
+    def make(self, event: str, at: str | None = None, **members: object) -> Event:
         """An event of a name and its own members. (`service` alone has no moment.)"""
         moment = {} if event == "service" else {"at": at or self.clock.moment()}
-        return {"event": event, "node": self.node, **moment, **members}
+        return cast(Event, {"event": event, "node": self.node, **moment, **members})
 
-    def deliver(self, packet: Packet) -> Members:
+    def deliver(self, packet: Packet) -> Event:
         return self.make("deliver", packet=packet.members())
 
-    def tick(self) -> Members:
+    def tick(self) -> Event:
         return self.make("tick")

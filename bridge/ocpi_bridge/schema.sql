@@ -1,15 +1,29 @@
--- What a bridge keeps. Each group of tables has a class that alone reads and changes it.
+-- What a bridge keeps, at version 1. Each group of tables has a class that alone reads and changes it. A table that is
+-- new needs no other version. What changes one of these does: then migrations/ has the way from the version before.
 
+-- Single values under names that are fixed.
 CREATE TABLE IF NOT EXISTS value_of (name TEXT PRIMARY KEY, value TEXT NOT NULL);
 
--- ocpi/requests.py (request_number is read alone: an earlier bridge wrote it)
-CREATE TABLE IF NOT EXISTS request_number (
-    partner TEXT, correlation TEXT, number INTEGER NOT NULL, PRIMARY KEY (partner, correlation)) WITHOUT ROWID;
+-- ocpi/requests.py: Requests (moments are seconds since 1970)
 CREATE TABLE IF NOT EXISTS request_digest (
-    partner TEXT, correlation TEXT, digest BLOB, number INTEGER NOT NULL,
+    partner TEXT, correlation TEXT, digest BLOB, number INTEGER NOT NULL, given_at INTEGER NOT NULL DEFAULT 0,
     PRIMARY KEY (partner, correlation, digest)) WITHOUT ROWID;
+CREATE INDEX IF NOT EXISTS request_by_time ON request_digest (given_at);
 CREATE TABLE IF NOT EXISTS response_url (
-    partner TEXT, number INTEGER, url TEXT NOT NULL, PRIMARY KEY (partner, number)) WITHOUT ROWID;
+    partner TEXT, number INTEGER, url TEXT NOT NULL, kept_at INTEGER NOT NULL DEFAULT 0,
+    PRIMARY KEY (partner, number)) WITHOUT ROWID;
+CREATE INDEX IF NOT EXISTS url_by_time ON response_url (kept_at);
+
+-- ocpi/requests.py: SentOnce
+CREATE TABLE IF NOT EXISTS sent_once (
+    operator TEXT, request INTEGER, answer TEXT NOT NULL, PRIMARY KEY (operator, request)) WITHOUT ROWID;
+
+-- ocpi/partners.py (both tokens and versions_url count only where is_decided)
+CREATE TABLE IF NOT EXISTS registration (
+    party TEXT PRIMARY KEY, is_decided INTEGER NOT NULL DEFAULT 0, token TEXT, their_token TEXT, versions_url TEXT,
+    used TEXT, former TEXT, offer TEXT, details_of TEXT) WITHOUT ROWID;
+CREATE TABLE IF NOT EXISTS endpoint (
+    party TEXT, module TEXT, role TEXT, url TEXT NOT NULL, PRIMARY KEY (party, module, role)) WITHOUT ROWID;
 
 -- ocpi/objects.py: Objects
 CREATE TABLE IF NOT EXISTS object_of (
@@ -44,12 +58,18 @@ CREATE TABLE IF NOT EXISTS late_command (
     provider TEXT COLLATE NOCASE, number INTEGER, PRIMARY KEY (provider, number)) WITHOUT ROWID;
 
 -- ocpi/pulling.py
+CREATE TABLE IF NOT EXISTS list_pulled (
+    party TEXT, module TEXT, latest INTEGER NOT NULL, PRIMARY KEY (party, module)) WITHOUT ROWID;
 CREATE TABLE IF NOT EXISTS list_under_way (
     party TEXT, module TEXT, page TEXT NOT NULL, pages INTEGER NOT NULL, latest INTEGER NOT NULL,
     PRIMARY KEY (party, module)) WITHOUT ROWID;
 
 -- ocpi/locations.py
 CREATE TABLE IF NOT EXISTS place (name TEXT PRIMARY KEY, text TEXT NOT NULL, since TEXT NOT NULL);
+
+-- ocpp/site.py
+CREATE TABLE IF NOT EXISTS ocpp_evse (evse_uid TEXT PRIMARY KEY, status TEXT, service TEXT) WITHOUT ROWID;
+CREATE TABLE IF NOT EXISTS ocpp_id_tag (id_tag TEXT PRIMARY KEY, token_uid TEXT NOT NULL) WITHOUT ROWID;
 
 -- ocpp/commands.py
 CREATE TABLE IF NOT EXISTS ocpp_command (
@@ -80,3 +100,9 @@ CREATE TABLE IF NOT EXISTS command_given (
     request INTEGER PRIMARY KEY, operator TEXT, kind TEXT, body TEXT, response TEXT, result TEXT);
 CREATE TABLE IF NOT EXISTS owed_for (
     operator TEXT, record TEXT, currency TEXT, amount INTEGER, PRIMARY KEY (operator, record));
+
+-- admin/answers.py
+CREATE TABLE IF NOT EXISTS answer_given (
+    path TEXT, key TEXT, digest TEXT NOT NULL, at REAL NOT NULL, status INTEGER NOT NULL, body TEXT NOT NULL,
+    PRIMARY KEY (path, key)) WITHOUT ROWID;
+CREATE INDEX IF NOT EXISTS answer_given_at ON answer_given (at);

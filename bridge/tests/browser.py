@@ -17,10 +17,15 @@ WITHIN = 60.0
 
 
 class Browser:
-    """One browser with one page. All waits are bounded. What went wrong on the page stands in `faults`."""
+    """One browser with one page. All waits are bounded. What went wrong on the page stands in `faults`.
+
+    What it asked in dialogs stands in `questions`. They are answered yes, unless `says_yes` is false.
+    """
 
     def __init__(self) -> None:
         self.faults: list[str] = []
+        self.questions: list[str] = []
+        self.says_yes = True
         self._numbers = itertools.count(1)
         self._answers: dict[int, asyncio.Future[dict[str, Any]]] = {}
 
@@ -57,7 +62,8 @@ class Browser:
             if "id" in told:
                 self._answers.pop(told["id"]).set_result(told)
             elif told["method"] == "Page.javascriptDialogOpening":
-                asyncio.ensure_future(self.call("Page.handleJavaScriptDialog", accept=True))
+                self.questions.append(told["params"]["message"])
+                asyncio.ensure_future(self.call("Page.handleJavaScriptDialog", accept=self.says_yes))
             elif told["method"] == "Runtime.exceptionThrown" or (
                     told["method"] == "Log.entryAdded" and told["params"]["entry"]["level"] == "error"):
                 self.faults.append(str(told["params"]))

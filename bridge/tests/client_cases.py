@@ -5,17 +5,19 @@ from collections.abc import Sequence
 from pathlib import Path
 
 from aiohttp import web
+from typing import cast
 
-from ocpi_bridge.admin.metrics import Metrics
 from ocpi_bridge.clock import Clock
 from ocpi_bridge.configuration import Configuration, NodeSettings, OcpiSettings, PartnerSettings
 from ocpi_bridge.events import Events, Outcome, Packet
+from ocpi_bridge.metrics import Metrics
 from ocpi_bridge.ocpi.client import Client
 from ocpi_bridge.ocpi.exchange import Exchange
 from ocpi_bridge.ocpi.objects import Objects
 from ocpi_bridge.ocpi.orders import Orders
 from ocpi_bridge.ocpi.partners import Partners
 from ocpi_bridge.ocpi.requests import Requests
+from ocpi_bridge.records import Body, Event
 from ocpi_bridge.state import State
 
 from .ocpi_party import Answer, OcpiParty, Received, answered
@@ -80,7 +82,7 @@ class ClientCase(unittest.IsolatedAsyncioTestCase):
         self.addAsyncCleanup(self.client.exchange.close)
         self.addCleanup(self.state.close)
 
-    async def feed(self, event: Members) -> Outcome:
+    async def feed(self, event: Event) -> Outcome:
         """Takes an event, or fails in the ways that are named in `faults`, one after the other."""
         if self.faults:
             raise self.faults.pop(0)
@@ -94,7 +96,8 @@ class ClientCase(unittest.IsolatedAsyncioTestCase):
 
     def packet(self, kind: str, request: int, body: Members, serial: int = 0) -> Packet:
         """A request of the node to the partner."""
-        return Packet(self.configuration.node.party, self.party.party, serial or request, request, kind, body)
+        node = self.configuration.node.party
+        return Packet(node, self.party.party, serial or request, request, kind, cast(Body, body))
 
     def asked(self, *modules: str) -> Sequence[Received]:
         """The requests that came, without those about versions and details where no module is named."""

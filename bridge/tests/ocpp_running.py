@@ -5,19 +5,20 @@ import time
 from collections.abc import Awaitable
 from decimal import Decimal
 from pathlib import Path
-from typing import Any, TypeVar
+from typing import Any, TypeVar, cast
 
 import aiohttp
 from aiohttp import web
 
-from ocpi_bridge.admin.metrics import Metrics
 from ocpi_bridge.clock import Clock, moment_of
 from ocpi_bridge.configuration import ChargePointSettings, ConnectorSettings, NodeSettings, OcppSettings
 from ocpi_bridge.events import Events, Outcome, Packet
 from ocpi_bridge.json_text import Members
+from ocpi_bridge.metrics import Metrics
 from ocpi_bridge.node.feeder import Feeder, NodeEnded, OutcomeLost
 from ocpi_bridge.ocpi.objects import Objects
 from ocpi_bridge.ocpp.central_system import CentralSystem
+from ocpi_bridge.records import Body
 from ocpi_bridge.state import State
 
 from .running import PROGRAM, operator, provider
@@ -91,7 +92,7 @@ class Operating:
     async def deliver(self, kind: str, body: Members, request: int) -> Outcome:
         """Delivers a packet of NL/TNM, and again where no answer comes, as that node does."""
         while True:
-            packet = Packet("NL/TNM", "BE/BEC", request, request, kind, body)
+            packet = Packet("NL/TNM", "BE/BEC", request, request, kind, cast(Body, body))
             try:
                 return await within(self.feeder.feed(self.events.deliver(packet)))
             except (OutcomeLost, NodeEnded):
@@ -118,11 +119,11 @@ class Operating:
     def sessions(self) -> list[tuple[str, str, str]]:
         """EVSE, status and energy of each session, by their ids."""
         found = sorted(self.objects.newest("sessions"), key=lambda session: str(session["id"]))
-        return [(session["evse_uid"], session["status"], session["kwh"]) for session in found]
+        return [(session["evse_uid"], session["status"], str(session["kwh"])) for session in found]
 
     def bills(self) -> list[str]:
         """The energy of each bill."""
-        return [record["total_energy"] for record in self.objects.newest("cdrs")]
+        return [str(record["total_energy"]) for record in self.objects.newest("cdrs")]
 
     def fed(self, name: str) -> list[Outcome]:
         """What became of the events of a name."""

@@ -249,8 +249,11 @@ class RunningBridge:
                 raise AssertionError(f"GET {path}: {response.status} {text[:500]}")
             return json.loads(text) if response.content_type == "application/json" else text
 
-    async def admin_post(self, path: str, body: Mapping[str, object]) -> Members:
-        """What an admin address answers to a JSON body: its status, and the JSON as `answer`."""
-        async with aiohttp.ClientSession() as session, session.post(self.admin_url + path, json=body) as response:
+    async def admin_post(self, path: str, body: Mapping[str, object], key: str | None = None) -> Members:
+        """What an admin address answers to a JSON body, under an `Idempotency-Key`: its status, and the JSON as
+        `answer`."""
+        headers = {} if key is None else {"Idempotency-Key": key}
+        async with (aiohttp.ClientSession() as session,
+                    session.post(self.admin_url + path, json=body, headers=headers) as response):
             text = await response.text()
             return {"status": response.status, "answer": json.loads(text)}

@@ -6,16 +6,17 @@ import unittest
 from collections.abc import Awaitable, Callable, Mapping
 from dataclasses import dataclass
 from pathlib import Path
+from typing import cast
 
 import aiohttp
 from aiohttp.test_utils import TestServer
 from yarl import URL
 
-from ocpi_bridge.admin.metrics import Metrics
 from ocpi_bridge.clock import Clock
 from ocpi_bridge.configuration import Configuration, NodeSettings, OcpiSettings, PartnerSettings
 from ocpi_bridge.events import Events, Outcome
 from ocpi_bridge.json_text import write_json
+from ocpi_bridge.metrics import Metrics
 from ocpi_bridge.node.revocable import RevocableFeeder
 from ocpi_bridge.ocpi.credentials import Credentials
 from ocpi_bridge.ocpi.envelope import authorization
@@ -26,6 +27,7 @@ from ocpi_bridge.ocpi.objects import Objects
 from ocpi_bridge.ocpi.partners import Partners
 from ocpi_bridge.ocpi.requests import Requests
 from ocpi_bridge.ocpi.server import Server
+from ocpi_bridge.records import Body, Event
 from ocpi_bridge.state import State
 
 from .running import PROGRAM, Members, operator, provider
@@ -99,9 +101,10 @@ class ServerCase(unittest.IsolatedAsyncioTestCase):
         interfaces = Interfaces(URL_OF_BRIDGE, self.events, self.objects, self.requests, locations, self.feed,
                                 lambda party: self.takes_orders, self.feeder.revoke)
         credentials = Credentials(self.configuration, partners, exchange)
-        application = Server(self.events, partners, credentials, interfaces, self.metrics).application()
+        application = Server(self.events, partners, credentials, interfaces, self.metrics,
+                             self.state).application()
         # What the server feeds by: tests put another thing in its place.
-        self.feeding: Callable[[Members], Awaitable[Outcome]] = self.feeder.feed
+        self.feeding: Callable[[Event], Awaitable[Outcome]] = self.feeder.feed
         self.server = TestServer(application)
         await self.server.start_server()
         self.addAsyncCleanup(self.server.close)
@@ -112,12 +115,12 @@ class ServerCase(unittest.IsolatedAsyncioTestCase):
         await self.feeder.stop()
         await asyncio.wait_for(running, WITHIN)
 
-    async def feed(self, event: Members) -> Outcome:
+    async def feed(self, event: Event) -> Outcome:
         return await self.feeding(event)
 
     async def tell(self, event: str, **members: object) -> Outcome:
         """Feeds an event that is no delivery."""
-        return await asyncio.wait_for(self.feeder.feed({**self.events.make(event), **members}), WITHIN)
+        return await asyncio.wait_for(self.feeder.feed(cast(Event, {**self.events.make(event), **members})), WITHIN)
 
     async def ask(self, token: str, method: str, path: str, body: object = None, number: int | None = None,
                   headers: Mapping[str, str] | None = None, text: bytes | None = None) -> Answer:
@@ -132,8 +135,7 @@ class ServerCase(unittest.IsolatedAsyncioTestCase):
             content = await response.read()
             return Answer(response.status, dict(response.headers), json.loads(content))
 
-    def last_delivered(self) -> Members:
+    def last_delivered(self) -> Body:
         """The body of the packet that was delivered last."""
         delivered = [outcome.event for outcome in self.outcomes if outcome.event["event"] == "deliver"]
-        body: Members = delivered[-1]["packet"]["body"]
-        return body
+        return delivered[-1]["packet"]["body"]

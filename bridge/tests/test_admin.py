@@ -3,6 +3,7 @@ import asyncio
 import json
 import os
 import random
+import re
 import signal
 import subprocess
 import tempfile
@@ -12,10 +13,11 @@ from typing import Any
 
 import aiohttp
 
-from ocpi_bridge.admin.metrics import METRICS
+from ocpi_bridge.admin.feeding import EVENTS
 from ocpi_bridge.json_text import Members
+from ocpi_bridge.metrics import METRICS
 
-from .running import PROGRAM, RunningBridge, charge_point, eventually, operator, partner, provider
+from .running import PROGRAM, REPOSITORY, RunningBridge, charge_point, eventually, operator, partner, provider
 
 SETUP = [operator("BE/BEC", ["E1", "E2"]), provider("NL/TNM")]
 NOBODY = "http://127.0.0.1:9/ocpi/versions"
@@ -54,6 +56,14 @@ class AdminTest(unittest.IsolatedAsyncioTestCase):
                 return response.status
 
 
+    async def next_event(self, events: aiohttp.ClientResponse) -> Members:
+        while True:
+            line = await asyncio.wait_for(events.content.readline(), 10)
+            if line.startswith(b"data: "):
+                told: Members = json.loads(line[6:])
+                return told
+
+
 class ProviderTest(AdminTest):
     async def test_tokens_and_orders_are_fed_and_shown(self) -> None:
         saved = await self.bridge.admin_post("/tokens", TOKEN)
@@ -69,8 +79,11 @@ class ProviderTest(AdminTest):
                          [("start_session", None, None)])
         self.assertEqual(await self.get_metric("ocpi_open_commands"), 1)
         self.assertEqual(await self.get_metric("ocpi_unacknowledged_pushes"), 1)
-        self.assertEqual(await self.bridge.admin_get("/partners"), [
-            {"party": "BE/BEC", "kind": "node", "registered": True, "versions_url": NOBODY}])
+        told = (await self.bridge.admin_get("/partners"))[0]
+        self.assertIn((told.pop("state"), told.pop("waiting")), [
+            (state, waiting) for state in ("FAILING", "ANSWERING") for waiting in range(3)])
+        self.assertEqual(told, {"party": "BE/BEC", "kind": "node", "registered": True, "versions_url": NOBODY})
+        self.assertRegex(commands[0]["at"], r"^20\d\d-\d\d-\d\dT.*Z$")
         self.assertEqual([await self.bridge.admin_get(path) for path in ("/sessions", "/cdrs", "/charge_points")],
                          [[], [], []])
 
@@ -153,41 +166,50 @@ class ProviderTest(AdminTest):
                 self.assertIn("default-src 'none'", policy)
                 self.assertNotIn("unsafe", policy)
             async with session.get(self.bridge.admin_url + "/events") as events:
-                self.assertEqual((await self.next_event(events))["tokens"], [])
+                told = await self.next_event(events)
+                self.assertEqual(told["tokens"], [])
+                self.assertEqual(list(told), ["party", "is_operator", "sessions", "cdrs", "partners", "operators",
+                                              "tokens", "commands", "owed"])
                 await self.bridge.admin_post("/tokens", TOKEN)
                 self.assertEqual((await self.next_event(events))["tokens"][0]["uid"], "AA01")
                 self.assertEqual(await self.bridge.stop(), 0)
-
-    async def next_event(self, events: aiohttp.ClientResponse) -> Members:
-        while True:
-            line = await asyncio.wait_for(events.content.readline(), 10)
-            if line.startswith(b"data: "):
-                told: Members = json.loads(line[6:])
-                return told
 
 
 class OperatorTest(AdminTest):
     party = "BE/BEC"
 
     async def test_backup_waits_for_nothing_and_is_whole(self) -> None:
-        """The copy is made of a node that has ended: one file, for its owner alone, which `settle` reads."""
+        """The copy is made of a node that has ended: one file of the store, which `settle` reads."""
         await self.bridge.admin_post("/service", {"evse_uid": "E1", "in_service": False})
-        copy = self.folder / "copy.db"
+        copy = self.folder / "copy"
         made, fed = await asyncio.gather(
             self.bridge.admin_post("/backup", {"to": str(copy)}),
             self.bridge.admin_post("/service", {"evse_uid": "E2", "in_service": False}))
         self.assertEqual((made["status"], fed["status"]), (200, 200))
-        self.assertEqual((made["answer"]["bytes"], copy.stat().st_mode & 0o777), (copy.stat().st_size, 0o600))
-        settled = subprocess.run([PROGRAM, "settle", copy], capture_output=True, timeout=30)
+        before = (copy / "store.db").read_bytes()
+        settled = subprocess.run([PROGRAM, "settle", copy / "store.db"], capture_output=True, timeout=30)
         self.assertEqual((settled.returncode, settled.stdout), (0, b""))
-        before = copy.read_bytes()
-        self.assertEqual(await self.status_of("POST", "/backup", json={"to": str(copy)}), 409)
-        self.assertEqual(await self.status_of("POST", "/backup", json={"to": str(self.folder / "none" / "a.db")}), 409)
-        self.assertEqual(await self.status_of("POST", "/backup", json={"to": "copy.db"}), 400)
-        self.assertEqual(copy.read_bytes(), before)
-        self.assertEqual(sorted(path.name for path in self.folder.iterdir()), ["bridge", "copy.db"])
+        for to, status in ((copy, 409), (copy / "store.db", 409), (self.folder / "none" / "a", 409), ("copy", 400)):
+            self.assertEqual(await self.status_of("POST", "/backup", json={"to": str(to)}), status)
+        self.assertEqual((copy / "store.db").read_bytes(), before)
+        self.assertEqual(sorted(path.name for path in self.folder.iterdir()), ["bridge", "copy"])
         credited = await self.bridge.admin_post("/credits", {"session_id": "S"})
-        self.assertEqual(credited["answer"]["done"]["done"], "idle")
+        self.assertEqual((credited["status"], credited["answer"]["done"]["done"]), (404, "idle"))
+
+    async def test_the_page_is_told_all(self) -> None:
+        async with aiohttp.ClientSession() as session:
+            async with session.get(self.bridge.admin_url + "/events") as events:
+                told = await self.next_event(events)
+        self.assertEqual(list(told), ["party", "is_operator", "sessions", "cdrs", "partners", "evses", "charge_points",
+                                      "warnings", "commands"])
+        self.assertEqual([(one["party"], one["state"], one["waiting"]) for one in told["partners"]],
+                         [("NL/TNM", "ANSWERING", 0)])
+        connector = {"connector_id": "1", "status": None, "error": None, "in_service": True}
+        self.assertEqual(told["charge_points"], [
+            {"id": "CP1", "connected": False, "last_message": None, "error": None, "connectors": [
+                {"connector": 1, "evse_uid": "E1", **connector}, {"connector": 2, "evse_uid": "E2", **connector}]}])
+        self.assertEqual(await self.status_of("GET", "/totals?date_from=2025-01-01T00:00:00Z"), 400)
+        self.assertEqual(await self.status_of("GET", "/totals?date_from=a&date_to=b"), 400)
 
     async def test_service_orders_metrics_and_health(self) -> None:
         told = await self.bridge.admin_post("/service", {"evse_uid": "E1", "in_service": False})
@@ -202,7 +224,27 @@ class OperatorTest(AdminTest):
         for name, (kind, _) in METRICS.items():
             self.assertIn(f"# TYPE {name} {kind}\n", text)
         self.assertIn('ocpi_lines_total{done="stepped"} 1\n', text)
-        self.assertEqual(await self.bridge.admin_get("/health"), {"healthy": True})
+        health = await self.bridge.admin_get("/health")
+        self.assertEqual([True, "open"], [health["healthy"], health["node"]])
+        newest = re.search(r"^## (.+)$", (REPOSITORY / "CHANGELOG.md").read_text(), re.MULTILINE)
+        self.assertEqual(newest and newest[1], health["version"])
+        self.assertEqual(["store", "state", "transcript"], list(health["free_bytes"]))
+        self.assertGreater(min(health["free_bytes"].values()), 0)
+
+    async def test_each_address_stands_in_the_openapi_page(self) -> None:
+        """Each that the server has a route for, and no other one."""
+        page = await self.bridge.admin_get("/openapi.json")
+        listed = {(method.upper(), path) for path, methods in page["paths"].items() for method in methods}
+        source = (REPOSITORY / "bridge" / "ocpi_bridge" / "admin" / "server.py").read_text()
+        routed = {(method.upper(), path) for method, path in re.findall(r'web\.(get|post)\("(/[\w.]*)"', source)}
+        lists = ("/cdrs", "/charge_points", "/commands", "/partners", "/sessions", "/tokens")
+        self.assertEqual({*routed, *(("POST", path) for path in EVENTS), *(("GET", path) for path in lists)}, listed)
+        names = set(re.findall(r'"#/components/schemas/(\w+)"', json.dumps(page)))
+        self.assertEqual(set(page["components"]["schemas"]), names)
+        async with aiohttp.ClientSession() as session:
+            for method, path in listed:
+                async with session.request(method, self.bridge.admin_url + path) as response:
+                    self.assertNotIn(response.status, (404, 405), path)
 
 
 if __name__ == "__main__":

@@ -1,14 +1,20 @@
 """Each fault of a configuration is refused by its path."""
 import copy
 import json
+import os
+import re
+import subprocess
 import tempfile
 import unittest
+from collections.abc import Iterator
 from pathlib import Path
 from typing import Any
 
+import fastjsonschema
+
 from ocpi_bridge.configuration import WrongConfiguration, read_configuration
 
-from .running import charge_point, operator, partner, provider
+from .running import REPOSITORY, RUN, charge_point, operator, partner, provider
 
 NOBODY = "http://127.0.0.1:9/ocpi/versions"
 SETUP: dict[str, Any] = {"nodes": [operator("BE/BEC", ["E1", "E2"]), operator("BE/OTH", ["E9"]), provider("NL/TNM"),
@@ -107,6 +113,34 @@ class ConfigurationTest(unittest.TestCase):
         self.refused("node.setup: no JSON")
         (self.folder / "setup.json").write_text('{"nodes": [{}]}')
         self.refused("node.setup: no setup of nodes, each with its party")
+
+    def test_editors_may_be_told_the_schema(self) -> None:
+        """It stands beside the bridge's programs. Each part of it that may be refused says by which words."""
+        self.assertEqual("BE/BEC", self.read(("$schema", "../bridge/configuration.schema.json")).node.party)
+
+        def parts(form: Any) -> Iterator[Any]:
+            if isinstance(form, dict):
+                yield from [form] if {"type", "enum"} & form.keys() else []
+                for part in form.values():
+                    yield from parts(part)
+
+        schema = json.loads((REPOSITORY / "bridge" / "configuration.schema.json").read_text())
+        found = list(parts(schema))
+        self.assertGreater(len(found), 15)
+        self.assertEqual([], [part for part in found if isinstance(part["type" if "type" in part else "enum"],
+                                                                   (str, list)) and "fault" not in part])
+        example = re.search(r"```json\n(.*?)```", (REPOSITORY / "bridge" / "README.md").read_text(), re.DOTALL)
+        assert example is not None
+        fastjsonschema.compile(schema)(json.loads(example[1]))
+
+    def test_without_a_package_it_is_told_what_to_install(self) -> None:
+        (self.folder / "sitecustomize.py").write_text(
+            "import sys\nclass None_:\n    def find_spec(name, *_):\n        if name == 'fastjsonschema':\n"
+            "            raise ModuleNotFoundError(name)\nsys.meta_path.insert(0, None_)\n")
+        run = subprocess.run([RUN, self.folder / "bridge.json"], capture_output=True, text=True, timeout=60,
+                             env={**os.environ, "PYTHONPATH": str(self.folder)})
+        self.assertEqual(2, run.returncode, run.stderr)
+        self.assertIn("apt install python3-aiohttp python3-fastjsonschema", run.stderr)
 
     def test_charge_points(self) -> None:
         first = charge_point("CP1", ["E1"])

@@ -10,16 +10,17 @@ import time
 import unittest
 from collections.abc import Awaitable
 from pathlib import Path
-from typing import TypeVar
+from typing import TypeVar, cast
 from unittest import mock
 
-from ocpi_bridge.admin.metrics import Metrics
 from ocpi_bridge.clock import Clock, moment_of
 from ocpi_bridge.configuration import NodeSettings
 from ocpi_bridge.events import Events, Outcome
 from ocpi_bridge.json_text import Members
+from ocpi_bridge.metrics import Metrics
 from ocpi_bridge.node import feeder as feeder_module
 from ocpi_bridge.node.feeder import Feeder, NodeEnded, OutcomeLost
+from ocpi_bridge.records import Body, Event, PacketLine
 from ocpi_bridge.state import State
 
 from .running import PROGRAM, operator, provider
@@ -34,14 +35,14 @@ START = {"authorization_reference": "R1", "evse_uid": "E1", "connector_id": "1",
          "response_url": "https://node.invalid/NL/TNM/2", "token": TOKEN}
 
 
-def charge_of_a_car() -> list[Members]:
+def charge_of_a_car() -> list[Event]:
     """A token, a start, its acceptance, the start of charging, a reading and the end, now. 2.5 kWh cost 0.625."""
     now = time.time()
 
-    def event(name: str, second: int, **members: object) -> Members:
-        return {"event": name, "node": "BE/BEC", "at": moment_of(now + second), **members}
+    def event(name: str, second: int, **members: object) -> Event:
+        return cast(Event, {"event": name, "node": "BE/BEC", "at": moment_of(now + second), **members})
 
-    def delivery(second: int, number: int, kind: str, body: Members) -> Members:
+    def delivery(second: int, number: int, kind: str, body: Members) -> Event:
         return event("deliver", second, packet={"from": "NL/TNM", "to": "BE/BEC", "serial": number, "request": number,
                                                 "kind": kind, "body": body})
 
@@ -175,7 +176,8 @@ class ProgramTest(FeederCase):
         self.assertEqual(3, await within(running.task))
 
     async def test_a_line_that_was_refused_is_told_by_the_status(self) -> None:
-        for event, status in ((Events("BE/BEC", Clock()).tick(), 0), ({"event": "none", "node": "BE/BEC"}, 1)):
+        unknown: Event = {"event": "none", "node": "BE/BEC"}
+        for event, status in ((Events("BE/BEC", Clock()).tick(), 0), (unknown, 1)):
             running = Running(self.folder(), PROGRAM)
             await within(running.feeder.feed(event))
             self.assertEqual(status, await running.end())
@@ -237,14 +239,14 @@ class ProgramTest(FeederCase):
 class SeveralTest(FeederCase):
     """Several events in one line: those that wait at once."""
 
-    def tokens(self, *uids: str) -> list[Members]:
+    def tokens(self, *uids: str) -> list[Event]:
         """Deliveries of tokens."""
-        packets: list[Members] = [
+        packets: list[PacketLine] = [
             {"from": "NL/TNM", "to": "BE/BEC", "serial": number, "request": number, "kind": "put_token",
-             "body": {**TOKEN, "uid": uid}} for number, uid in enumerate(uids, 1)]
+             "body": cast(Body, {**TOKEN, "uid": uid})} for number, uid in enumerate(uids, 1)]
         return [{"event": "deliver", "node": "BE/BEC", "at": moment_of(time.time()), "packet": it} for it in packets]
 
-    def services(self) -> list[Members]:
+    def services(self) -> list[Event]:
         """Two events that send nothing."""
         return [{"event": "service", "node": "BE/BEC", "evse_uid": "E1", "in_service": it} for it in (False, True)]
 
@@ -255,7 +257,7 @@ class SeveralTest(FeederCase):
                    if event.get("event", "tick") != "tick" and "done" not in event] for line in lines]
         return [line for line in events if line]
 
-    async def carry_out(self, events: list[Members], stop: str = "") -> tuple[Running, list[str]]:
+    async def carry_out(self, events: list[Event], stop: str = "") -> tuple[Running, list[str]]:
         """Feeds events at once, and may stop the node at a point of their line. Gives what became of each."""
         running = Running(self.folder(), STOPPING)
         await within(running.opened.wait())

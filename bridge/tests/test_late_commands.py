@@ -1,11 +1,5 @@
 """Commands that wait for the turn of their charge point, or lose its connection before."""
 import asyncio
-import sqlite3
-import tempfile
-import unittest
-from pathlib import Path
-
-from ocpi_bridge.state import State
 
 from .ocpp_cases import OcppCase
 
@@ -43,16 +37,3 @@ class ClosedTest(OcppCase):
         self.assertEqual({"connectorId": 1, "idTag": "AA01"}, await self.station.was_asked("RemoteStartTransaction"))
         await self.eventually([("3", "ACCEPTED")], self.operating.results)
         self.assertEqual("Accepted", (await self.station.begin())["idTagInfo"]["status"])
-
-
-class OlderStateTest(unittest.TestCase):
-    def test_a_file_without_the_moment_of_a_command_is_taken(self) -> None:
-        with tempfile.TemporaryDirectory() as folder:
-            path = Path(folder) / "state.db"
-            State(path).close()
-            with sqlite3.connect(path) as opened:
-                opened.execute("ALTER TABLE ocpp_command DROP COLUMN until")
-            opened.close()
-            state = State(path)
-            self.assertEqual([], state.query("SELECT until FROM ocpp_command"))
-            state.close()

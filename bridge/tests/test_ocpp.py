@@ -185,6 +185,18 @@ class ReportTest(OcppCase):
             (point["id"], point["connected"], [connector["status"] for connector in point["connectors"]])
             for point in central_system.charge_points()])
 
+    async def test_the_owner_is_told_of_errors_and_of_the_last_message(self) -> None:
+        """Only of connectors that the charge point has."""
+        begun = self.operating.clock.moment()
+        for connector, code in ((0, "InternalError"), (1, "GroundFailure"), (2, None), (77, "OtherError")):
+            await self.station.call("StatusNotification", connectorId=connector, errorCode=code, status="Available")
+        told, _ = self.operating.central_system.charge_points()
+        self.assertEqual(("InternalError", ["GroundFailure", "NoError"], [True, True]), (
+            told["error"], [connector["error"] for connector in told["connectors"]],
+            [connector["in_service"] for connector in told["connectors"]]))
+        self.assertLessEqual(begun, told["last_message"])
+        self.assertNotIn("OtherError", str(told))
+
 
 class TimeTest(OcppCase):
     """What happens where a charge point does not answer, or nothing is plugged in. The clock goes faster."""

@@ -3,12 +3,14 @@ import dataclasses
 import tempfile
 import unittest
 from pathlib import Path
+from typing import cast
 
-from ocpi_bridge.admin.metrics import Metrics
 from ocpi_bridge.admin.outstanding import Outstanding
 from ocpi_bridge.events import Outcome, Packet
 from ocpi_bridge.json_text import Members
+from ocpi_bridge.metrics import Metrics
 from ocpi_bridge.ocpi.objects import Objects
+from ocpi_bridge.records import Body, Event
 from ocpi_bridge.state import State
 
 from .test_admin import TOKEN
@@ -27,20 +29,20 @@ class OutstandingTest(unittest.TestCase):
         self.outstanding = Outstanding(state, self.objects, lambda: self.is_open)
 
     def note(self, event: Members, *packets: Packet) -> None:
-        outcome = Outcome({**event, "at": MOMENT}, {"done": "stepped", "packets": len(packets)}, packets)
+        outcome = Outcome(cast(Event, {**event, "at": MOMENT}), {"done": "stepped", "packets": len(packets)}, packets)
         self.objects.note(outcome)
         self.outstanding.note(outcome)
 
     def deliver(self, sender: str, request: int, kind: str, body: Members, status: int | None = None) -> None:
         """A packet that comes, and is answered with a status where one is given."""
-        packet = Packet(sender, "NL/TNM", 1, request, kind, body)
-        ack = Packet("NL/TNM", sender, 1, request, "ack", {"status_code": status, "timestamp": MOMENT})
+        packet = Packet(sender, "NL/TNM", 1, request, kind, cast(Body, body))
+        ack = Packet("NL/TNM", sender, 1, request, "ack", {"status_code": status or 0, "timestamp": MOMENT})
         answers = [] if status is None else [ack]
         self.note({"event": "deliver", "packet": packet.members()}, *answers)
 
     def test_a_push_waits_until_its_own_number_is_acknowledged(self) -> None:
         for request, receiver in ((1, "NL/TNM"), (2, "NL/TNM"), (3, "DE/XXX")):
-            session = {"country_code": "BE", "party_id": "BEC", "id": "S1", "evse_uid": "E1", "status": "ACTIVE",
+            session: Body = {"country_code": "BE", "party_id": "BEC", "id": "S1", "evse_uid": "E1", "status": "ACTIVE",
                        "last_updated": MOMENT}
             self.note({"event": "tick"}, Packet("BE/BEC", receiver, 1, request, "put_session", session))
         self.assertEqual(self.outstanding.pushes(), 2)
@@ -53,7 +55,7 @@ class OutstandingTest(unittest.TestCase):
 
     def test_what_a_first_tick_does_not_send_again_was_answered(self) -> None:
         order = Packet("NL/TNM", "BE/BEC", 1, 7, "stop_session", {"session_id": "S", "response_url": "U"})
-        token = Packet("NL/TNM", "BE/BEC", 2, 8, "put_token", TOKEN)
+        token = Packet("NL/TNM", "BE/BEC", 2, 8, "put_token", cast(Body, TOKEN))
         self.note({"event": "submit"}, order, dataclasses.replace(order, request=9), token)
         self.is_open = False
         self.note({"event": "tick"}, dataclasses.replace(order, serial=3))

@@ -113,11 +113,17 @@ class Credits(OperatorCase):
         await charge_point.call("StopTransaction", {
             "transactionId": begun["transactionId"], "meterStop": 4000, "timestamp": "2025-01-01T11:00:00Z"})
         bill = (await self.provider.came("cdrs")).body
-        done = [(await self.bridge.admin_post("/credits", {"session_id": bill["session_id"]}))["answer"]["done"]["done"]
-                for _ in range(2)]
-        self.assertEqual(["stepped", "idle"], done)
+        credited = [await self.bridge.admin_post("/credits", {"session_id": bill["session_id"]}) for _ in range(2)]
+        self.assertEqual([(200, "stepped"), (409, "idle")],
+                         [(told["status"], told["answer"]["done"]["done"]) for told in credited])
         credit = (await self.provider.came("cdrs", lambda request: "credit" in request.body)).body
         self.assertEqual((True, bill["id"], -1.0, 4.0), (
             credit["credit"], credit["credit_reference_id"], credit["total_cost"]["excl_vat"], credit["total_energy"]))
         records = await self.bridge.admin_get("/cdrs")
         self.assertEqual({bill["id"], credit["id"]}, {record["id"] for record in records})
+        moments = sorted([bill["last_updated"], credit["last_updated"]])
+        totals = [await self.bridge.admin_get(f"/totals?date_from={date_from}&date_to={date_to}")
+                  for date_from, date_to in (moments, ("1970-01-01", "2100-01-01"), ("1970-01-01", moments[0]))]
+        self.assertEqual([
+            [{"currency": "EUR", "bills": 1, "credits": 0, "kwh": 4.0, "excl_vat": 1.0}],
+            [{"currency": "EUR", "bills": 1, "credits": 1, "kwh": 0.0, "excl_vat": 0.0}], []], totals)

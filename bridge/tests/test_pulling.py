@@ -13,11 +13,12 @@ from ocpi_bridge.node.feeder import OutcomeLost
 from ocpi_bridge.ocpi.exchange import NoResponse
 from ocpi_bridge.ocpi.objects import Objects
 from ocpi_bridge.ocpi.pulling import Pulling
+from ocpi_bridge.records import Event
 
 from .client_cases import ClientCase
 from .ocpi_objects import session, token
 from .ocpi_party import OcpiParty, Received, answered
-from .running import Members, eventually
+from .running import eventually
 
 
 class Sessions(ClientCase):
@@ -31,7 +32,7 @@ class Sessions(ClientCase):
         self.objects = Objects(self.state)
         self.pulling = Pulling(self.client, self.objects, self.state, is_operator=False)
 
-    async def feed(self, event: Members) -> Outcome:
+    async def feed(self, event: Event) -> Outcome:
         """Takes an object as a node does that accepts it."""
         await super().feed(event)
         packet = Packet.of(event["packet"])
@@ -127,7 +128,7 @@ class Sessions(ClientCase):
         with self.assertLogs("ocpi_bridge.ocpi.pulling"):
             self.assertEqual(["S0", "S1"], await self.pull())
         self.begin()
-        self.state.set_value("pulled sessions of BE/BEC", "0")
+        self.state.query("DELETE FROM list_pulled")
         self.assertEqual([], await self.pull())
         self.status_code = 1000
         self.party.lists["sessions"][1] |= {"last_updated": "2025-01-01T10:05:00Z"}
@@ -175,7 +176,7 @@ class Tokens(ClientCase):
     is_operator = True
     kind = "ocpi"
 
-    async def feed(self, event: Members) -> Outcome:
+    async def feed(self, event: Event) -> Outcome:
         await super().feed(event)
         return Outcome(event, {"done": "refused", "name": "WrongForm", "field": "issuer"}, ())
 

@@ -4,6 +4,7 @@ import base64
 
 from ocpi_bridge.events import Outcome
 from ocpi_bridge.node.feeder import OutcomeLost
+from ocpi_bridge.records import Event
 
 from . import ocpi_objects
 from .running import Members
@@ -87,7 +88,7 @@ class OperatorServer(ServerCase):
             answer = await self.ask("ocpi", "PUT", "receiver/tokens/DE/EVC/AA01", token, headers=headers)
             self.assertEqual(answer.told, (200, 1000))
         numbers = [outcome.event["packet"]["request"] for outcome in self.outcomes if "packet" in outcome.event]
-        self.assertEqual(numbers, [1, 2, 1, 3, 4])
+        self.assertEqual([number - numbers[0] for number in numbers], [0, 1, 0, 2, 3])
 
     async def test_another_party_has_to_give_a_reference(self) -> None:
         body = ocpi_objects.start_session(ocpi_objects.token("DE/EVC"), "https://evc.example/results/a")
@@ -236,11 +237,11 @@ class OperatorServer(ServerCase):
         self.assertEqual([evse["last_updated"] > seen for evse in changed["evses"]], [False, True])
 
     async def test_an_answer_that_is_late_or_lost(self) -> None:
-        async def late(_: Members) -> Outcome:
+        async def late(_: Event) -> Outcome:
             await asyncio.Event().wait()
             raise AssertionError
 
-        async def lost(_: Members) -> Outcome:
+        async def lost(_: Event) -> Outcome:
             raise OutcomeLost()
         self.clock.factor = 40.0
         for self.feeding in (late, lost):

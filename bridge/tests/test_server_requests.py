@@ -22,7 +22,7 @@ class Repeats(ServerCase):
             for uid, members in asked:
                 self.assertEqual((200, 1000), (await self.put(uid, "one", **members)).told)
         numbers = [outcome.event["packet"]["request"] for outcome in self.outcomes if "packet" in outcome.event]
-        self.assertEqual([1, 2, 1, 3], numbers)
+        self.assertEqual([0, 1, 0, 2], [number - numbers[0] for number in numbers])
         self.assertEqual({("AA01", False), ("AA02", True)},
                          {(held["uid"], held["valid"]) for held in self.objects.newest("tokens")})
         self.assertEqual(2, len(logs.output))
@@ -35,7 +35,8 @@ class Repeats(ServerCase):
             self.assertNotEqual(digest_of("PUT /", one), digest_of(asked, body))
 
     async def test_a_number_that_an_earlier_bridge_kept_is_that_of_the_repeat(self) -> None:
-        self.state.query("INSERT INTO request_number VALUES ('DE/EVC', 'one', 7)")
+        self.state.query("INSERT INTO request_digest (partner, correlation, digest, number)"
+                         " VALUES ('DE/EVC', 'one', x'', 7)")
         self.state.set_value("last_request", "9")
         requests = Requests(self.state)
         numbers = [requests.number("de/evc", "one", digest) for digest in (b"a", b"a", b"b", b"a")]

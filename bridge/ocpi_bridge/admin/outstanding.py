@@ -1,11 +1,14 @@
 """What is outstanding: commands without a result, pushes without an acknowledgement, and what a provider owes."""
 from collections.abc import Callable
 from decimal import Decimal
+from typing import cast
 
+from ..clock import moment_of
 from ..events import Outcome, Packet
-from ..json_text import Members, Number, read_json, write_json
-from ..ocpi.objects import Objects
+from ..json_text import Members, read_json, write_json
+from ..ocpi.objects import Objects, ten_thousandths
 from ..parties import party_key
+from ..records import Body
 from ..state import State
 
 COMMANDS = ("start_session", "stop_session", "reserve_now", "cancel_reservation", "unlock_connector")
@@ -26,12 +29,14 @@ class Outstanding:
             self._forget_answered(outcome)
         for packet in outcome.packets:
             if packet.kind in PUSHES:
-                subject = " ".join([packet.kind, *(packet.body[name].upper() for name in PUSHES[packet.kind])])
-                self._state.query("INSERT OR REPLACE INTO push_that_waits VALUES (?, ?, ?)",
-                                  party_key(packet.receiver), subject, packet.request)
+                body = cast(Members, packet.body)
+                subject = " ".join([packet.kind, *(str(body[name]).upper() for name in PUSHES[packet.kind])])
+                self._state.query("INSERT OR REPLACE INTO push_that_waits (receiver, subject, request)"
+                                  " VALUES (?, ?, ?)", party_key(packet.receiver), subject, packet.request)
             elif packet.kind in COMMANDS:
-                self._state.query("INSERT OR IGNORE INTO command_given VALUES (?, ?, ?, ?, NULL, NULL)", packet.request,
-                                  party_key(packet.receiver), packet.kind, write_json(packet.body))
+                self._state.query("INSERT OR IGNORE INTO command_given (request, operator, kind, body)"
+                                  " VALUES (?, ?, ?, ?)", packet.request, party_key(packet.receiver), packet.kind,
+                                  write_json(packet.body))
         if outcome.event["event"] == "deliver" and outcome.word in ("stepped", "idle"):
             packet = Packet.of(outcome.event["packet"])
             answer = outcome.answer_to(packet.sender, packet.request)
@@ -45,7 +50,7 @@ class Outstanding:
         self._state.query("UPDATE command_given SET response = 'LOST' WHERE response IS NULL AND result IS NULL"
                           f" AND request NOT IN ({sent})")
 
-    def _take(self, packet: Packet, sender: str, body: Members) -> None:
+    def _take(self, packet: Packet, sender: str, body: Body) -> None:
         """Keeps what an answer says, or a request that was answered with success."""
         if packet.kind == "ack" and body["status_code"] == 1000:
             self._state.query("DELETE FROM push_that_waits WHERE receiver = ? AND request = ?", sender, packet.request)
@@ -58,15 +63,17 @@ class Outstanding:
                               " AND result IS NULL", body["result"], body["response_url"].rpartition("/")[2], sender)
         elif packet.kind == "post_cdr" and self._objects.find("cdrs", sender, body["id"]) == body:
             amount = int(Decimal(str(body["total_cost"]["excl_vat"])).scaleb(4))
-            self._state.query("INSERT OR IGNORE INTO owed_for VALUES (?, ?, ?, ?)", sender, party_key(body["id"]),
-                              body["currency"], amount)
+            self._state.query("INSERT OR IGNORE INTO owed_for (operator, record, currency, amount) VALUES (?, ?, ?, ?)",
+                              sender, party_key(body["id"]), body["currency"], amount)
 
     def commands(self, most: int = 1000) -> list[Members]:
-        """The newest commands that a provider gave, the newest first, with what was answered and what came of each."""
-        return [{"number": number, "operator": operator, "kind": kind, "response": response, "result": result,
-                 "body": read_json(body)}
-                for number, operator, kind, body, response, result in self._state.query(
-                    "SELECT * FROM command_given ORDER BY request DESC LIMIT ?", most)]
+        """The newest commands that a provider gave, the newest first, with when (`at`), what was answered and what came
+        of each."""
+        return [{"number": number, "at": None if at is None else moment_of(at / 1000), "operator": operator,
+                 "kind": kind, "response": response, "result": result, "body": read_json(body)}
+                for number, at, operator, kind, body, response, result in self._state.query(
+                    "SELECT request, at, command_given.operator, kind, body, response, result FROM command_given"
+                    " LEFT JOIN order_given USING (request) ORDER BY request DESC LIMIT ?", most)]
 
     def open_commands(self) -> int:
         """How many commands of a provider wait for a response or a result."""
@@ -79,6 +86,6 @@ class Outstanding:
 
     def owed(self) -> list[Members]:
         """What a provider owes each operator in each currency, to four decimals."""
-        return [{"operator": operator, "currency": currency, "amount": Number(f"{Decimal(amount).scaleb(-4):.4f}")}
+        return [{"operator": operator, "currency": currency, "amount": ten_thousandths(amount)}
                 for operator, currency, amount in self._state.query(
                     "SELECT operator, currency, SUM(amount) FROM owed_for GROUP BY operator, currency ORDER BY 1, 2")]

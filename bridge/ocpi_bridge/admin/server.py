@@ -5,35 +5,38 @@ is refused, and so is what comes under another name than this machine's own. A b
 well, where a partner lists it as its own address: so what is sent to partners, by their tokens, is refused.
 """
 import asyncio
-import os
 import re
 import shutil
-import tempfile
+import sqlite3
 import time
-from collections.abc import Awaitable, Callable
+from collections.abc import Awaitable, Callable, Sequence
 from functools import partial
 from pathlib import Path
 from typing import NoReturn
 
 from aiohttp import web
 
+from .. import __version__
+from ..backup import copy_together
 from ..configuration import Configuration
 from ..events import Events
 from ..json_text import Members, NotJson, NumberTooLarge, read_json, write_json
-from ..node.feeder import Feeder, NodeEnded, OutcomeLost
+from ..metrics import Metrics
+from ..node.feeder import NodeEnded, OutcomeLost
+from ..node.revocable import RevocableFeeder
+from ..ocpi.client import Client
 from ..ocpi.locations import Locations
 from ..ocpi.objects import Objects
-from ..ocpi.partners import Partners
 from ..ocpp.central_system import CentralSystem
+from ..room import NoRoom
 from ..state import State
-from .metrics import Metrics
+from .answers import LOST, Answers
+from .feeding import EVENTS, Feeding
 from .outstanding import Outstanding
+from .shown import Shown
 
 Handler = Callable[[web.Request], Awaitable[web.StreamResponse]]
 
-# The addresses that feed an event, and whether it is an operator's.
-EVENTS = {"/orders": ("submit", False), "/tokens": ("token", False), "/credits": ("credit", True),
-          "/service": ("service", True), "/faults": ("fault", True)}
 PAGE = Path(__file__).parent / "page"
 HEADERS = {"Cache-Control": "no-store", "X-Content-Type-Options": "nosniff",
            "Content-Security-Policy": "default-src 'none'; script-src 'self'; style-src 'self'; connect-src 'self'; "
@@ -44,47 +47,48 @@ OWN_NAME = re.compile(r"(localhost|127(\.\d{1,3}){3}|\[::1\])(:\d+)?")
 FAILURES = {
     NotJson: (400, "the body is no JSON that a node reads"), NodeEnded: (503, "the bridge is ending"),
     NumberTooLarge: (400, "the body has a number of a size that no node takes"),
-    OutcomeLost: (504, "carried out, but a stop of the node lost what came of it: see the lists")}
+    NoRoom: (503, "nothing was done: a disk is full, and the log says which"),
+    OutcomeLost: (LOST[0], LOST[1]["error"])}
 # Seconds within which a tick must have been answered, and the least seconds between two looks at what a page shows.
 HEALTHY_WITHIN = 5.0
 LOOK_EVERY = 0.5
-# How many of each list a page shows at most, and how many an address gives: the newest.
-MOST_SHOWN, MOST_TOKENS, MOST_LISTED = 50, 500, 10_000
+# How many of a list an address gives at most: the newest.
+MOST_LISTED = 10_000
 
 
 class Admin:
-    """All these addresses. To be made before the feeder runs, since it follows what is outstanding from then on."""
+    """All these addresses. What `feeding` and `outstanding` note of each outcome they have to be told."""
 
-    def __init__(self, configuration: Configuration, state: State, events: Events, feeder: Feeder, objects: Objects,
-                 partners: Partners, metrics: Metrics, locations: Locations | None,
-                 central_system: CentralSystem, takes_orders: Callable[[str], bool]) -> None:
-        """`locations` are an operator's. `takes_orders` says whether a command more may wait for a partner."""
-        self._configuration, self._events, self._feeder, self._metrics = configuration, events, feeder, metrics
-        self._objects, self._locations, self._central_system = objects, locations, central_system
-        self._takes_orders = takes_orders
-        self._outstanding = outstanding = Outstanding(state, objects, lambda: feeder.is_open)
+    def __init__(self, configuration: Configuration, state: State, events: Events, feeder: RevocableFeeder,
+                 objects: Objects, client: Client, metrics: Metrics, locations: Locations | None,
+                 central_system: CentralSystem) -> None:
+        """`locations` are an operator's."""
+        self._configuration, self._state, self._feeder, self._metrics = configuration, state, feeder, metrics
+        self._clock = events.clock
+        self.feeding = Feeding(
+            events, feeder, objects, Answers(state, events.clock), locations,
+            None if configuration.ocpp is None else central_system, client.takes_orders)
+        self.outstanding = outstanding = Outstanding(state, objects, lambda: feeder.is_open)
+        self._shown = Shown(configuration, objects, outstanding, client, locations, central_system)
         is_operator = configuration.is_operator
-        feeder.before_commit.append(outstanding.note)
         metrics.gauge("ocpi_unacknowledged_pushes", outstanding.pushes)
         metrics.gauge("ocpi_open_commands",
                       lambda: len(central_system.commands()) if is_operator else outstanding.open_commands())
         metrics.gauge("ocpi_charge_points_connected", central_system.connected_count)
         if is_operator:
             metrics.gauge("ocpi_silent_sessions", central_system.silent_count)
-        self._lists: dict[str, Callable[[], list[Members]]] = {
+        self._lists: dict[str, Callable[[], Sequence[object]]] = {
             **{f"/{module}": partial(objects.newest, module, MOST_LISTED) for module in ("sessions", "cdrs", "tokens")},
             "/commands": lambda: central_system.commands() if is_operator else outstanding.commands(),
-            "/charge_points": central_system.charge_points,
-            "/partners": lambda: [{"party": partner.party, "kind": partner.kind, "registered": partner.is_registered,
-                                   "versions_url": partner.versions_url} for partner in partners.all()]}
+            "/charge_points": central_system.charge_points, "/partners": client.told}
 
     def application(self) -> web.Application:
         application = web.Application(middlewares=[_guard], client_max_size=1 << 20)
         application.add_routes([
             *(web.post(path, self._feed) for path in EVENTS), *(web.get(path, self._list) for path in self._lists),
             web.post("/backup", self._backup), web.get("/metrics", self._metrics_text),
-            web.get("/health", self._health), web.get("/events", self._stream),
-            web.get("/", _page), web.get(r"/{file:page\.(js|css)}", _page)])
+            web.get("/totals", self._totals), web.get("/health", self._health), web.get("/events", self._stream),
+            web.get("/openapi.json", _openapi), web.get("/", _page), web.get(r"/{file:page\.(js|css)}", _page)])
         return application
 
     async def _list(self, request: web.Request) -> web.Response:
@@ -93,46 +97,43 @@ class Admin:
         return web.Response(text=text, content_type="application/json", headers=HEADERS)
 
     async def _feed(self, request: web.Request) -> web.Response:
-        """Feeds the body of a request as an event, and answers what came of it.
-
-        Of `service` the node is told first, so that nothing new is let charge there while the charge point is asked.
-        It has `owner`, which the node reads past: no charge point takes it back.
-        """
-        event, is_operators = EVENTS[request.path]
-        body = await self._body(request, is_operators)
-        if event == "submit" and not self._takes_orders(str(body.get("operator"))):
-            raise web.HTTPServiceUnavailable(text="nothing was done: too many orders wait for the operator")
-        members = {"token": body} if event == "token" else body | {"owner": True} if event == "service" else body
-        outcome = await self._feeder.feed({**members, **self._events.make(event)})
-        told: Members = {"done": outcome.done, "packets": [packet.members() for packet in outcome.packets]}
-        if outcome.word not in ("stepped", "idle"):
-            words = " ".join(str(outcome.done[name]) for name in ("done", "name", "field") if name in outcome.done)
-            return _answer({"error": f"the node does not do it: {words}", **told},
-                           400 if outcome.word == "malformed" else 409)
-        if event == "service" and self._configuration.ocpp is not None:
-            told["charge_point"] = await self._central_system.change_availability(body["evse_uid"], body["in_service"])
-        return _answer(told)
+        """Feeds the body of a request as an event, and answers what came of it, once that is on the disk."""
+        body = await self._body(request, EVENTS[request.path][1])
+        status, told = await self.feeding.feed(request.path, body, request.headers.get("Idempotency-Key"))
+        await self._state.synced()
+        return _answer(told, status)
 
     async def _backup(self, request: web.Request) -> web.Response:
-        """Copies the node's store to a new file, while the node is ended."""
+        """Copies the node's store and the state to a new folder, while the node is ended."""
         to = (await self._body(request)).get("to")
         if not isinstance(to, str) or "\0" in to or not Path(to).is_absolute():
-            raise web.HTTPBadRequest(text="to: wanted is the absolute path of a file that is not there yet")
-        store, copy, began = self._configuration.node.store, Path(to), time.monotonic()
+            raise web.HTTPBadRequest(text="to: wanted is the absolute path of a folder that is not there yet")
+        configuration, began = self._configuration, time.monotonic()
+        copy = partial(copy_together, configuration.node.store, configuration.state, Path(to),
+                       self._clock.seconds())
         try:
-            if copy.exists():
-                raise web.HTTPConflict(text="to: there is such a file")
-            size = await self._feeder.while_closed(lambda: asyncio.to_thread(_copy_whole, store, copy))
-        except OSError as fault:
-            raise web.HTTPConflict(text=f"to: no copy was made: {fault.strerror}") from None
+            if Path(to).exists():
+                raise web.HTTPConflict(text="to: there is such a file or folder")
+            size = await self._feeder.while_closed(lambda: asyncio.to_thread(copy))
+        except (OSError, sqlite3.Error) as fault:
+            raise web.HTTPConflict(text=f"to: no copy was made: {getattr(fault, 'strerror', fault)}") from None
         return _answer({"bytes": size, "seconds": round(time.monotonic() - began, 3)})
 
     async def _metrics_text(self, _: web.Request) -> web.Response:
         return web.Response(text=self._metrics.text(), headers={"Content-Type": "text/plain; version=0.0.4"})
 
     async def _health(self, _: web.Request) -> web.Response:
-        is_healthy = self._feeder.is_open and time.monotonic() <= self._feeder.ticked + HEALTHY_WITHIN
-        return _answer({"healthy": is_healthy}, 200 if is_healthy else 503)
+        """The node is `closed`, or it is `silent` where it answered no tick lately. Where a disk is full nothing is
+        healthy."""
+        node, settings = self._feeder, self._configuration
+        is_silent = time.monotonic() > node.ticked + HEALTHY_WITHIN
+        word = "closed" if not node.is_open else "silent" if is_silent else "open"
+        is_healthy = word == "open" and self._state.room.is_there
+        files = {"store": settings.node.store, "state": settings.state, "transcript": settings.node.transcript}
+        return _answer({
+            "healthy": is_healthy, "version": __version__, "node": word,
+            "free_bytes": {name: shutil.disk_usage(file.parent).free for name, file in files.items() if file},
+        }, 200 if is_healthy else 503)
 
     async def _stream(self, request: web.Request) -> NoReturn:
         """Server-sent events: all that the page shows, at once and whenever it changed, until the connection ends.
@@ -144,29 +145,23 @@ class Admin:
         shown = ""
         while True:
             began = time.monotonic()
-            text = write_json(self._shown())
+            text = write_json(self._shown.all())
             pause = max(LOOK_EVERY, 9 * (time.monotonic() - began))
             await response.write(f"data: {text}\n\n".encode() if text != shown else b":\n\n")
             shown = text
             await asyncio.sleep(pause)
 
-    def _shown(self) -> Members:
-        """Party, role, sessions, bills; an operator's EVSEs and warnings, or a provider's operators, tokens, commands,
-        debts."""
-        objects, configuration = self._objects, self._configuration
-        shown: Members = {"party": configuration.node.party, "is_operator": configuration.is_operator,
-                          **{module: objects.newest(module, MOST_SHOWN) for module in ("sessions", "cdrs")}}
-        if self._locations is not None:
-            return {**shown, "warnings": self._central_system.warnings(MOST_SHOWN), "evses": [
-                {"uid": evse["uid"], "location": f"{location['address']}, {location['city']}",
-                 "status": evse["status"], "session": objects.living_session(evse["uid"])}
-                for location in self._locations.all() for evse in location["evses"]]}
-        return {**shown, "operators": [node for node in configuration.setup["nodes"] if node.get("site")],
-                "tokens": objects.newest("tokens", MOST_TOKENS), "commands": self._outstanding.commands(MOST_SHOWN),
-                "owed": self._outstanding.owed()}
+    async def _totals(self, request: web.Request) -> web.Response:
+        """The totals of the bills of a time, such as a day."""
+        try:
+            return _answer(self._shown.totals(request.query["date_from"], request.query["date_to"]))
+        except (KeyError, ValueError, OverflowError):
+            raise web.HTTPBadRequest(text="date_from, date_to: wanted are two moments") from None
 
     async def _body(self, request: web.Request, is_operators: bool | None = None) -> Members:
         """The JSON object that a request carries, where the node has the role that the request wants."""
+        if not self._state.room.is_there:
+            raise NoRoom()
         if request.content_type != "application/json":
             raise web.HTTPUnsupportedMediaType(text="Content-Type: wanted is application/json")
         body = read_json(await request.read())
@@ -181,21 +176,12 @@ def _answer(value: object, status: int = 200) -> web.Response:
     return web.Response(text=write_json(value), status=status, content_type="application/json", headers=HEADERS)
 
 
-def _copy_whole(source: Path, copy: Path) -> int:
-    """Copies a file to a new one of mode 0600, which has its name once all of it is on the disk. Tells its bytes."""
-    with tempfile.NamedTemporaryFile(dir=copy.parent) as written, source.open("rb") as read:
-        shutil.copyfileobj(read, written)
-        written.flush()
-        os.fsync(written.fileno())
-        os.link(written.name, copy)
-    folder = os.open(copy.parent, os.O_RDONLY)
-    os.fsync(folder)
-    os.close(folder)
-    return copy.stat().st_size
-
-
 async def _page(request: web.Request) -> web.FileResponse:
     return web.FileResponse(PAGE / request.match_info.get("file", "page.html"), headers=HEADERS)
+
+
+async def _openapi(_: web.Request) -> web.FileResponse:
+    return web.FileResponse(Path(__file__).with_name("openapi.json"), headers=HEADERS)
 
 
 @web.middleware

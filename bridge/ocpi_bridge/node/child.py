@@ -2,16 +2,23 @@
 import asyncio
 import logging
 from asyncio.subprocess import PIPE, Process
-from contextlib import suppress
+from collections.abc import Callable, Iterator
+from contextlib import contextmanager, suppress
+from functools import partial
+from pathlib import Path
 
 from ..configuration import NodeSettings
 from ..json_text import Members, read_json
+from ..room import FULL
+from ..state import State
 from .transcript import Transcript
 
 LOG = logging.getLogger("node")
+NEW_STATE = ("the store has rows, and `state` is a new file, which knows nothing of them. Bring back the one that "
+             "belongs to the store; where that is lost, start once with --new-state")
 # Longer than any line that a node writes.
 MOST_BYTES = 64 * 1024 * 1024
-LOCKED = "another program has it open"
+LOCKED, NO_ROOM = "another program has it open", "the disk is full"
 
 
 class ChildEnded(Exception):
@@ -21,23 +28,28 @@ class ChildEnded(Exception):
 class Child:
     """A running program. It is in a session of its own, so that a signal from the terminal reaches the bridge alone."""
 
-    def __init__(self, process: Process, settings: NodeSettings) -> None:
+    def __init__(self, process: Process, settings: NodeSettings, is_known: bool) -> None:
         assert process.stdin and process.stdout and process.stderr
         self._process, self._input, self._output = process, process.stdin, process.stdout
-        self._settings = settings
+        self._settings, self._is_known = settings, is_known
         self._transcript: Transcript | None = None
-        self._refusal, self.found_lock = 0, False
-        # Whether the output ended within a line.
+        self._refusal, self.found_lock, self.found_no_room = 0, False, False
+        # The state that has to be on the disk before a line is fed, where there is one.
+        self.state: State | None = None
+        # Whether the store has to be the very one that was copied with the state.
+        self.is_backup = False
+        # Whether the output ended within a line, or the transcript has not all of it.
         self.was_cut = False
         self._errors = asyncio.create_task(self._log_errors(process.stderr))
 
     @classmethod
     async def start(cls, settings: NodeSettings, existing: bool) -> "Child":
-        """Starts the program. Raises OSError where it cannot be started."""
+        """Starts the program, whose store is `existing` where the state knows it. Raises OSError where it cannot be
+        started."""
         words = ["node", settings.party, "--store", str(settings.store), *(["--existing"] if existing else [])]
         process = await asyncio.create_subprocess_exec(
             settings.program, *words, stdin=PIPE, stdout=PIPE, stderr=PIPE, limit=MOST_BYTES, start_new_session=True)
-        return cls(process, settings)
+        return cls(process, settings, existing)
 
     async def open(self, last_seen: int) -> int:
         """Feeds the setup, and gives the serial of the last packet that the node sent. Raises ChildEnded.
@@ -52,20 +64,46 @@ class Child:
             self._refusal, fault = 2, "the node refuses its setup"
         elif opened["serial"] < last_seen:
             self._refusal, fault = 3, f"the store is a copy from before serial {last_seen} was seen"
+        elif self.is_backup and opened["serial"] != last_seen:
+            self._refusal, fault = 3, "the store is not the one that was copied with `state`: bring back both"
+        elif opened["rows"] > 0 and not (self._is_known or self._settings.takes_new_state):
+            self._refusal, fault = 3, NEW_STATE
         if self._refusal:
             LOG.error("%s: %s", fault, line.decode().rstrip())
             raise ChildEnded()
         if self._settings.transcript is not None:
-            self._transcript = Transcript(self._settings.transcript)
-            self._transcript.echo(self._settings.setup_line.encode() + b"\n")
-            self._transcript.append(line)
+            await self._record(partial(self._begin_transcript, self._settings.transcript, line))
         return int(opened["serial"])
 
+    def _begin_transcript(self, path: Path, line: bytes) -> None:
+        self._transcript = Transcript(path)
+        self._transcript.echo(self._settings.setup_line.encode() + b"\n")
+        self._transcript.append(line)
+
+    async def _record(self, write: Callable[[], None]) -> None:
+        """Writes to the transcript, by the thread that waits for the disk. Raises NoRoom."""
+        with self._noting_room():
+            if self.state is None:
+                write()
+            else:
+                await self.state.in_writer(write)
+
+    @contextmanager
+    def _noting_room(self) -> Iterator[None]:
+        try:
+            yield
+        except OSError as fault:
+            if fault.errno in FULL and self.state is not None and self._settings.transcript is not None:
+                raise self.state.room.lacks("transcript", self._settings.transcript) from None
+            raise
+
     async def write(self, line: str) -> None:
-        """Feeds a line. The transcript has it before the program does. Raises ChildEnded."""
+        """Feeds a line. The transcript has it before the program does. Raises ChildEnded and NoRoom."""
         ended = line.encode() + b"\n"
+        if self.state is not None:
+            await self.state.synced()
         if self._transcript is not None:
-            self._transcript.echo(ended)
+            await self._record(partial(self._transcript.echo, ended))
         try:
             self._input.write(ended)
             await self._input.drain()
@@ -73,10 +111,14 @@ class Child:
             raise ChildEnded() from None
 
     async def read(self) -> Members:
-        """The next line that the program writes. Raises ChildEnded where there is none, or where it was cut."""
+        """The next line that the program writes. Raises ChildEnded where there is none, or where it was cut, and
+        NoRoom."""
         line = await self._next_line()
         if self._transcript is not None:
-            self._transcript.append(line)
+            self.was_cut = True
+            with self._noting_room():
+                self._transcript.append(line)
+            self.was_cut = False
         return dict(read_json(line))
 
     async def _next_line(self) -> bytes:
@@ -87,8 +129,8 @@ class Child:
         return line
 
     async def end(self) -> int:
-        """Ends the program's input, and waits. Gives its status: 128 more of a signal, 2 of a wrong setup, 3 of an
-        older store."""
+        """Ends the program's input, and waits. Gives its status: 128 more of a signal, 2 of a wrong setup, 3 of a
+        store that is older than the state, or is not known to it."""
         self._input.close()
         await self._output.read()
         await self._errors
@@ -103,4 +145,5 @@ class Child:
         async for line in errors:
             text = line.decode(errors="replace").rstrip()
             self.found_lock = self.found_lock or LOCKED in text
+            self.found_no_room = self.found_no_room or NO_ROOM in text
             LOG.warning("%s", text)

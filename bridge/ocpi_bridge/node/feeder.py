@@ -13,12 +13,13 @@ import time
 from collections import deque
 from collections.abc import Awaitable, Callable, Iterable
 from contextlib import suppress
-from typing import TypeVar
+from typing import TypeVar, cast
 
-from ..admin.metrics import Metrics
 from ..configuration import NodeSettings
 from ..events import Events, Outcome, Packet
-from ..json_text import Members, write_json
+from ..json_text import write_json
+from ..metrics import Metrics
+from ..records import Done, Event, PacketLine
 from ..state import State
 from .child import Child, ChildEnded
 from .lines import Line, Waiting, kept_line, next_line
@@ -73,7 +74,7 @@ class Feeder:
         # When a tick was answered last, as time.monotonic tells it.
         self.ticked = float("-inf")
 
-    async def feed(self, event: Members) -> Outcome:
+    async def feed(self, event: Event) -> Outcome:
         """Has an event carried out, behind those that wait. A caller that is cancelled does not take it back.
 
         Raises OutcomeLost and NodeEnded; NotJson where the event is nested deeper than a node reads.
@@ -210,11 +211,11 @@ class Feeder:
             output = await child.read()
             line.is_fed_again = False
             if "kind" in output:
-                packets.append(Packet.of(output))
+                packets.append(Packet.of(cast(PacketLine, output)))
                 self._serial = packets[-1].serial
                 continue
             if "event" in output or not line.is_array:
-                outcomes.append(Outcome(line.waiting[output.get("event", 0)].event, output, tuple(packets)))
+                outcomes.append(Outcome(line.waiting[output.get("event", 0)].event, cast(Done, output), tuple(packets)))
                 packets = []
             if "event" not in output:
                 break

@@ -4,7 +4,8 @@ from collections import deque
 from dataclasses import dataclass
 
 from ..events import Outcome
-from ..json_text import Members, read_json, write_json
+from ..json_text import read_json, write_json
+from ..records import Event
 
 # What a node takes in one line.
 MOST_EVENTS = 256
@@ -17,7 +18,7 @@ LAST_OF_A_LINE = ("swipe", "tick")
 class Waiting:
     """An event, with where its outcome is awaited. One that is `alone` is fed in a line of its own."""
 
-    event: Members
+    event: Event
     outcome: "Future[Outcome] | None" = None
     alone: bool = False
 

@@ -1,13 +1,19 @@
-"""A feeder whose events may be revoked while they wait, and which tells what a stop left."""
+"""A feeder whose events may be revoked while they wait. It tells what a stop left, and waits where a disk is full."""
+import asyncio
 from collections.abc import Callable
 
 from ..configuration import NodeSettings
-from ..admin.metrics import Metrics
-from ..events import Events
-from ..json_text import Members
+from ..events import Events, Outcome
+from ..metrics import Metrics
+from ..records import Event
+from ..room import NoRoom
 from ..state import State
 from .child import Child
 from .feeder import Feeder
+from .lines import Line
+
+# The status of a run that found a disk full: the node is started again, and its store may not be whole without its log.
+WITHOUT_ROOM = 75
 
 
 class RevocableFeeder(Feeder):
@@ -16,9 +22,9 @@ class RevocableFeeder(Feeder):
     def __init__(self, settings: NodeSettings, events: Events, state: State, metrics: Metrics) -> None:
         super().__init__(settings, events, state, metrics)
         # Called with the events of the line that a stop left, before the node is opened anew.
-        self.before_opening: list[Callable[[list[Members]], None]] = []
+        self.before_opening: list[Callable[[list[Event]], None]] = []
 
-    def revoke(self, event: Members) -> bool:
+    def revoke(self, event: Event) -> bool:
         """Takes back an event that nobody awaits any more. False where it stands in a line already, or is done."""
         for place, waiting in enumerate(self._queue):
             if waiting.event is event:
@@ -29,7 +35,48 @@ class RevocableFeeder(Feeder):
         return False
 
     async def _open(self, child: Child) -> None:
+        child.state = self._state
+        child.is_backup = self._state.is_backup and self._line is None
         left = [waiting.event for waiting in self._line.waiting] if self._line is not None else []
         for listener in self.before_opening:
             listener(left)
         await super()._open(child)
+
+    def _judge_kept_line(self, serial: int) -> None:
+        if self._state.is_backup:
+            self._state.restore()
+        super()._judge_kept_line(serial)
+
+    async def run(self) -> int:
+        status = await super().run()
+        return 1 if status == WITHOUT_ROOM else status
+
+    async def _run_once(self, child: Child) -> int:
+        """Feeds the node as a feeder does. Where a disk is full it ends, and is started again when there is room."""
+        room = self._state.room
+        try:
+            status = await super()._run_once(child)
+        except NoRoom:
+            status = WITHOUT_ROOM
+            if self._line is not None and child.was_cut:
+                self._line.is_fed_again = False
+        if status == 3 and child.found_no_room:
+            status = WITHOUT_ROOM
+            room.lacks("store", self._settings.store)
+        if not room.is_there:
+            waits = [asyncio.create_task(room.wait()), asyncio.create_task(self._stopping.wait())]
+            await asyncio.wait(waits, return_when=asyncio.FIRST_COMPLETED)
+            for wait in waits:
+                wait.cancel()
+            self._delay = 0.0
+        return status
+
+    def _settle(self, line: Line, outcomes: list[Outcome]) -> None:
+        """Settles a line. Where there is no room for that, what came of it is lost, and the next line waits again."""
+        try:
+            super()._settle(line, outcomes)
+        except NoRoom:
+            if self._line is not None and self._line is not line:
+                self._queue.extendleft(reversed(self._line.waiting))
+            self._line = line if len(outcomes) == len(line.waiting) else None
+            raise

@@ -9,7 +9,8 @@ class Transcript:
     """The file, made for its owner alone. A last line that a stop cut is left out when it is opened."""
 
     def __init__(self, path: Path) -> None:
-        self._file = open(path, "a+b", opener=partial(os.open, mode=0o600))
+        # Without a buffer: what finds no room is not written later, behind what another run wrote.
+        self._file = open(path, "a+b", buffering=0, opener=partial(os.open, mode=0o600))
         if path.stat().st_size > 0:
             with mmap.mmap(self._file.fileno(), 0, access=mmap.ACCESS_READ) as written:
                 end = written.rfind(b"\n") + 1
@@ -21,9 +22,10 @@ class Transcript:
         os.fdatasync(self._file.fileno())
 
     def append(self, line: bytes) -> None:
-        """Writes a line, which has its end."""
-        self._file.write(line)
-        self._file.flush()
+        """Writes a line, which has its end. Raises OSError, and then a part of it may be written."""
+        left = memoryview(line)
+        while left:
+            left = left[self._file.write(left):]
 
     def close(self) -> None:
         self._file.close()

@@ -7,7 +7,7 @@ import asyncio
 import logging
 from collections.abc import Awaitable, Callable
 from contextlib import suppress
-from typing import Any
+from typing import Any, cast
 
 from ..clock import Clock, milliseconds_of, moment_of
 from ..configuration import Configuration
@@ -15,6 +15,8 @@ from ..events import Events, Outcome, Packet
 from ..json_text import Members, NotJson, read_json, write_json
 from ..node.feeder import NodeEnded, repeated
 from ..parties import party_key
+from ..records import Body, Event
+from ..room import NoRoom
 from ..state import State
 from .envelope import INVALID, SUCCESS, routing_headers
 from .exchange import Exchange, NoAddress, NoResponse, NotSent, Response
@@ -22,7 +24,7 @@ from .lanes import AT_ONCE, Lanes
 from .orders import Orders
 from .packets import AGED, COMMANDS, FORMS, path_of
 from .partners import Endpoints, Partner, Partners
-from .requests import NODES_URL, RESULTS_PATH, Requests, number_in, number_of
+from .requests import NODES_URL, RESULTS_PATH, Requests, SentOnce, number_in, number_of
 
 ONCE = ("start_session", "reserve_now", "stop_session")
 # How long a request waits for a partner that said `Retry-After`, before it is lost.
@@ -38,10 +40,10 @@ class Client:
     """Asks each partner a few requests at a time, and one that fails again and again less often."""
 
     def __init__(self, configuration: Configuration, state: State, partners: Partners, exchange: Exchange,
-                 requests: Requests, events: Events, feed: Callable[[Members], Awaitable[Outcome]],
+                 requests: Requests, events: Events, feed: Callable[[Event], Awaitable[Outcome]],
                  orders: Orders) -> None:
         self._orders = orders
-        self._url, self._state, self._feed = configuration.ocpi.url, state, feed
+        self._url, self._state, self._sent, self._feed = configuration.ocpi.url, state, SentOnce(state), feed
         self.partners, self.exchange, self.requests, self.events = partners, exchange, requests, events
         self._lanes = {party_key(partner.party): Lanes(events.clock) for partner in configuration.partners}
         self._looking_up: dict[str, asyncio.Future[Endpoints]] = {}
@@ -55,6 +57,19 @@ class Client:
         """Whether a partner may be sent one command or result more. (Of no partner its node has a word.)"""
         lanes = self._lanes.get(party_key(party))
         return lanes is None or not lanes.is_full
+
+    def told(self) -> list[Members]:
+        """Each partner: how it stands (`state`), and how many requests are `waiting` for it or under way."""
+        return [{"party": partner.party, "kind": partner.kind, "registered": partner.is_registered,
+                 "versions_url": partner.versions_url, "state": self._state_of(partner),
+                 "waiting": self._lanes[party_key(partner.party)].waiting} for partner in self.partners.all()]
+
+    def _state_of(self, partner: Partner) -> str:
+        if not partner.is_registered:
+            return "UNREGISTERED"
+        if self.exchange.is_resting(partner):
+            return "RESTING"
+        return "FAILING" if self._lanes[party_key(partner.party)].is_failing else "ANSWERING"
 
     async def run(self) -> None:
         """Sends what waits, until it is cancelled or the bridge ends."""
@@ -114,7 +129,7 @@ class Client:
     async def _send(self, packet: Packet) -> bool:
         """Sends one request. True where its partner answered, be it by an error, or where it is not asked at all."""
         partner = self.partners.of(packet.receiver)
-        kept = self._state.value(_name(packet)) if partner.kind == "ocpi" and packet.kind in ONCE else None
+        kept = self._sent.answer(packet) if _is_sent_once(packet, partner) else None
         may_ask = kept is None and await self.exchange.may_ask(partner, LONGEST_WAIT)
         if kept:
             await self.deliver(Packet.of(read_json(kept)))
@@ -126,20 +141,23 @@ class Client:
 
     async def _ask(self, packet: Packet, partner: Partner) -> bool:
         """Asks a partner for what a request says, and hands on its answer. True where it answered."""
-        name = _name(packet) if partner.kind == "ocpi" and packet.kind in ONCE else None
-        headers = {"X-Request-ID": f"{packet.sender}/{packet.serial}",
-                   "X-Correlation-ID": f"{packet.sender}/{packet.request}",
+        is_sent_once = _is_sent_once(packet, partner)
+        # A node that was restored gives numbers again, which no node has seen. Of other partners nobody knows.
+        number = self._state.value("restored") if partner.kind == "ocpi" else None
+        restored = "" if number is None else f"/{number}"
+        headers = {"X-Request-ID": f"{packet.sender}/{packet.serial}{restored}",
+                   "X-Correlation-ID": f"{packet.sender}/{packet.request}{restored}",
                    **routing_headers(packet.sender, packet.receiver)}
         if partner.kind == "node" and packet.kind in AGED:
             headers["X-Order-Age"] = str(self._orders.age(packet))
         try:
             url, told, body = await self._request(packet, partner)
-            if name is not None:
-                self._state.set_value(name, "")
+            if is_sent_once:
+                self._sent.keep(packet, "")
             response = await self.exchange.ask(partner, FORMS[packet.kind].method, url, body, headers, told)
         except NoResponse as fault:
-            if name is not None and isinstance(fault, NotSent):
-                self._state.query("DELETE FROM value_of WHERE name = ?", name)
+            if is_sent_once and isinstance(fault, NotSent):
+                self._sent.forget(packet)
             if isinstance(fault, NotSent) and not isinstance(fault, NoAddress) and packet.kind != "command_result":
                 self.partners.set_endpoints(partner.party, partner.versions_url, {})
             log.warning("%s to %s: lost, %s", packet.kind, partner.party, fault)
@@ -150,8 +168,9 @@ class Client:
         if answer is None or answer.body["status_code"] != SUCCESS:
             _warn(packet, response, told, answer)
         if answer is not None:
-            if name is not None:
-                self._state.set_value(name, write_json(answer.members()))
+            if is_sent_once:
+                with suppress(NoRoom):
+                    self._sent.keep(packet, write_json(answer.members()))
             await self.deliver(answer)
         return response.status < 500 and response.status not in TRANSIENT
 
@@ -160,7 +179,7 @@ class Client:
 
         No log tells a driver's token.
         """
-        form, body = FORMS[packet.kind], packet.body
+        form, body = FORMS[packet.kind], cast(Members, packet.body)
         if packet.kind == "command_result":
             url: str | None = body["response_url"]
             if partner.kind == "node":
@@ -177,9 +196,8 @@ class Client:
         return url, told, body.get("location") if packet.kind == "authorize" else body
 
 
-def _name(packet: Packet) -> str:
-    """What a command that is sent once is kept under, with its answer."""
-    return f"sent {party_key(packet.receiver)}/{packet.request}"
+def _is_sent_once(packet: Packet, partner: Partner) -> bool:
+    return partner.kind == "ocpi" and packet.kind in ONCE
 
 
 def _warn(packet: Packet, response: Response, told: str, answer: Packet | None) -> None:
@@ -205,7 +223,7 @@ def answer_of(packet: Packet, kind: str, response: Response, clock: Clock) -> Pa
     serial = number_of(response.headers.get("X-Serial", "")) if kind == "node" else None
     if kind == "node" and serial is None and (not question or status_code == SUCCESS):
         return None
-    body: Members = {"status_code": status_code, "timestamp": response.body.get("timestamp")}
+    body: Body = {"status_code": status_code, "timestamp": str(response.body.get("timestamp"))}
     if serial is None:
         body["timestamp"] = clock.moment()
         with suppress(ValueError, OverflowError):

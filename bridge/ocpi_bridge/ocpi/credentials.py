@@ -12,10 +12,10 @@ import logging
 import sys
 from dataclasses import replace
 
-from ..admin.metrics import Metrics
 from ..clock import Clock
 from ..configuration import Configuration
 from ..json_text import Members
+from ..metrics import Metrics
 from ..parties import codes, party_key, party_of
 from ..state import State
 from .envelope import INVALID, Refusal
@@ -129,7 +129,8 @@ class Credentials:
 
 async def register(configuration: Configuration, party: str, url: str, token: str) -> int:
     """Registers at the partner of a party, whose versions stand at `url`, by its token. Gives the exit status."""
-    state, exchange = State(configuration.state), Exchange(Clock(configuration.clock_factor), Metrics())
+    state = State(configuration.state)
+    exchange = Exchange(Clock(configuration.clock_factor), Metrics(), state.synced)
     try:
         await Credentials(configuration, Partners(configuration, state), exchange).register(party, url, token)
     except (KeyError, NoResponse, Refusal) as fault:
@@ -138,5 +139,6 @@ async def register(configuration: Configuration, party: str, url: str, token: st
         return 1
     finally:
         await exchange.close()
+        await state.synced()
         state.close()
     return 0

@@ -8,6 +8,7 @@ from aiohttp import web
 
 from ..json_text import Members, read_json, write_json
 from ..parties import codes
+from ..records import Done
 
 SUCCESS = 1000
 CLIENT_ERROR = 2000
@@ -27,7 +28,7 @@ class Refusal(Exception):
         self.http_status, self.status_code, self.message = http_status, status_code, message
 
 
-def refusal_of(done: Members) -> Refusal:
+def refusal_of(done: Done) -> Refusal:
     """The refusal that tells a partner of a `done` that is `malformed` or `refused`, and names the member at fault."""
     name, member = done.get("name"), done.get("field")
     http_status, status_code, words = REFUSALS["answers"].get(name, REFUSALS["answers"]["otherwise"])

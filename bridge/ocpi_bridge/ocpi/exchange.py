@@ -1,7 +1,7 @@
 """One HTTP request to a partner and its response, bounded in time and in size, and what a partner's versions list."""
 import logging
 import uuid
-from collections.abc import Mapping
+from collections.abc import Awaitable, Callable, Mapping
 from contextlib import suppress
 from dataclasses import dataclass
 from email.utils import parsedate_to_datetime
@@ -10,9 +10,9 @@ from urllib.parse import quote
 import aiohttp
 from yarl import URL
 
-from ..admin.metrics import Metrics
 from ..clock import Clock
 from ..json_text import Members, NotJson, NumberTooLarge, read_json, write_json
+from ..metrics import Metrics
 from .envelope import SUCCESS, authorization
 from .partners import Endpoints, Partner
 
@@ -27,6 +27,10 @@ NOT_NOW = (429, 503)
 LONGEST_REST = 3600.0
 
 log = logging.getLogger(__name__)
+
+
+async def at_once() -> None:
+    """Where nothing is kept there is nothing to wait for."""
 
 
 class NoResponse(Exception):
@@ -66,9 +70,10 @@ class Response:
 class Exchange:
     """The connections to all partners. To be made while the event loop runs."""
 
-    def __init__(self, clock: Clock, metrics: Metrics) -> None:
+    def __init__(self, clock: Clock, metrics: Metrics, synced: Callable[[], Awaitable[None]] = at_once) -> None:
+        """`synced` is awaited before each request: what that rests on is on the disk."""
         self.clock = clock
-        self._metrics = metrics
+        self._metrics, self._synced = metrics, synced
         # The address of the details that were lost once, by that of the versions, and when each partner may be asked.
         self._details: dict[str, str] = {}
         self._rested_at: dict[str, float] = {}
@@ -93,6 +98,7 @@ class Exchange:
                 "X-Correlation-ID": str(uuid.uuid4()), **(headers or {})}
         ids = f"({sent['X-Request-ID']}, {sent['X-Correlation-ID']})"
         asked = f"{method} {told or url} {ids}"
+        await self._synced()
         try:
             response = await self.clock.within(SECONDS, self._ask(method, url, sent, body))
             status = str(response.status)
@@ -119,6 +125,10 @@ class Exchange:
             with suppress(ValueError, OverflowError):
                 seconds = seconds or parsedate_to_datetime(after).timestamp() - self.clock.seconds()
             self._rested_at[partner.party] = self.clock.seconds() + min(seconds, LONGEST_REST)
+
+    def is_resting(self, partner: Partner) -> bool:
+        """Whether a partner said `Retry-After`, and that is not over."""
+        return self.clock.seconds() < self._rested_at.get(partner.party, 0.0)
 
     async def may_ask(self, partner: Partner, at_most: float = LONGEST_REST) -> bool:
         """Waits until a partner may be asked that said `Retry-After`, so many seconds at most. Whether it may be."""

@@ -4,9 +4,10 @@ A request that is a packet is delivered to the node, and answered by what the no
 answers by itself.
 """
 import asyncio
-from collections.abc import Awaitable, Callable, Mapping
+from collections.abc import Awaitable, Callable, Mapping, Sequence
 from dataclasses import dataclass
 from functools import partial
+from typing import cast
 from urllib.parse import unquote
 
 from aiohttp import web
@@ -15,6 +16,7 @@ from ..clock import milliseconds_of
 from ..events import Events, Outcome, Packet
 from ..json_text import Members, read_json, write_json
 from ..parties import party_key, party_of, same_party
+from ..records import Body, Data, Event
 from .envelope import (INVALID, SERVER_ERROR, SUCCESS, UNKNOWN_LOCATION, UNKNOWN_TOKEN, Refusal, answer, is_printable,
                        refusal_of)
 from .locations import Locations
@@ -44,7 +46,7 @@ Handler = Callable[[web.Request], Awaitable[web.Response]]
 class UnderWay:
     """A request that was fed, and by how many who sent it its outcome is awaited."""
 
-    event: Members
+    event: Event
     outcome: "asyncio.Future[Outcome]"
     awaiting: int = 0
 
@@ -53,9 +55,9 @@ class Interfaces:
     """Handles what a registered partner asks for, which is `request["partner"]`."""
 
     def __init__(self, url: str, events: Events, objects: Objects, requests: Requests, locations: Locations | None,
-                 feed: Callable[[Members], Awaitable[Outcome]],
+                 feed: Callable[[Event], Awaitable[Outcome]],
                  takes_orders: Callable[[str], bool] = lambda party: True,
-                 revoke: Callable[[Members], bool] = lambda event: False,
+                 revoke: Callable[[Event], bool] = lambda event: False,
                  expect_late: Callable[[str, int], None] = lambda party, number: None) -> None:
         """`locations` are those of an operator, and None at a provider. `feed` carries out an event, and goes on where
         nobody waits any more, unless `revoke` takes the event back, which tells whether it could. `takes_orders` says
@@ -132,6 +134,7 @@ class Interfaces:
     async def get_list(self, request: web.Request) -> web.Response:
         """The locations, the tokens, or the sessions or CDRs of the partner that asks."""
         part, module = _part_of(request.query), _module(request)
+        listed: Sequence[object]
         if module == "locations" and self._locations is not None:
             count, listed = self._locations.page(part)
         else:
@@ -142,9 +145,10 @@ class Interfaces:
             headers["Link"] = f'<{self._url}{path}>; rel="next"'
         return answer(self._clock.moment(), listed, headers=headers)
 
-    def _held(self, request: web.Request) -> Members:
+    def _held(self, request: web.Request) -> Mapping[str, object]:
         """What a path names: a place, or an object of the partner that asks. Raises Refusal where there is none."""
-        module, segments, found = _module(request), _segments(request), None
+        module, segments = _module(request), _segments(request)
+        found: Mapping[str, object] | None = None
         if module == "locations" and self._locations is not None:
             found = self._locations.find(*segments)
         elif same_party(party_of(*segments[:2]), request["partner"].party):
@@ -165,7 +169,7 @@ class Interfaces:
             body = {**body, "response_url": NODES_URL + request.headers["X-Correlation-ID"]}
         if kind in AGED and partner.kind == "node" and (number_of(request.headers.get("X-Order-Age", "")) or 0) > LATE:
             self._expect_late(partner.party, number)
-        event = self._events.deliver(Packet(partner.party, self._events.node, serial, number, kind, body))
+        event = self._events.deliver(Packet(partner.party, self._events.node, serial, number, kind, cast(Body, body)))
         if len(write_json(event)) > LONGEST_LINE:
             raise Refusal(413, INVALID, "the body is too long")
         outcome = await self._carry_out((party_key(partner.party), number), event)
@@ -176,18 +180,18 @@ class Interfaces:
             raise Refusal(504, SERVER_ERROR, "the answer was lost: send the request again")
         status_code, data = sent.body["status_code"], sent.body.get("data")
         if kind == "post_cdr" and status_code != SUCCESS:
-            self._objects.warn_of_bill(body)
+            self._objects.warn_of_bill(cast(Body, body))
         headers = {"X-Serial": str(sent.serial)}
         if kind == "post_cdr" and status_code == SUCCESS:
             headers["Location"] = f"{self._url}{RECEIVER}/cdrs{path_of(OBJECT_PATH, body)}"
         if partner.kind == "ocpi" and "location" in body and data is not None and data.get("allowed") == "ALLOWED":
-            data = {**data, "location": body["location"]}
+            data = cast(Data, {**data, "location": body["location"]})
         # OCPI wants 404 of a question about a token that is not known. To a node's bridge it is a response like others.
         is_unknown = kind == "authorize" and status_code == UNKNOWN_TOKEN and partner.kind == "ocpi"
         return answer(sent.body["timestamp"], data, status_code, http_status=404 if is_unknown else 200,
                       headers=headers)
 
-    async def _carry_out(self, key: tuple[str, int], event: Members) -> Outcome:
+    async def _carry_out(self, key: tuple[str, int], event: Event) -> Outcome:
         """Feeds the request of a party and a number. One that comes again meanwhile waits for the same outcome, so
         that repeats do not add to what keeps a node busy. One that nobody awaits any more is revoked, if it can be:
         who asked was told that it was not done. Raises Refusal where too many wait."""

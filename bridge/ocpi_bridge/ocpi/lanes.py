@@ -24,7 +24,7 @@ Subject = tuple[str, ...]
 def subject_of(packet: Packet) -> Subject:
     """What requests go about one after the other: a session with its bill, a token, or the request alone."""
     if packet.kind in ("put_session", "post_cdr"):
-        return "session", str(packet.body["id" if packet.kind == "put_session" else "session_id"]).upper()
+        return "session", (packet.body["id"] if packet.kind == "put_session" else packet.body["session_id"]).upper()
     if packet.kind == "put_token":
         return "token", str(packet.body["type"]), str(packet.body["uid"]).upper()
     return "request", str(packet.request)
@@ -86,6 +86,16 @@ class Lanes:
     def is_full(self) -> bool:
         """Whether no command more may wait."""
         return len(self._urgent.waiting) >= MOST_WAITING
+
+    @property
+    def waiting(self) -> int:
+        """How many requests wait, or are under way."""
+        return sum(len(lane.waiting) + lane.under_way for lane in (self._urgent, self._others))
+
+    @property
+    def is_failing(self) -> bool:
+        """Whether what was asked last got no answer."""
+        return self._urgent.failures + self._others.failures > 0
 
     def put(self, packet: Packet) -> bool:
         """Takes a request to be sent. False where it is lost, since too many wait."""

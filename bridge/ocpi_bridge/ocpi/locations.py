@@ -1,9 +1,11 @@
 """The locations of an operator, as OCPI has them: read off the setup, with the status of each EVSE."""
 from collections.abc import Callable
+from contextlib import suppress
 
 from ..clock import Clock, milliseconds_of
 from ..json_text import Members, write_json
 from ..parties import codes
+from ..room import NoRoom
 from ..state import State
 from .objects import Objects, Part
 
@@ -19,6 +21,10 @@ class Locations:
         self._setups = {location["id"].upper(): location for location in site["locations"]}
         self._evse_setups = {(name, evse["uid"].upper()): evse for name, location in self._setups.items()
                              for evse in location["evses"]}
+
+    def has_evse(self, evse_uid: str) -> bool:
+        """Whether the site has an EVSE of a uid."""
+        return any(uid == evse_uid.upper() for _, uid in self._evse_setups)
 
     def all(self) -> list[Members]:
         """All locations, by `last_updated` and then by id."""
@@ -74,6 +80,9 @@ class Locations:
     def _since(self, name: str, place: Members) -> str:
         """The moment at which a place was first seen as it is now."""
         text, moment = write_json(place), self._clock.moment()
-        self._state.query("INSERT INTO place VALUES (?, ?, ?) ON CONFLICT DO UPDATE SET text = excluded.text,"
-                          " since = excluded.since WHERE text <> excluded.text", name, text, moment)
-        return str(self._state.query("SELECT since FROM place WHERE name = ?", name)[0][0])
+        with suppress(NoRoom):
+            self._state.query("INSERT INTO place (name, text, since) VALUES (?, ?, ?) ON CONFLICT DO UPDATE"
+                              " SET text = excluded.text, since = excluded.since WHERE text <> excluded.text", name,
+                              text, moment)
+        rows = self._state.query("SELECT since FROM place WHERE name = ?", name)
+        return str(rows[0][0]) if rows else moment

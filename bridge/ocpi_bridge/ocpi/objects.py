@@ -5,11 +5,14 @@ sent or accepted. Beside these stand the EVSEs that commands claim.
 """
 import logging
 from dataclasses import dataclass
+from decimal import Decimal
+from typing import cast
 
 from ..clock import milliseconds_of
 from ..events import Outcome, Packet
-from ..json_text import Members, read_json, write_json
+from ..json_text import Members, Number, read_json, write_json
 from ..parties import party_key, party_of, same_party
+from ..records import Body
 from ..state import State
 
 # The module of each packet that carries an object, and the member that identifies the object.
@@ -54,8 +57,8 @@ class Objects:
 
     def _accept(self, packet: Packet) -> None:
         """Keeps an object of a partner's own. A node answers a repeat unseen: so another object in one is none."""
-        is_first = self._state.query("INSERT OR IGNORE INTO accepted_request VALUES (?, ?) RETURNING number",
-                                     party_key(packet.sender), packet.request)
+        is_first = self._state.query("INSERT OR IGNORE INTO accepted_request (partner, number) VALUES (?, ?)"
+                                     " RETURNING 1", party_key(packet.sender), packet.request)
         if is_first and same_party(_party(packet.body), packet.sender):
             self._keep(packet, packet.sender)
 
@@ -63,20 +66,22 @@ class Objects:
         (module, identifier), body = OBJECTS[packet.kind], packet.body
         status, evse_uid = (body["status"], body["evse_uid"].upper()) if module == "sessions" else ("", "")
         self._state.query(
-            """INSERT INTO object_of VALUES (?, ?, ?, ?, ?, ?, ?, ?, ?)
+            """INSERT INTO object_of (module, party, identifier, token_type, partner, last_updated, status, evse_uid,
+                body) VALUES (?, ?, ?, ?, ?, ?, ?, ?, ?)
             ON CONFLICT DO UPDATE SET partner = excluded.partner, last_updated = excluded.last_updated,
                 status = excluded.status, evse_uid = excluded.evse_uid, body = excluded.body
             WHERE excluded.last_updated > last_updated AND status NOT IN ('COMPLETED', 'INVALID')""",
-            module, party_key(_party(body)), body[identifier].upper(), body["type"] if module == "tokens" else "",
+            module, party_key(_party(body)), _text(body, identifier).upper(),
+            body["type"] if module == "tokens" else "",
             party_key(partner), milliseconds_of(body["last_updated"]), status, evse_uid, write_json(body))
 
-    def find(self, module: str, party: str, identifier: str, token_type: str = "RFID") -> Members | None:
+    def find(self, module: str, party: str, identifier: str, token_type: str = "RFID") -> Body | None:
         """The object of a party and an id (of a token also a type) in `sessions`, `cdrs` or `tokens`."""
         return next(iter(self._bodies("module = ? AND party = ? AND identifier = ? AND token_type = ?", module,
                                       party_key(party), identifier.upper(), token_type if module == "tokens" else "")),
                     None)
 
-    def warn_of_bill(self, bill: Members) -> None:
+    def warn_of_bill(self, bill: Body) -> None:
         """Warns of a bill that the node did not take, where one is held that it contradicts: of its id or session."""
         bills = self._bodies("module = 'cdrs' AND party = ? AND (identifier = ? OR "
                              "upper(json_extract(body, '$.session_id')) = ?)", party_key(_party(bill)),
@@ -85,12 +90,12 @@ class Objects:
             log.warning("bill %.80s of %s, session %s: refused, since it contradicts bill %s, which is held: "
                         "ask its operator", bill["id"], _party(bill), held.get("session_id"), held["id"])
 
-    def refuse(self, module: str, body: Members) -> None:
+    def refuse(self, module: str, body: Body) -> None:
         """Keeps that the node refused a version of an object."""
-        self._state.query("INSERT OR REPLACE INTO refused_object VALUES (?, ?, ?, ?, ?)", *_key(module, body),
-                          milliseconds_of(body["last_updated"]))
+        self._state.query("INSERT OR REPLACE INTO refused_object (module, party, identifier, token_type, last_updated)"
+                          " VALUES (?, ?, ?, ?, ?)", *_key(module, body), milliseconds_of(body["last_updated"]))
 
-    def has(self, module: str, body: Members) -> bool:
+    def has(self, module: str, body: Body) -> bool:
         """Whether a version of an object, or a later one, is held, or whether just this one was refused.
 
         Raises what it does where a member that it needs is none: KeyError, TypeError, ValueError, OverflowError.
@@ -101,7 +106,7 @@ class Objects:
             f"SELECT 1 FROM object_of WHERE {where} AND last_updated >= ? UNION ALL "
             f"SELECT 1 FROM refused_object WHERE {where} AND last_updated = ?", *key, updated, *key, updated))
 
-    def page(self, module: str, partner: str, part: Part) -> tuple[int, list[Members]]:
+    def page(self, module: str, partner: str, part: Part) -> tuple[int, list[Body]]:
         """How many objects a list has by its dates, and those of its part, by `last_updated` and then by id.
 
         The list is of the objects that concern one partner, or of a provider's tokens, which are for all ("").
@@ -112,40 +117,63 @@ class Objects:
         return count, self._bodies(f"{where} ORDER BY last_updated, identifier, party, token_type LIMIT ? OFFSET ?",
                                    *values, part.limit, part.offset)
 
-    def newest(self, module: str, most: int = -1) -> list[Members]:
+    def newest(self, module: str, most: int = -1) -> list[Body]:
         """The objects of a module, the newest first: all of them, or so many at most."""
         return self._bodies("module = ? ORDER BY last_updated DESC, identifier DESC LIMIT ?", module, most)
 
-    def living_session(self, evse_uid: str) -> Members | None:
+    def totals(self, date_from: int, date_to: int) -> list[Members]:
+        """Of the bills by their `last_updated`, in each currency: how many there are and how many were taken back, and
+        their energy and price without those."""
+        rows = self._state.query(
+            """SELECT json_extract(body, '$.currency'), SUM(1 - credit), SUM(credit),
+                SUM((1 - 2 * credit) * CAST(ROUND(10000 * json_extract(body, '$.total_energy')) AS INTEGER)),
+                SUM(CAST(ROUND(10000 * json_extract(body, '$.total_cost.excl_vat')) AS INTEGER))
+            FROM (SELECT body, coalesce(json_extract(body, '$.credit'), 0) AS credit FROM object_of
+                WHERE module = 'cdrs' AND last_updated >= ? AND last_updated < ?) GROUP BY 1 ORDER BY 1""",
+            date_from, date_to)
+        return [{"currency": currency, "bills": bills, "credits": credits, "kwh": ten_thousandths(energy),
+                 "excl_vat": ten_thousandths(price)} for currency, bills, credits, energy, price in rows]
+
+    def living_session(self, evse_uid: str) -> Body | None:
         """The session at an EVSE of the node that is PENDING or ACTIVE."""
         found = self._bodies(f"evse_uid = ? AND {LIVING} ORDER BY last_updated DESC LIMIT 1", evse_uid.upper())
         return found[0] if found else None
 
-    def living_of(self, party: str, reference: str | None) -> list[Members]:
+    def living_of(self, party: str, reference: str | None) -> list[Body]:
         """The sessions of an operator and an authorization reference that are PENDING or ACTIVE."""
         return self._bodies(f"{LIVING} AND party = ? AND upper(json_extract(body, '$.authorization_reference')) = ?",
                             party_key(party), (reference or "").upper())
 
-    def pending_sessions(self) -> list[Members]:
+    def pending_sessions(self) -> list[Body]:
         """The sessions at EVSEs of the node in which nobody charges so far."""
         return self._bodies(f"{LIVING} AND status = 'PENDING'")
 
-    def living_sessions(self) -> list[Members]:
+    def living_sessions(self) -> list[Body]:
         """Those in which somebody charges, too."""
         return self._bodies(LIVING)
 
-    def _bodies(self, where: str, *values: object) -> list[Members]:
+    def _bodies(self, where: str, *values: object) -> list[Body]:
         return [read_json(body) for body, in self._state.query(f"SELECT body FROM object_of WHERE {where}", *values)]
 
 
-def _key(module: str, body: Members) -> tuple[str, str, str, str]:
+def ten_thousandths(amount: int) -> Number:
+    """An amount in ten thousandths, with its four decimals."""
+    return Number(f"{Decimal(amount).scaleb(-4):.4f}")
+
+
+def _key(module: str, body: Body) -> tuple[str, str, str, str]:
     """What an object of a module is known by."""
     identifier = next(own for kept, own in OBJECTS.values() if kept == module)
-    return (module, party_key(_party(body)), str(body[identifier]).upper(),
+    return (module, party_key(_party(body)), _text(body, identifier).upper(),
             str(body.get("type", "RFID")) if module == "tokens" else "")
 
 
-def _party(body: Members) -> str:
+def _text(body: Body, name: str) -> str:
+    """The member of a name."""
+    return str(cast(Members, body)[name])
+
+
+def _party(body: Body) -> str:
     return party_of(body["country_code"], body["party_id"])
 
 
@@ -189,8 +217,9 @@ class Claims:
 
     def _begin(self, command: Packet, status: str, name: str, until: int) -> None:
         if command.body.get("evse_uid") is not None:
-            self._state.query("INSERT OR REPLACE INTO claim VALUES (?, ?, ?, ?, ?)", command.body["evse_uid"].upper(),
-                              status, party_key(command.sender), name, until)
+            self._state.query("INSERT OR REPLACE INTO claim (evse_uid, status, partner, name, until)"
+                              " VALUES (?, ?, ?, ?, ?)", command.body["evse_uid"].upper(), status,
+                              party_key(command.sender), name, until)
 
     def _end(self, partner: str, name: str) -> None:
         self._state.query("DELETE FROM claim WHERE partner = ? AND name = ?", party_key(partner), name)

@@ -14,6 +14,7 @@ from ..events import Events, Outcome, Packet
 from ..json_text import Members
 from ..node.feeder import NodeEnded, OutcomeLost
 from ..parties import party_key
+from ..records import Body, Event, Session
 from ..state import State
 from .objects import Objects
 from .packets import COMMANDS
@@ -33,14 +34,14 @@ class Orders:
     """Keeps in the state what it knows of each order. To be made before the feeder runs, which tells it of outcomes."""
 
     def __init__(self, configuration: Configuration, state: State, events: Events, objects: Objects,
-                 requests: Requests, feed: Callable[[Members], Awaitable[Outcome]]) -> None:
+                 requests: Requests, feed: Callable[[Event], Awaitable[Outcome]]) -> None:
         self._state, self._events, self._objects, self._requests, self._feed = state, events, objects, requests, feed
         self._others = {party_key(partner.party) for partner in configuration.partners
                         if partner.kind == "ocpi" and not configuration.is_operator}
         # When the orders were given that a stop left in the line that was under way.
         self._left: list[int] = []
 
-    def note_left(self, events: list[Members]) -> None:
+    def note_left(self, events: list[Event]) -> None:
         """Takes in the events of the line that a stop left, before the node is opened anew."""
         self._left = [milliseconds_of(event["at"]) for event in events if event["event"] == "submit"]
 
@@ -51,8 +52,9 @@ class Orders:
             if packet.kind in COMMANDS:
                 # The first tick behind a stop has commands whose own outcome that lost.
                 moments = [milliseconds_of(event["at"]), *(self._left if event["event"] != "submit" else ())]
-                self._state.query("INSERT OR IGNORE INTO order_given VALUES (?, ?, ?, ?, 'open', NULL)", packet.request,
-                                  party_key(packet.receiver), packet.body.get("authorization_reference"), min(moments))
+                self._state.query("INSERT OR IGNORE INTO order_given (request, operator, reference, at, state)"
+                                  " VALUES (?, ?, ?, ?, 'open')", packet.request, party_key(packet.receiver),
+                                  packet.body.get("authorization_reference"), min(moments))
         if event["event"] == "deliver" and party_key(event["packet"]["from"]) in self._others:
             self._note_delivered(outcome, Packet.of(event["packet"]))
 
@@ -76,14 +78,15 @@ class Orders:
             if answer is not None and answer.body["status_code"] == 1000:
                 self._note_session(operator, body)
 
-    def _note_session(self, operator: str, session: Members) -> None:
+    def _note_session(self, operator: str, session: Session) -> None:
         """Keeps that a session has to be stopped whose start was given up, or that it is over."""
         if session["status"] not in ("PENDING", "ACTIVE"):
             self._state.query("DELETE FROM session_to_stop WHERE operator = ? AND session_id = ?", operator,
                               session["id"])
         elif self._state.query("SELECT 1 FROM order_given WHERE operator = ? AND reference = ? AND state = 'late'",
                                operator, session.get("authorization_reference")):
-            self._state.query("INSERT OR IGNORE INTO session_to_stop VALUES (?, ?, 0)", operator, session["id"])
+            self._state.query("INSERT OR IGNORE INTO session_to_stop (operator, session_id, ordered_at)"
+                              " VALUES (?, ?, 0)", operator, session["id"])
 
     def _now(self) -> int:
         return int(self._events.clock.seconds() * 1000)
@@ -128,7 +131,7 @@ class Orders:
         for request, operator in self._state.query(
                 "SELECT request, operator FROM order_given WHERE result_until < ?", now):
             log.warning("command %d to %s: its result did not come in time: TIMEOUT", request, operator)
-            result = {"result": "TIMEOUT", "response_url": f"{NODES_URL}{node}/{request}"}
+            result: Body = {"result": "TIMEOUT", "response_url": f"{NODES_URL}{node}/{request}"}
             await self._feed(self._events.deliver(Packet(
                 operator, node, 0, self._requests.number(operator), "command_result", result)))
         for operator, session_id in self._state.query("SELECT operator, session_id FROM session_to_stop"

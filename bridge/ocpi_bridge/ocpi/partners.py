@@ -12,10 +12,13 @@ from contextlib import AbstractContextManager
 from dataclasses import asdict, dataclass, field, replace
 
 from ..configuration import Configuration, PartnerSettings
-from ..json_text import Members, read_json, write_json
+from ..json_text import Members
 from ..parties import party_key
 from ..state import State
 
+# What is kept of a registration, of which the first ones count once it is decided.
+DECIDED = ("token", "their_token", "versions_url", "used")
+KEPT = (*DECIDED, "former", "offer", "details_of")
 # The URL of each module and role (`SENDER` or `RECEIVER`).
 Endpoints = Mapping[tuple[str, str], str]
 
@@ -111,13 +114,13 @@ class Partners:
         A `former` token shows the partner too, until it uses the new one.
         """
         self._keep(party, token=token, their_token=their_token, versions_url=versions_url, offer=None, former=former,
-                   used=self._settings[party_key(party)].token)
+                   used=self._settings[party_key(party)].token, is_decided=True)
         self.set_endpoints(party, versions_url, endpoints)
 
     def unregister(self, party: str) -> None:
         """Ends a registration: neither token is used any more."""
         self._keep(party, token=None, their_token=None, versions_url=None, former=None,
-                   used=self._settings[party_key(party)].token)
+                   used=self._settings[party_key(party)].token, is_decided=True)
 
     def offer(self, party: str) -> str:
         """A new token, of at most 64 characters, by which the partner may look up this bridge while it registers."""
@@ -127,13 +130,25 @@ class Partners:
 
     def set_endpoints(self, party: str, versions_url: str | None, endpoints: Endpoints) -> None:
         """Keeps where the modules of a partner stand, by its version details. None: they have to be asked again."""
-        self._keep(party, details_of=versions_url, endpoints=[[*names, url] for names, url in endpoints.items()])
+        with self._state.transaction():
+            self._keep(party, details_of=versions_url)
+            self._state.query("DELETE FROM endpoint WHERE party = ?", party_key(party))
+            for (module, role), url in endpoints.items():
+                self._state.query("INSERT INTO endpoint (party, module, role, url) VALUES (?, ?, ?, ?)",
+                                  party_key(party), module, role, url)
 
-    def _kept(self, party: str) -> Members:
-        kept: Members = read_json(self._state.value(f"partner {party_key(party)}") or "{}")
-        return kept
+    def _kept(self, key: str) -> Members:
+        """What the state has of a partner: only the members that go before its configuration."""
+        for is_decided, *values in self._state.query(
+                f"SELECT is_decided, {', '.join(KEPT)} FROM registration WHERE party = ?", key):
+            kept: Members = {name: value for name, value in zip(KEPT, values) if is_decided or name not in DECIDED}
+            kept["endpoints"] = self._state.query("SELECT module, role, url FROM endpoint WHERE party = ?", key)
+            return kept
+        return {}
 
     def _keep(self, party: str, **members: object) -> None:
         self._version = None
         with self._state.transaction():
-            self._state.set_value(f"partner {party_key(party)}", write_json({**self._kept(party), **members}))
+            self._state.query("INSERT OR IGNORE INTO registration (party) VALUES (?)", party_key(party))
+            self._state.query(f"UPDATE registration SET {', '.join(f'{name} = ?' for name in members)} WHERE party = ?",
+                              *members.values(), party_key(party))

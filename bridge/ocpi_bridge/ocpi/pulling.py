@@ -81,12 +81,12 @@ class Pulling:
             if not response.data or response.next_page in (None, page) or pages + turn >= MOST_PAGES:
                 with self._state.transaction():
                     self._forget_page(partner, module)
-                    self._state.set_value(f"pulled {module} of {party_key(partner.party)}",
-                                          str(min(latest, int(self._clock.seconds() * 1000))))
+                    self._state.query("INSERT OR REPLACE INTO list_pulled (party, module, latest) VALUES (?, ?, ?)",
+                                      party_key(partner.party), module, min(latest, int(self._clock.seconds() * 1000)))
                 return True
             page = str(response.next_page)
-            self._state.query("INSERT OR REPLACE INTO list_under_way VALUES (?, ?, ?, ?, ?)",
-                              party_key(partner.party), module, page, pages + turn, latest)
+            self._state.query("INSERT OR REPLACE INTO list_under_way (party, module, page, pages, latest)"
+                              " VALUES (?, ?, ?, ?, ?)", party_key(partner.party), module, page, pages + turn, latest)
             if self._clock.seconds() > until:
                 break
         return False
@@ -110,7 +110,8 @@ class Pulling:
             if URL(page).origin() == URL(address).origin():
                 return page, pages, latest
         self._forget_page(partner, module)
-        latest = int(self._state.value(f"pulled {module} of {party_key(partner.party)}") or "0")
+        latest = next((latest for latest, in self._state.query(
+            "SELECT latest FROM list_pulled WHERE party = ? AND module = ?", party_key(partner.party), module)), 0)
         query = {"date_from": moment_of(max(latest - OVERLAP, 0) / 1000), "limit": PAGE}
         return address + "?" + urlencode(query), 0, latest
 

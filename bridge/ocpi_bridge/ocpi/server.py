@@ -6,12 +6,14 @@ from urllib.parse import unquote
 
 from aiohttp import web
 
-from ..admin.metrics import Metrics
 from ..events import Events
 from ..json_text import NotJson, NumberTooLarge, read_json
 from ..listening import Handler
+from ..metrics import Metrics
 from ..node.feeder import NodeEnded, OutcomeLost
 from ..parties import codes
+from ..room import NoRoom
+from ..state import State
 from .credentials import Credentials
 from .envelope import (CLIENT_ERROR, INVALID, SERVER_ERROR, Refusal, answer, is_printable, read_token, routing_headers,
                        written_token)
@@ -38,7 +40,8 @@ FAILURES: dict[type[Exception], tuple[int, int, str]] = {
     NumberTooLarge: (200, INVALID, "the body has a number that is too large"),
     TimeoutError: (504, SERVER_ERROR, "the node did not answer in time: send the request again"),
     OutcomeLost: (504, SERVER_ERROR, "the answer was lost: send the request again"),
-    NodeEnded: (503, SERVER_ERROR, "the node is stopping")}
+    NodeEnded: (503, SERVER_ERROR, "the node is stopping"),
+    NoRoom: (503, SERVER_ERROR, "a disk is full: send the request again")}
 UNKNOWN_FAILURE = 500, SERVER_ERROR, "the bridge could not carry out the request"
 
 
@@ -46,7 +49,8 @@ class Server:
     """Answers whoever has a token. What a registered partner may ask for is handled by `interfaces`."""
 
     def __init__(self, events: Events, partners: Partners, credentials: Credentials, interfaces: Interfaces,
-                 metrics: Metrics) -> None:
+                 metrics: Metrics, state: State) -> None:
+        self._state, self._room = state, state.room
         self._party, self._clock, self._partners = events.node, events.clock, partners
         self._credentials, self._interfaces, self._metrics = credentials, interfaces, metrics
         self._large = asyncio.Semaphore(MOST_LARGE)
@@ -65,7 +69,10 @@ class Server:
         response: web.StreamResponse
         try:
             request["partner"] = self._partner(request)
+            if not self._room.is_there:
+                raise NoRoom()
             response = await self._carry_out(request, handler)
+            await self._state.synced()
         except Refusal as refusal:
             response = self._error(refusal.http_status, refusal.status_code, refusal.message)
         except web.HTTPException as exception:
@@ -73,6 +80,8 @@ class Server:
             response.headers.update({name: text for name, text in exception.headers.items() if name == "Allow"})
         except Exception as fault:
             known = [told for kind, told in FAILURES.items() if isinstance(fault, kind)]
+            if known and known[0][0] == 504 and not self._room.is_there:
+                known = [FAILURES[NoRoom]]
             if not known:
                 logger.exception("a request was not carried out")
             response = self._error(*(known[0] if known else UNKNOWN_FAILURE))

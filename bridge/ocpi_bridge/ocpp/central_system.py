@@ -10,12 +10,13 @@ from typing import Any
 
 from aiohttp import web
 
-from ..clock import seconds_of
+from ..clock import moment_of, seconds_of
 from ..configuration import ChargePointSettings, OcppSettings
 from ..events import Events, Outcome
 from ..json_text import Members
 from ..node.feeder import Feeder, NodeEnded
 from ..ocpi.objects import Objects
+from ..room import when_there_is_room
 from ..state import State
 from .connection import Connection
 from .orders import Orders
@@ -42,7 +43,7 @@ class CentralSystem:
     def __init__(self, settings: OcppSettings, events: Events, state: State, feeder: Feeder, objects: Objects,
                  count: Callable[[str], None]) -> None:
         """`count` adds to a metric."""
-        self._clock, self._objects = events.clock, objects
+        self._clock, self._objects, self._synced = events.clock, objects, state.synced
         self._site = Site(settings, events, state, feeder, objects)
         self._orders = Orders(self._site, self._spawn)
         self._readings = Readings(self._site, state, count)
@@ -93,8 +94,10 @@ class CentralSystem:
 
     async def _serve(self, charge_point: ChargePoint, socket: web.WebSocketResponse, abort: Callable[[], None]) -> None:
         """Serves a connection until it ends. It takes the place of one that the charge point has."""
-        connection = Connection(socket, self._clock, partial(self._reports.answer, charge_point, socket), abort,
-                                charge_point.settings.id)
+        async def answer(action: str, payload: Members) -> Members:
+            return await when_there_is_room(partial(self._reports.answer, charge_point, socket, action, payload))
+
+        connection = Connection(socket, self._clock, answer, abort, charge_point.settings.id, self._synced)
         if charge_point.connection is not None:
             self._spawn(charge_point.connection.close)
         charge_point.connection = connection
@@ -135,7 +138,7 @@ class CentralSystem:
         if outcome.event["event"] == "tick":
             self._end_unused()
             self._watch.tick()
-        if outcome.event["event"] == "fault":
+        if outcome.event["event"] == "fault" and outcome.word in ("stepped", "idle"):
             self._watch.stop_at(outcome.event["evse_uid"])
         if outcome.sent("command_response"):
             self._orders.begin()
@@ -158,11 +161,15 @@ class CentralSystem:
         await charge_point.alone(lambda: self._site.withdraw(session_id))
 
     def charge_points(self) -> list[Members]:
-        """Each charge point: its `id`, whether it is `connected`, and its `connectors` with their `status`."""
-        return [{"id": point.settings.id, "connected": point.connection is not None, "connectors": [
-            {"connector": place.connector, "evse_uid": place.settings.evse_uid,
-             "connector_id": place.settings.connector_id, "status": self._site.status(place)}
-            for place in point.places.values()]} for point in self._site.by_id.values()]
+        """Each charge point: its `id`, whether it is `connected`, when its `last_message` came since the bridge was
+        started, and its own `error` of OCPP. Its `connectors` have their `status` and `error`, and their EVSE."""
+        return [{"id": point.settings.id, "connected": point.connection is not None,
+                 "last_message": None if point.heard is None else moment_of(point.heard),
+                 "error": point.errors.get(0), "connectors": [
+                     {"connector": place.connector, "evse_uid": place.settings.evse_uid,
+                      "connector_id": place.settings.connector_id, "status": self._site.status(place),
+                      "error": point.errors.get(place.connector), "in_service": self._site.is_in_service(place)}
+                     for place in point.places.values()]} for point in self._site.by_id.values()]
 
     def warnings(self, most: int) -> list[Members]:
         """What the owner has to look at: `at`, `evse_uid` and words. First come sessions that are silent, then the

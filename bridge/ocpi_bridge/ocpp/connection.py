@@ -30,8 +30,10 @@ class Connection:
     """
 
     def __init__(self, socket: web.WebSocketResponse | ClientWebSocketResponse, clock: Clock, handler: Handler,
-                 abort: Callable[[], None] = lambda: None, name: str = "a charge point") -> None:
-        """`abort` ends the connection where the other side does not read any more. `name` is what the log calls it."""
+                 abort: Callable[[], None] = lambda: None, name: str = "a charge point",
+                 synced: Callable[[], Awaitable[None]] | None = None) -> None:
+        """`abort` ends the connection where the other side does not read any more. `name` is what the log calls it.
+        `synced` is awaited before each frame is sent: what that rests on is on the disk."""
         self._socket, self._clock, self._handler, self._abort, self._name = socket, clock, handler, abort, name
         self._inbox: asyncio.Queue[tuple[str, Frame] | None] = asyncio.Queue()
         self._times: dict[str, int] = {}
@@ -39,7 +41,7 @@ class Connection:
         # Whoever asks has the first of these until it is answered, and who handles what came has the second.
         self._asking, self._handling = asyncio.Lock(), asyncio.Lock()
         self._asked: tuple[str, asyncio.Future[Members | None]] | None = None
-        self._is_open, self.since = True, clock.seconds()
+        self._is_open, self.since, self._synced = True, clock.seconds(), synced
 
     async def read(self) -> None:
         """Reads frames until the connection ends. Calls that nobody began to handle by then are forgotten."""
@@ -129,6 +131,8 @@ class Connection:
 
     async def _send(self, text: str) -> None:
         """Sends a frame. Where the connection has ended it is lost."""
+        if self._synced is not None:
+            await self._synced()
         with suppress(ConnectionError, RuntimeError):
             await self._socket.send_str(text)
 

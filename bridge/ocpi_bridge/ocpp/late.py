@@ -6,6 +6,7 @@ from contextlib import suppress
 from ..events import Events, Outcome, Packet
 from ..json_text import Members
 from ..node.feeder import NodeEnded, repeated
+from ..records import Event
 from ..state import State
 from .commands import OPEN, REFUSED
 
@@ -14,14 +15,14 @@ class LateCommands:
     """Keeps which commands came late, before the node has them. `note` and `act` come behind and before those of the
     central system, which then finds them refused."""
 
-    def __init__(self, state: State, events: Events, feed: Callable[[Members], Awaitable[Outcome]]) -> None:
+    def __init__(self, state: State, events: Events, feed: Callable[[Event], Awaitable[Outcome]]) -> None:
         self._state, self._events, self._feed = state, events, feed
         self._refused: list[tuple[str, int]] = []
         self._tasks: set[asyncio.Task[None]] = set()
 
     def expect(self, provider: str, number: int) -> None:
         """Keeps that a command which is about to be fed was ordered too long ago."""
-        self._state.query("INSERT OR IGNORE INTO late_command VALUES (?, ?)", provider, number)
+        self._state.query("INSERT OR IGNORE INTO late_command (provider, number) VALUES (?, ?)", provider, number)
 
     def note(self, outcome: Outcome) -> None:
         """Has a late command refused that no charge point was asked for, in the transaction that ends its line."""

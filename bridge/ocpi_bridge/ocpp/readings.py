@@ -8,6 +8,7 @@ from decimal import Decimal, InvalidOperation
 from ..clock import milliseconds_of, moment_of
 from ..configuration import ConnectorSettings
 from ..json_text import Members
+from ..records import Session
 from ..state import State
 from .site import EventRefused, Site
 from .transactions import Transaction
@@ -60,10 +61,11 @@ class Readings:
             return last
         if register < last.register:
             return last
-        self._state.query("INSERT OR REPLACE INTO ocpp_reading VALUES (?, ?, ?)", transaction.number, at, str(register))
+        self._state.query("INSERT OR REPLACE INTO ocpp_reading (number, at, register) VALUES (?, ?, ?)",
+                          transaction.number, at, str(register))
         return Reading(at, register)
 
-    def last(self, transaction: Transaction, session: Members) -> Reading:
+    def last(self, transaction: Transaction, session: Session) -> Reading:
         """The highest reading of a transaction that was taken: at first that of its start."""
         for at, register in self._state.query("SELECT at, register FROM ocpp_reading WHERE number = ?",
                                               transaction.number):
@@ -78,14 +80,14 @@ class Readings:
         LOG.warning("%s: %s: not taken: %s", transaction.charge_point, connector.evse_uid, told)
         self._count("ocpi_readings_dropped_total")
         with self._state.transaction():
-            self._state.query("INSERT INTO ocpp_dropped_reading VALUES (?, ?, ?)", moment_of(at / 1000),
-                              connector.evse_uid, told)
+            self._state.query("INSERT INTO ocpp_dropped_reading (at, evse_uid, text) VALUES (?, ?, ?)",
+                              moment_of(at / 1000), connector.evse_uid, told)
             self._state.query("DELETE FROM ocpp_dropped_reading WHERE rowid <= last_insert_rowid() - ?", MOST_DROPPED)
 
     def dropped(self, most: int) -> list[Members]:
         """The newest readings that were dropped: `at`, `evse_uid` and words, the newest first."""
         return [{"at": at, "evse_uid": evse_uid, "text": text} for at, evse_uid, text in self._state.query(
-            "SELECT * FROM ocpp_dropped_reading ORDER BY rowid DESC LIMIT ?", most)]
+            "SELECT at, evse_uid, text FROM ocpp_dropped_reading ORDER BY rowid DESC LIMIT ?", most)]
 
 
 def _most_risen(connector: ConnectorSettings, milliseconds: int) -> Decimal:

@@ -17,6 +17,7 @@ from functools import partial
 
 from ..clock import moment_of
 from ..json_text import Members
+from ..records import Session
 from .frames import check_payload
 from .readings import Readings, number_in, register_of
 from .site import OUT_OF_SERVICE, ChargePoint, Place, Site
@@ -25,6 +26,7 @@ from .watch import Watch
 
 LOG = logging.getLogger("ocpp")
 HEARTBEAT_EACH = 60
+NO_ERROR, LONGEST_ERROR = "NoError", 50
 # For how many seconds a token may be used that was shown at a charge point with several connectors.
 SHOWN_FOR = 60
 
@@ -46,6 +48,7 @@ class Reports:
 
         Raises CallError, NodeEnded, and EventRefused where the charge point may repeat.
         """
+        charge_point.heard = self._site.clock.seconds()
         check_payload(action, payload)
         self._note_taken(charge_point, connection, action, payload)
         if action in self._handlers:
@@ -69,6 +72,8 @@ class Reports:
         """A status of one connector, or at connector 0 of each: there one in service only ends one that is not. None
         puts an EVSE back that its owner took out of service."""
         status, connector = payload["status"], payload["connectorId"]
+        if connector == 0 or connector in charge_point.places:
+            charge_point.errors[connector] = str(payload.get("errorCode") or NO_ERROR)[:LONGEST_ERROR]
         for place in charge_point.places.values():
             changes_service = {status, self._site.status(place)} & OUT_OF_SERVICE
             if connector == place.connector or connector == 0 and changes_service:
@@ -129,7 +134,7 @@ class Reports:
         status = "Invalid" if transaction.session_id is None or transaction.state == LOST else "Accepted"
         return {"idTagInfo": {"status": status}, "transactionId": transaction.number}
 
-    async def _session_of(self, place: Place, transaction: Transaction) -> Members | None:
+    async def _session_of(self, place: Place, transaction: Transaction) -> Session | None:
         """The session of a new transaction: one that it is known to be, or that waits for its token, or of a swipe."""
         uid = self._site.uid_of(transaction.id_tag)
         if transaction.session_id is not None:

@@ -1,7 +1,7 @@
 """The site of a node: its EVSEs with their charge points, what is kept of these, and how the node is told of them."""
 import asyncio
 import hashlib
-from collections.abc import Awaitable, Callable
+from collections.abc import Awaitable, Callable, Sequence
 from dataclasses import dataclass, field
 from typing import TypeVar
 
@@ -12,6 +12,7 @@ from ..json_text import Members
 from ..node.feeder import Feeder, OutcomeLost, repeated
 from ..ocpi.objects import Objects
 from ..parties import party_key
+from ..records import Event, Session
 from ..state import State
 from .commands import Command, Commands
 from .connection import Connection
@@ -37,6 +38,9 @@ class ChargePoint:
     settings: ChargePointSettings
     places: "dict[int, Place]" = field(default_factory=dict)
     connection: Connection | None = None
+    # When its last call came since the bridge was started, and the errors that it told, by connector (0: its own).
+    heard: float | None = None
+    errors: dict[int, str] = field(default_factory=dict)
     lock: asyncio.Lock = field(default_factory=asyncio.Lock)
 
     async def alone(self, action: Callable[[], Awaitable[Result]]) -> Result:
@@ -75,41 +79,58 @@ class Site:
 
     def status(self, place: Place) -> str | None:
         """The last status that a connector reported."""
-        return self._state.value(f"ocpp.status {place.settings.evse_uid.upper()}")
+        return self._kept(place.settings.evse_uid)[0]
 
     def set_status(self, place: Place, status: str) -> None:
-        self._state.set_value(f"ocpp.status {place.settings.evse_uid.upper()}", status)
+        if status != self.status(place):
+            self._keep(place.settings.evse_uid, "status", status)
 
-    def note_service(self, event: Members) -> None:
+    def _kept(self, evse_uid: str) -> tuple[str | None, str | None]:
+        """What is kept of an EVSE: its last status, and whether it is in service."""
+        for status, service in self._state.query("SELECT status, service FROM ocpp_evse WHERE evse_uid = ?",
+                                                 evse_uid.upper()):
+            return status, service
+        return None, None
+
+    def _keep(self, evse_uid: str, column: str, word: str) -> None:
+        self._state.query(f"INSERT INTO ocpp_evse (evse_uid, {column}) VALUES (?, ?) ON CONFLICT DO UPDATE"
+                          f" SET {column} = excluded.{column}", evse_uid.upper(), word)
+
+    def note_service(self, event: Event) -> None:
         """Keeps what an event `service` said, and whether the owner takes the EVSE out of service by it."""
         word = "in" if event["in_service"] else "owner" if event.get("owner") else "out"
-        self._state.set_value(f"ocpp.service {event['evse_uid'].upper()}", word)
+        self._keep(event["evse_uid"], "service", word)
+
+    def is_in_service(self, place: Place) -> bool:
+        """Whether the node was told last that an EVSE is in service, or nothing."""
+        return self._kept(place.settings.evse_uid)[1] in (None, "in")
 
     def is_kept_out(self, place: Place) -> bool:
         """Whether the owner took an EVSE out of service: then it stays so until the owner puts it back."""
-        return self._state.value(f"ocpp.service {place.settings.evse_uid.upper()}") == "owner"
+        return self._kept(place.settings.evse_uid)[1] == "owner"
 
     def evse_status(self, evse_uid: str) -> str | None:
         """`OUTOFORDER` where nothing can be charged, `INOPERATIVE` where the EVSE is out of service, else None."""
         place = self.place(evse_uid)
         if place is None or place.charge_point.connection is None or self.status(place) == "Faulted":
             return "OUTOFORDER"
-        word = self._state.value(f"ocpp.service {evse_uid.upper()}")
-        return "INOPERATIVE" if word in ("out", "owner") else None
+        return "INOPERATIVE" if self._kept(evse_uid)[1] in ("out", "owner") else None
 
     def id_tag_of(self, uid: str) -> str:
         """What a token is called at charge points: its uid, or a text of the bridge where that is too long for OCPP."""
         if len(uid) <= LONGEST_ID_TAG:
             return uid
         id_tag = hashlib.sha256(uid.upper().encode()).hexdigest()[:LONGEST_ID_TAG].upper()
-        self._state.set_value(f"ocpp.uid {id_tag}", uid)
+        self._state.query("INSERT INTO ocpp_id_tag (id_tag, token_uid) VALUES (?, ?) ON CONFLICT DO UPDATE"
+                          " SET token_uid = excluded.token_uid WHERE token_uid <> excluded.token_uid", id_tag, uid)
         return id_tag
 
     def uid_of(self, id_tag: str) -> str:
         """The uid of the token that a charge point calls so."""
-        return self._state.value(f"ocpp.uid {id_tag.upper()}") or id_tag
+        return next((uid for uid, in self._state.query("SELECT token_uid FROM ocpp_id_tag WHERE id_tag = ?",
+                                                       id_tag.upper())), id_tag)
 
-    def seconds_at(self, timestamp: object, session: Members | None = None) -> float:
+    def seconds_at(self, timestamp: object, session: Session | None = None) -> float:
         """When a message says that something was, in seconds since 1970.
 
         It is the clock's moment where that cannot be: before 2020, before the start of its session, or later than now.
@@ -129,20 +150,20 @@ class Site:
             raise EventRefused(f"{event}: {outcome.word}")
         return outcome
 
-    def at(self, place: Place) -> Members | None:
+    def at(self, place: Place) -> Session | None:
         """The session at a connector that is PENDING or ACTIVE."""
         return self._objects.living_session(place.settings.evse_uid)
 
-    def session(self, session_id: str | None) -> Members | None:
+    def session(self, session_id: str | None) -> Session | None:
         """The session of an id."""
         return self._objects.find("sessions", self._events.node, session_id or "")
 
-    def living(self, session_id: str | None) -> Members | None:
+    def living(self, session_id: str | None) -> Session | None:
         """The session of an id, where it is PENDING or ACTIVE."""
         session = self.session(session_id)
         return session if session is not None and session["status"] in ("PENDING", "ACTIVE") else None
 
-    def all_living(self) -> list[Members]:
+    def all_living(self) -> Sequence[Session]:
         """The sessions that are PENDING or ACTIVE."""
         return self._objects.living_sessions()
 

@@ -11,6 +11,7 @@ from ..state import State
 NEW, CHARGING, REFUSED, STOPPED, OVER, LOST = "new", "charging", "refused", "stopped", "over", "lost"
 # Milliseconds before all moments.
 LONG_AGO = -10**15
+COLUMNS = "number, charge_point, connector, started, id_tag, meter_start, session_id, state"
 
 
 @dataclass(frozen=True)
@@ -50,8 +51,9 @@ class Transactions:
                 """UPDATE ocpp_transaction SET started = ? - number WHERE charge_point = ? AND connector = ?
                 AND started = ? AND id_tag = ? AND meter_start = ? AND state = ?""", LONG_AGO, *told, OVER)
             return Transaction(*self._state.query(
-                """INSERT INTO ocpp_transaction (charge_point, connector, started, id_tag, meter_start, state)
-                VALUES (?, ?, ?, ?, ?, ?) ON CONFLICT DO UPDATE SET started = started RETURNING *""", *told, NEW)[0])
+                f"""INSERT INTO ocpp_transaction (charge_point, connector, started, id_tag, meter_start, state)
+                VALUES (?, ?, ?, ?, ?, ?) ON CONFLICT DO UPDATE SET started = started RETURNING {COLUMNS}""",
+                *told, NEW)[0])
 
     def find(self, charge_point: str, number: int | None) -> Transaction | None:
         """The transaction of a charge point that has a number."""
@@ -68,15 +70,15 @@ class Transactions:
     def running(self, charge_point: str, connector: int | None = None) -> list[Transaction]:
         """Those of a charge point, or of one of its connectors, that have not ended."""
         return [Transaction(*row) for row in self._state.query(
-            "SELECT * FROM ocpp_transaction WHERE charge_point = ? AND state IN ('new', 'charging', 'refused')"
+            f"SELECT {COLUMNS} FROM ocpp_transaction WHERE charge_point = ? AND state IN ('new', 'charging', 'refused')"
             " AND connector = ifnull(?, connector) ORDER BY number", charge_point, connector)]
 
     def _one(self, where: str, *values: object) -> Transaction | None:
-        rows = self._state.query(f"SELECT * FROM ocpp_transaction WHERE {where}", *values)
+        rows = self._state.query(f"SELECT {COLUMNS} FROM ocpp_transaction WHERE {where}", *values)
         return Transaction(*rows[0]) if rows else None
 
     def update(self, transaction: Transaction, word: str, session_id: str | None) -> Transaction:
         """Keeps the state of a transaction, and which session it is. Gives it as it is then."""
         return Transaction(*self._state.query(
-            "UPDATE ocpp_transaction SET state = ?, session_id = ? WHERE number = ? RETURNING *", word, session_id,
-            transaction.number)[0])
+            f"UPDATE ocpp_transaction SET state = ?, session_id = ? WHERE number = ? RETURNING {COLUMNS}", word,
+            session_id, transaction.number)[0])

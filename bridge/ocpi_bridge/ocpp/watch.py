@@ -5,6 +5,7 @@ from collections.abc import Callable
 
 from ..clock import moment_of, seconds_of
 from ..json_text import Members
+from ..records import Session
 from .readings import Readings
 from .site import ChargePoint, Place, Site
 from .transactions import LOST, NEW, Transaction
@@ -108,7 +109,7 @@ class Watch:
                     f"point will never tell of the end, POST /faults ends it, by {session['kwh']} kWh")})
         return sorted(found, key=lambda warning: str(warning["at"]), reverse=True)
 
-    def _last_message(self, session: Members) -> float:
+    def _last_message(self, session: Session) -> float:
         """When the last message of a session came, as far as it is known."""
         transaction = self._transactions.of_session(session["id"])
         read = 0.0 if transaction is None else self._readings.last(transaction, session).at / 1000

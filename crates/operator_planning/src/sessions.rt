@@ -151,7 +151,11 @@ impl Planner<'_> {
         ensures { result ≡ first_of self.now.state at number beginning.now }
     {
         let site = self.books.site_book().site();
-        let session = start(opening(self.books.party(), site, number, beginning), at, site.price_at(at));
+        let session = start(
+            opening(self.books.party(), site, number, beginning),
+            at,
+            site.price_at(at),
+        );
         *session.version()
     }
 

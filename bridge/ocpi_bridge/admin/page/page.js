@@ -3,8 +3,15 @@
 
 const find = (id) => document.getElementById(id);
 const start = find("start");
+const look = find("look").elements;
 const LIVING = ["PENDING", "ACTIVE"];
+// How many sessions and bills are shown where a filter looks at all of them, and after how long it looks again.
+const MOST_FILTERED = 200;
+const LOOK_AGAIN = 2000;
 let shown = {};
+// All sessions and bills, while there is a filter, and the order whose outcome the message tells once it is there.
+let all = null;
+let awaited = null;
 
 const partyOf = (object) => `${object.country_code}/${object.party_id}`;
 // The other party of a session or a bill: its provider at an operator, and its operator at a provider.
@@ -13,6 +20,19 @@ const momentOf = (text) => new Date(text).toLocaleString("sv-SE");
 const energyOf = (kilowattHours) => `${Number(kilowattHours).toFixed(4)} kWh`;
 const costOf = (price, currency) => price ? `${Number(price.excl_vat).toFixed(4)} ${currency}` : "";
 const wordsOf = (word) => word ? word.replaceAll("_", " ").toLowerCase() : "";
+const aboutOf = (command) => command.body.evse_uid || command.body.location_id || command.body.session_id ||
+  command.body.reservation_id || "";
+
+function durationOf(begun, ended) {
+  const minutes = Math.max(0, Math.floor((new Date(ended) - new Date(begun)) / 60_000));
+  return `${Math.floor(minutes / 60)}:${String(minutes % 60).padStart(2, "0")} h`;
+}
+
+// What a kWh cost on the average.
+function priceOf(price, kilowattHours, currency) {
+  const energy = Number(kilowattHours);
+  return price && energy > 0 ? `${(Math.abs(price.excl_vat) / energy).toFixed(4)} ${currency}/kWh` : "";
+}
 
 function tell(text, isRefusal) {
   const message = find("message");
@@ -20,17 +40,55 @@ function tell(text, isRefusal) {
   message.classList.toggle("refusal", isRefusal);
 }
 
-// Posts a request to the bridge, and tells what became of it.
+// Posts a request to the bridge, and tells what became of it. Of an order the message becomes its outcome, when that is
+// told.
 async function post(path, body, done) {
+  awaited = null;
   try {
     const response = await fetch(path, {
       method: "POST", headers: { "Content-Type": "application/json" }, body: JSON.stringify(body) });
     const answer = await response.json();
     const asked = answer.charge_point ? `. Its charge point says: ${answer.charge_point}` : "";
     tell(response.ok ? done + asked : answer.error, !response.ok);
+    if (response.ok && path === "orders" && answer.packets.length > 0) {
+      awaited = answer.packets[0].request;
+      tellOutcome();
+    }
   } catch (fault) {
     tell(`The bridge does not answer: ${fault.message}`, true);
   }
+}
+
+// Tells what became of the last order, as far as it is known.
+function tellOutcome() {
+  const command = awaited !== null && shown.commands.find((one) => one.number === awaited);
+  if (!command || !command.response) return;
+  const outcome = command.response !== "ACCEPTED" ? command.response : command.result;
+  const words = outcome ? wordsOf(outcome) : `${command.operator} takes it, and asks the charge point`;
+  tell(`${wordsOf(command.kind)}, ${aboutOf(command)}: ${words}`, Boolean(outcome) && outcome !== "ACCEPTED");
+  if (outcome) awaited = null;
+}
+
+// Posts after a question that a person says yes to.
+function ask(question, path, body, done) {
+  if (window.confirm(question)) post(path, body, done);
+}
+
+// An id, and a button that copies it.
+function copied(id) {
+  const element = document.createElement("span");
+  const code = document.createElement("code");
+  code.textContent = id;
+  element.append(code, button("Copy", `Copy ${id}`, async () => {
+    window.getSelection().selectAllChildren(code);
+    try {
+      await navigator.clipboard.writeText(id);
+      tell(`${id} is copied`, false);
+    } catch (fault) {
+      tell(`It is marked, and has to be copied by hand: ${fault.message}`, true);
+    }
+  }));
+  return element;
 }
 
 function badge(word) {
@@ -53,6 +111,9 @@ function button(words, label, press) {
 // or makes an element. A row that says the same as before stays as it is, so that no focus is lost.
 function fill(id, rows) {
   const body = find(id);
+  const filter = look.filter.value.toLowerCase();
+  rows = rows.filter(({ cells }) => cells.some((cell) =>
+    (cell instanceof Node ? cell.textContent : cell.number ?? cell).toLowerCase().includes(filter)));
   const old = new Map(Array.from(body.rows, (row) => [row.dataset.key, row]));
   const wanted = rows.map(({ key, says, cells }) => {
     const before = old.get(key);
@@ -74,7 +135,7 @@ function fill(id, rows) {
   if (wanted.length === 0) {
     const row = document.createElement("tr");
     const data = row.insertCell();
-    data.colSpan = 9;
+    data.colSpan = 12;
     data.className = "none";
     data.textContent = "none";
     wanted.push(row);
@@ -94,15 +155,25 @@ function offer(select, options) {
   if (options.some(([value]) => value === chosen)) select.value = chosen;
 }
 
-// The buttons that change whether an EVSE is in service. Where nothing can be charged, nobody sees which it is: both.
-function serviceButtons(evse) {
-  const change = (words, inService, told) => button(words, `${words}: ${evse.uid}`, () =>
-    post("service", { evse_uid: evse.uid, in_service: inService }, `${evse.uid} is ${told}`));
+// The buttons that change whether an EVSE is in service, or end what stands there. Where nothing can be charged, nobody
+// sees which it is: both.
+function evseButtons(evse) {
+  const service = (inService, told) =>
+    ["service", { evse_uid: evse.uid, in_service: inService }, `${evse.uid} is ${told}`];
   const buttons = document.createElement("span");
-  if (evse.status !== "INOPERATIVE") buttons.append(change("Take out of service", false, "out of service"));
-  if (["INOPERATIVE", "OUTOFORDER"].includes(evse.status)) {
-    buttons.append(change("Put into service", true, "in service"));
+  if (evse.status !== "INOPERATIVE") {
+    const words = "Take out of service";
+    buttons.append(button(words, `${words}: ${evse.uid}`, () => ask(
+      `Take ${evse.uid} out of service? Nobody can charge there until you put it back.`,
+      ...service(false, "out of service"))));
   }
+  if (["INOPERATIVE", "OUTOFORDER"].includes(evse.status)) {
+    const words = "Put into service";
+    buttons.append(button(words, `${words}: ${evse.uid}`, () => post(...service(true, "in service"))));
+  }
+  buttons.append(button("Fault", `Fault: ${evse.uid}`, () => ask(
+    `End what stands at ${evse.uid} by its last reading? Do so only if its charge point will never tell of the end.`,
+    "faults", { evse_uid: evse.uid }, `What stood at ${evse.uid} has ended`)));
   return buttons;
 }
 
@@ -113,8 +184,23 @@ function showEvses() {
       evse.uid, evse.location, badge(evse.status), session ? badge(session.status) : "",
       session ? session.cdr_token.uid : "", { number: session ? energyOf(session.kwh) : "" },
       { number: session ? costOf(session.total_cost, session.currency) : "" },
-      serviceButtons(evse)] };
+      evseButtons(evse)] };
   }));
+}
+
+function showChargePoints() {
+  fill("charge_points", shown.charge_points.flatMap((point) => point.connectors.map((connector) => ({
+    key: `${point.id} ${connector.connector}`, says: [point, connector], cells: [
+      point.id, point.connected ? "connected" : "away", point.last_message ? momentOf(point.last_message) : "none",
+      String(connector.connector), connector.evse_uid, connector.status || "none",
+      [point.error, connector.error].filter((error) => error && error !== "NoError").join(", ") || "none",
+      connector.in_service ? "in service" : "out of service"] }))));
+}
+
+function showPartners() {
+  fill("partners", shown.partners.map((partner) => ({ key: partner.party, says: partner, cells: [
+    partner.party, partner.kind, badge(partner.state), { number: String(partner.waiting) },
+    partner.versions_url || ""] })));
 }
 
 function showWarnings() {
@@ -124,9 +210,11 @@ function showWarnings() {
 }
 
 function showSessions() {
-  fill("sessions", shown.sessions.map((session) => {
+  fill("sessions", (all || shown).sessions.map((session) => {
     const cells = [momentOf(session.start_date_time), session.evse_uid, partnerOf(session), session.cdr_token.uid,
-      badge(session.status), { number: energyOf(session.kwh) },
+      badge(session.status),
+      { number: durationOf(session.start_date_time, session.end_date_time || session.last_updated) },
+      { number: energyOf(session.kwh) }, { number: priceOf(session.total_cost, session.kwh, session.currency) },
       { number: costOf(session.total_cost, session.currency) }];
     const stop = () => post("orders", { operator: partyOf(session), order: "stop_session", session_id: session.id },
       `The session at ${session.evse_uid} was asked to stop`);
@@ -134,26 +222,27 @@ function showSessions() {
       const words = `Stop the session at ${session.evse_uid}`;
       cells.push(LIVING.includes(session.status) ? button("Stop", words, stop) : "");
     }
+    cells.push(copied(session.id));
     return { key: `${partyOf(session)} ${session.id}`, says: session, cells };
   }));
 }
 
 function showBills() {
-  const credited = new Set(shown.cdrs.filter((cdr) => cdr.credit).map((cdr) => cdr.credit_reference_id));
-  fill("cdrs", shown.cdrs.map((cdr) => {
+  const cdrs = (all || shown).cdrs;
+  const credited = new Set(cdrs.filter((cdr) => cdr.credit).map((cdr) => cdr.credit_reference_id));
+  fill("cdrs", cdrs.map((cdr) => {
     const isCredited = credited.has(cdr.id);
     const kind = cdr.credit ? "credit" : isCredited ? "bill, taken back" : "bill";
     const cost = costOf(cdr.total_cost, cdr.currency);
     const cells = [momentOf(cdr.end_date_time), cdr.cdr_location.evse_uid, partnerOf(cdr), cdr.cdr_token.uid, kind,
-      { number: energyOf(cdr.total_energy) }, { number: cost }];
-    const credit = () => {
-      if (window.confirm(`Take back the bill of ${cost}? This cannot be undone, and no second bill can be made.`)) {
-        post("credits", { session_id: cdr.session_id }, "The bill was taken back");
-      }
-    };
+      { number: durationOf(cdr.start_date_time, cdr.end_date_time) }, { number: energyOf(cdr.total_energy) },
+      { number: priceOf(cdr.total_cost, cdr.total_energy, cdr.currency) }, { number: cost }];
+    const credit = () => ask(`Take back the bill of ${cost}? This cannot be undone, and no second bill can be made.`,
+      "credits", { session_id: cdr.session_id }, "The bill was taken back");
     if (shown.is_operator) {
       cells.push(cdr.credit || isCredited ? "" : button("Take back", `Take back the bill of ${cost}`, credit));
     }
+    cells.push(copied(cdr.id), copied(cdr.session_id));
     return { key: `${partyOf(cdr)} ${cdr.id}`, says: [cdr, isCredited], cells };
   }));
 }
@@ -167,25 +256,81 @@ function showProvider() {
     cells: [token.uid, token.type, token.contract_id, token.issuer, token.whitelist, token.valid ? "yes" : "no"] })));
   fill("commands", shown.commands.map((command) => ({
     key: String(command.number), says: command,
-    cells: [String(command.number), wordsOf(command.kind), command.operator,
-      command.body.evse_uid || command.body.location_id || command.body.session_id || command.body.reservation_id || "",
-      wordsOf(command.response), wordsOf(command.result)] })));
+    cells: [command.at ? momentOf(command.at) : "", String(command.number), wordsOf(command.kind), command.operator,
+      aboutOf(command), wordsOf(command.response), wordsOf(command.result), cancelButton(command)] })));
   showChoices();
+  tellOutcome();
 }
 
-// Offers the operators, the places of the chosen one, the EVSEs of the chosen place, and the tokens.
+// The button that cancels a reservation which was made.
+function cancelButton(command) {
+  if (command.kind !== "reserve_now" || command.result !== "ACCEPTED") return "";
+  const id = command.body.reservation_id;
+  return button("Cancel", `Cancel the reservation ${id}`, () => post("orders",
+    { operator: command.operator, order: "cancel_reservation", reservation_id: id },
+    `The reservation ${id} was asked to be cancelled`));
+}
+
+// Offers the operators, the places of the chosen one, the EVSEs of the chosen place with their connectors, and the
+// tokens.
 function showChoices() {
-  const { operator, location, evse, token } = start.elements;
+  const { operator, location, evse, connector, token } = start.elements;
   offer(operator, shown.operators.map((node) => [node.party, node.party]));
   const site = shown.operators.find((node) => node.party === operator.value)?.site;
   offer(location, (site?.locations || []).map((place) => [place.id, `${place.address}, ${place.city}`]));
   const place = site?.locations.find((one) => one.id === location.value);
   offer(evse, (place?.evses || []).map((one) => [one.uid, `${one.uid} (${one.evse_id})`]));
+  const connectors = place?.evses.find((one) => one.uid === evse.value)?.connectors || [];
+  offer(connector, connectors.map((one) => [one.id, `${one.id} (${one.standard})`]));
   offer(token, shown.tokens.map((one) => [JSON.stringify([one.uid, one.type]), `${one.uid} (${one.type})`]));
 }
 
+// The totals of the chosen day, as this browser's time zone has it.
+async function showTotals() {
+  const [year, month, day] = look.day.value.split("-").map(Number);
+  if (!day) return;
+  const query = new URLSearchParams({ date_from: new Date(year, month - 1, day).toISOString(),
+    date_to: new Date(year, month - 1, day + 1).toISOString() });
+  const totals = await (await fetch(`totals?${query}`)).json();
+  fill("totals", totals.map((total) => ({ key: total.currency, says: total, cells: [
+    total.currency, { number: String(total.bills) }, { number: String(total.credits) },
+    { number: energyOf(total.kwh) }, { number: costOf(total, total.currency) }] })));
+}
+
+// While there is a filter, all sessions and bills are looked at, and not the newest alone.
+async function lookAtAll() {
+  const said = look.filter.value.toLowerCase();
+  if (!said) {
+    all = null;
+    return;
+  }
+  const fits = (one) => JSON.stringify([Object.values(one), partnerOf(one)]).toLowerCase().includes(said);
+  const [sessions, cdrs] = await Promise.all(["sessions", "cdrs"].map(async (path) => (await fetch(path)).json()));
+  all = { sessions: sessions.filter(fits).slice(0, MOST_FILTERED), cdrs: cdrs.filter(fits).slice(0, MOST_FILTERED) };
+}
+
+let lookingAt = 0;
+async function changeFilter() {
+  const number = ++lookingAt;
+  await lookAtAll();
+  if (number === lookingAt) showAll();
+}
+
 function show(told) {
+  const cdrs = JSON.stringify(shown.cdrs);
   shown = told;
+  showAll();
+  if (JSON.stringify(told.cdrs) !== cdrs) showTotals();
+  if (all) changeFilterSoon();
+}
+
+let timer = null;
+function changeFilterSoon() {
+  timer = timer || setTimeout(() => { timer = null; changeFilter(); }, LOOK_AGAIN);
+}
+
+function showAll() {
+  const told = shown;
   document.title = told.party;
   find("party").textContent = told.party;
   find("role").textContent = told.is_operator ? "operator" : "provider";
@@ -194,8 +339,10 @@ function show(told) {
   }
   showSessions();
   showBills();
+  showPartners();
   if (told.is_operator) {
     showEvses();
+    showChargePoints();
     showWarnings();
   } else showProvider();
 }
@@ -214,10 +361,34 @@ function connect() {
 start.addEventListener("change", showChoices);
 start.addEventListener("submit", (event) => {
   event.preventDefault();
-  const { operator, location, evse, token } = start.elements;
+  const { operator, location, evse, connector, token, minutes } = start.elements;
+  const order = event.submitter.value;
+  const place = { operator: operator.value, order, location_id: location.value, evse_uid: evse.value };
+  if (order === "unlock_connector") {
+    post("orders", { ...place, connector_id: connector.value }, `${evse.value} was asked to unlock its connector`);
+    return;
+  }
+  if (!token.value) {
+    tell("Add a token first", true);
+    return;
+  }
   const [uid, type] = JSON.parse(token.value);
-  post("orders", { operator: operator.value, order: "start_session", token_uid: uid, token_type: type,
-    location_id: location.value, evse_uid: evse.value }, `A session at ${evse.value} was asked for`);
+  const members = { ...place, token_uid: uid, token_type: type };
+  if (order === "start_session") post("orders", members, `A session at ${evse.value} was asked for`);
+  else {
+    const until = new Date(Date.now() + minutes.value * 60_000).toISOString();
+    post("orders", { ...members, expiry_date: until, reservation_id: crypto.randomUUID() },
+      `A reservation of ${evse.value} was asked for`);
+  }
+});
+
+find("look").addEventListener("submit", (event) => event.preventDefault());
+look.filter.addEventListener("input", changeFilter);
+look.day.addEventListener("change", showTotals);
+find("backup").addEventListener("submit", (event) => {
+  event.preventDefault();
+  const to = event.target.elements.to.value;
+  post("backup", { to }, `The store and the state were copied to ${to}`);
 });
 
 find("token").addEventListener("submit", (event) => {
@@ -230,4 +401,6 @@ find("token").addEventListener("submit", (event) => {
   `The token ${form.get("uid")} was saved`);
 });
 
+find("zone").textContent = Intl.DateTimeFormat().resolvedOptions().timeZone;
+look.day.value = new Date().toLocaleDateString("sv-SE");
 connect();

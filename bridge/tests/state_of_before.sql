@@ -1,0 +1,82 @@
+-- What a bridge keeps. Each group of tables has a class that alone reads and changes it.
+
+CREATE TABLE IF NOT EXISTS value_of (name TEXT PRIMARY KEY, value TEXT NOT NULL);
+
+-- ocpi/requests.py (request_number is read alone: an earlier bridge wrote it)
+CREATE TABLE IF NOT EXISTS request_number (
+    partner TEXT, correlation TEXT, number INTEGER NOT NULL, PRIMARY KEY (partner, correlation)) WITHOUT ROWID;
+CREATE TABLE IF NOT EXISTS request_digest (
+    partner TEXT, correlation TEXT, digest BLOB, number INTEGER NOT NULL,
+    PRIMARY KEY (partner, correlation, digest)) WITHOUT ROWID;
+CREATE TABLE IF NOT EXISTS response_url (
+    partner TEXT, number INTEGER, url TEXT NOT NULL, PRIMARY KEY (partner, number)) WITHOUT ROWID;
+
+-- ocpi/objects.py: Objects
+CREATE TABLE IF NOT EXISTS object_of (
+    module TEXT, party TEXT, identifier TEXT, token_type TEXT, partner TEXT NOT NULL, last_updated INTEGER NOT NULL,
+    status TEXT NOT NULL, evse_uid TEXT NOT NULL, body TEXT NOT NULL,
+    PRIMARY KEY (module, party, identifier, token_type)) WITHOUT ROWID;
+CREATE INDEX IF NOT EXISTS object_of_partner ON object_of (module, partner, last_updated, identifier);
+CREATE INDEX IF NOT EXISTS object_by_time ON object_of (module, last_updated, identifier);
+CREATE INDEX IF NOT EXISTS living_session ON object_of (evse_uid)
+    WHERE module = 'sessions' AND status IN ('PENDING', 'ACTIVE');
+CREATE TABLE IF NOT EXISTS refused_object (
+    module TEXT, party TEXT, identifier TEXT, token_type TEXT, last_updated INTEGER NOT NULL,
+    PRIMARY KEY (module, party, identifier, token_type)) WITHOUT ROWID;
+CREATE TABLE IF NOT EXISTS accepted_request (partner TEXT, number INTEGER, PRIMARY KEY (partner, number)) WITHOUT ROWID;
+
+-- ocpi/objects.py: Claims
+CREATE TABLE IF NOT EXISTS claim (
+    evse_uid TEXT PRIMARY KEY, status TEXT NOT NULL, partner TEXT NOT NULL, name TEXT NOT NULL, until INTEGER NOT NULL);
+
+-- ocpi/orders.py
+CREATE TABLE IF NOT EXISTS order_given (
+    request INTEGER PRIMARY KEY, operator TEXT NOT NULL, reference TEXT COLLATE NOCASE, at INTEGER NOT NULL,
+    state TEXT NOT NULL, result_until INTEGER);
+CREATE INDEX IF NOT EXISTS order_result ON order_given (result_until) WHERE result_until IS NOT NULL;
+CREATE INDEX IF NOT EXISTS order_late ON order_given (operator, reference) WHERE state = 'late';
+CREATE TABLE IF NOT EXISTS session_to_stop (
+    operator TEXT, session_id TEXT COLLATE NOCASE, ordered_at INTEGER NOT NULL,
+    PRIMARY KEY (operator, session_id)) WITHOUT ROWID;
+
+-- ocpp/late.py
+CREATE TABLE IF NOT EXISTS late_command (
+    provider TEXT COLLATE NOCASE, number INTEGER, PRIMARY KEY (provider, number)) WITHOUT ROWID;
+
+-- ocpi/pulling.py
+CREATE TABLE IF NOT EXISTS list_under_way (
+    party TEXT, module TEXT, page TEXT NOT NULL, pages INTEGER NOT NULL, latest INTEGER NOT NULL,
+    PRIMARY KEY (party, module)) WITHOUT ROWID;
+
+-- ocpi/locations.py
+CREATE TABLE IF NOT EXISTS place (name TEXT PRIMARY KEY, text TEXT NOT NULL, since TEXT NOT NULL);
+
+-- ocpp/commands.py
+CREATE TABLE IF NOT EXISTS ocpp_command (
+    provider TEXT COLLATE NOCASE, number INTEGER, kind TEXT, evse_uid TEXT COLLATE NOCASE,
+    connector_id TEXT COLLATE NOCASE, token_uid TEXT COLLATE NOCASE, reference TEXT COLLATE NOCASE,
+    session_id TEXT COLLATE NOCASE, response_url TEXT, state TEXT DEFAULT 'open', ended_by INTEGER UNIQUE,
+    until REAL, PRIMARY KEY (provider, number));
+CREATE INDEX IF NOT EXISTS ocpp_command_open ON ocpp_command (number) WHERE ended_by IS NULL;
+CREATE INDEX IF NOT EXISTS ocpp_command_evse ON ocpp_command (evse_uid, state);
+CREATE INDEX IF NOT EXISTS ocpp_command_reference ON ocpp_command (provider, reference);
+
+-- ocpp/transactions.py
+CREATE TABLE IF NOT EXISTS ocpp_transaction (
+    number INTEGER PRIMARY KEY AUTOINCREMENT, charge_point TEXT NOT NULL, connector INTEGER NOT NULL,
+    started INTEGER NOT NULL, id_tag TEXT NOT NULL, meter_start INTEGER NOT NULL, session_id TEXT UNIQUE,
+    state TEXT NOT NULL, UNIQUE (charge_point, connector, started, id_tag, meter_start));
+CREATE INDEX IF NOT EXISTS ocpp_transaction_running ON ocpp_transaction (charge_point)
+    WHERE state IN ('new', 'charging', 'refused');
+
+-- ocpp/readings.py
+CREATE TABLE IF NOT EXISTS ocpp_reading (number INTEGER PRIMARY KEY, at INTEGER NOT NULL, register TEXT NOT NULL);
+CREATE TABLE IF NOT EXISTS ocpp_dropped_reading (at TEXT NOT NULL, evse_uid TEXT NOT NULL, text TEXT NOT NULL);
+
+-- admin/outstanding.py
+CREATE TABLE IF NOT EXISTS push_that_waits (
+    receiver TEXT, subject TEXT, request INTEGER, PRIMARY KEY (receiver, subject));
+CREATE TABLE IF NOT EXISTS command_given (
+    request INTEGER PRIMARY KEY, operator TEXT, kind TEXT, body TEXT, response TEXT, result TEXT);
+CREATE TABLE IF NOT EXISTS owed_for (
+    operator TEXT, record TEXT, currency TEXT, amount INTEGER, PRIMARY KEY (operator, record));
