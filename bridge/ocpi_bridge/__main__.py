@@ -5,11 +5,12 @@ import resource
 import sqlite3
 import sys
 from dataclasses import replace
+from functools import partial
 from getpass import getpass
 from pathlib import Path
 
 from .application import run
-from .configuration import WrongConfiguration, read_configuration
+from .configuration import Configuration, WrongConfiguration, read_configuration
 from .logs import set_up_logs
 from .ocpi.credentials import register
 from .state import WrongState
@@ -30,14 +31,13 @@ def main() -> int:
     resource.setrlimit(resource.RLIMIT_NOFILE, (most_files, most_files))
     set_up_logs(words.json_logs)
     try:
-        configuration = read_configuration(words.configuration)
+        configuration = _read(words)
     except WrongConfiguration as wrong:
         print(wrong, file=sys.stderr)
         return 2
     try:
         if words.register is None:
-            node = replace(configuration.node, takes_new_state=words.new_state)
-            return asyncio.run(run(replace(configuration, node=node, is_restored=words.restored)))
+            return asyncio.run(run(configuration, partial(_read, words)))
         party, url = words.register
         token = getpass("token: ") if sys.stdin.isatty() else sys.stdin.readline().strip()
         return asyncio.run(register(configuration, party, url, token))
@@ -47,6 +47,13 @@ def main() -> int:
     except sqlite3.Error as fault:
         print(f"{configuration.state}: {fault}", file=sys.stderr)
         return 1
+
+
+def _read(words: argparse.Namespace) -> Configuration:
+    """The configuration, with what the command line says of it. Raises WrongConfiguration."""
+    configuration = read_configuration(words.configuration)
+    node = replace(configuration.node, takes_new_state=words.new_state)
+    return replace(configuration, node=node, is_restored=words.restored)
 
 
 sys.exit(main())

@@ -2,14 +2,16 @@
 import asyncio
 import logging
 import signal
+from collections.abc import Callable
 from typing import Any
 
 from .admin.metrics import Metrics
 from .admin.server import Admin
 from .clock import Clock
-from .configuration import Configuration, OcppSettings
+from .configuration import Configuration, OcppSettings, WrongConfiguration, refuse_other
 from .events import Events, Outcome
 from .listening import Listener
+from .node.feeder import NodeEnded
 from .node.revocable import RevocableFeeder
 from .ocpi.client import Client
 from .ocpi.credentials import Credentials
@@ -31,13 +33,17 @@ LOG = logging.getLogger("bridge")
 
 
 class Bridge:
-    """One node among its partners and charge points. To be made while the event loop runs."""
+    """One node among its partners and charge points. To be made while the event loop runs.
 
-    def __init__(self, configuration: Configuration) -> None:
+    Of a configuration that is read again the parts `take` what they know of it, while the node is ended.
+    """
+
+    def __init__(self, configuration: Configuration, read_again: Callable[[], Configuration] | None = None) -> None:
+        self._configuration, self._reloading = configuration, asyncio.Lock()
+        self._read_again = read_again or (lambda: configuration)
         self._state = state = _state_of(configuration)
-        clock = _clock_of(configuration, state)
+        clock, metrics = _clock_of(configuration, state), Metrics()
         events = Events(configuration.node.party, clock)
-        metrics = Metrics()
         self._feeder = feeder = RevocableFeeder(configuration.node, events, state, metrics)
         objects = Objects(state)
         warnings = Warnings(state, objects, clock.seconds())
@@ -54,18 +60,19 @@ class Bridge:
         feeder.after_opening.append(self._pulling.wake)
         feeder.after_commit.append(self._send)
         ocpp = configuration.ocpp
-        central_system = CentralSystem(ocpp or OcppSettings("", {}), events, state, feeder, objects,
-                                       metrics.count)
+        central_system = CentralSystem(ocpp or OcppSettings("", {}), events, state, feeder, objects, metrics.count)
         locations = None if configuration.site is None else Locations(
             state, clock, objects, configuration.node.party, configuration.site,
             central_system.evse_status if ocpp is not None else lambda _: None)
         late = LateCommands(state, events, feeder.feed)
         interfaces = Interfaces(configuration.ocpi.url, events, objects, requests, locations, feeder.feed,
                                 self._client.takes_orders, feeder.revoke, *([late.expect] if ocpp else ()))
-        server = Server(events, partners, Credentials(configuration, partners, exchange), interfaces, metrics,
-                        state)
+        server = Server(events, partners, Credentials(configuration, partners, exchange), interfaces, metrics, state)
         admin = Admin(configuration, state, events, feeder, objects, partners, metrics, locations, central_system,
-                      self._client.takes_orders)
+                      self._client.takes_orders, self.reload)
+        self._takers: list[Callable[[Configuration], None]] = [
+            partners.take, orders.take, self._client.take, self._pulling.take, admin.take,
+            *([locations.take, central_system.take] if locations is not None else [])]
         self._listeners = [Listener("ocpi", configuration.ocpi.listen, server.application()),
                            Listener("admin", configuration.admin, admin.application())]
         if ocpp is not None:
@@ -78,6 +85,32 @@ class Bridge:
         self._feeder.after_opening.append(central_system.opened)
         self._listeners.append(Listener("ocpp", listen, central_system.application()))
 
+    async def reload(self) -> None:
+        """Reads the configuration again, and has the parts take it. Raises WrongConfiguration and NodeEnded, and then
+        nothing has changed."""
+        async with self._reloading:
+            configuration = self._read_again()
+            refuse_other(self._configuration, configuration)
+
+            def take() -> None:
+                self._configuration = configuration
+                for taker in self._takers:
+                    taker(configuration)
+            await self._feeder.reload(configuration.node, take)
+            LOG.info("the configuration was read again")
+
+    async def _reload_each_time(self, asked: asyncio.Event) -> None:
+        """Reads it again whenever that is asked for by a signal, and logs what is wrong."""
+        while True:
+            await asked.wait()
+            asked.clear()
+            try:
+                await self.reload()
+            except WrongConfiguration as wrong:
+                LOG.error("the configuration is as before: %s", wrong)
+            except NodeEnded:
+                return
+
     def _send(self, outcome: Outcome) -> None:
         for packet in outcome.packets:
             if not packet.is_answer:
@@ -85,11 +118,11 @@ class Bridge:
 
     async def run(self) -> int:
         """Runs until it is told to stop, or its node ends for good. Gives the node's status, or 1 where it is worse."""
-        opened, stopping = asyncio.Event(), asyncio.Event()
+        opened, stopping, asked = asyncio.Event(), asyncio.Event(), asyncio.Event()
         self._feeder.after_opening.append(opened.set)
-        for number in (signal.SIGTERM, signal.SIGINT):
-            asyncio.get_running_loop().add_signal_handler(number, stopping.set)
-        node, serving = asyncio.create_task(self._feeder.run()), asyncio.create_task(self._serve(opened))
+        for number, event in ((signal.SIGTERM, stopping), (signal.SIGINT, stopping), (signal.SIGHUP, asked)):
+            asyncio.get_running_loop().add_signal_handler(number, event.set)
+        node, serving = asyncio.create_task(self._feeder.run()), asyncio.create_task(self._serve(opened, asked))
         tasks: list[asyncio.Task[Any]] = [node, serving, asyncio.create_task(stopping.wait()),
                                           asyncio.create_task(self._state.room.run())]
         await asyncio.wait(tasks, return_when=asyncio.FIRST_COMPLETED)
@@ -109,7 +142,7 @@ class Bridge:
             LOG.error("%s", fault, exc_info=None if isinstance(fault, OSError) else fault)
         return max(await node, 0 if fault is None else 1)
 
-    async def _serve(self, opened: asyncio.Event) -> None:
+    async def _serve(self, opened: asyncio.Event, asked: asyncio.Event) -> None:
         """Listens once the node is open, and then sends and pulls. Raises OSError."""
         await opened.wait()
         for listener in self._listeners:
@@ -119,6 +152,7 @@ class Bridge:
             group.create_task(self._pulling.run())
             group.create_task(self._orders.run())
             group.create_task(self._requests.run())
+            group.create_task(self._reload_each_time(asked))
 
 
 def _state_of(configuration: Configuration) -> State:
@@ -137,6 +171,6 @@ def _clock_of(configuration: Configuration, state: State) -> Clock:
     return clock
 
 
-async def run(configuration: Configuration) -> int:
+async def run(configuration: Configuration, read_again: Callable[[], Configuration]) -> int:
     """Runs a bridge. Gives the status with which to end. Raises WrongState."""
-    return await Bridge(configuration).run()
+    return await Bridge(configuration, read_again).run()

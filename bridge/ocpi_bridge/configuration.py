@@ -8,7 +8,7 @@ import json
 import os
 import re
 from collections.abc import Iterable
-from dataclasses import dataclass
+from dataclasses import dataclass, replace
 from decimal import Decimal
 from pathlib import Path
 from typing import Any, NoReturn
@@ -135,6 +135,18 @@ def read_configuration(path: Path) -> Configuration:
         ocpp=_ocpp(file["ocpp"], site) if file["ocpp"] and site else None, admin=file["admin"]["listen"],
         partners=_partners(file["partners"], [name for name in sites if (sites[name] is None) == (site is not None)]),
         clock_factor=file["clock_factor"] or 1.0, site=site, setup=setup)
+
+
+def refuse_other(old: Configuration, new: Configuration) -> None:
+    """Raises WrongConfiguration where more has changed than what a bridge that runs can take: the setup, the partners
+    and the charge points."""
+    listen = [None if each.ocpp is None else each.ocpp.listen for each in (old, new)]
+    for path, before, now in (
+            ("node", replace(old.node, setup_line=""), replace(new.node, setup_line="")),
+            *((name, getattr(old, name), getattr(new, name)) for name in ("state", "ocpi", "admin", "clock_factor")),
+            ("ocpp.listen", *listen), ("node.party", old.is_operator, new.is_operator)):
+        if before != now:
+            refuse(path, "changed: restart the bridge for that")
 
 
 def refuse(path: str, fault: str) -> NoReturn:

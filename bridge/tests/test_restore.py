@@ -19,7 +19,12 @@ async def status_of_start(bridge: RunningBridge) -> int:
 
 async def put_back(backup: Path, bridge: RunningBridge) -> None:
     """Kills a bridge, and puts the files of a backup in the places of those that stand there."""
-    node = Path(f"/proc/{bridge.node_pid()}")
+    async def running() -> Path | None:
+        try:
+            return Path(f"/proc/{bridge.node_pid()}")
+        except (AssertionError, OSError):
+            return None
+    node = await eventually(running, "the node runs")
     bridge.kill()
 
     async def has_ended() -> bool:

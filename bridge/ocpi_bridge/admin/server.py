@@ -16,7 +16,7 @@ from typing import NoReturn
 from aiohttp import web
 
 from ..backup import copy_together
-from ..configuration import Configuration
+from ..configuration import Configuration, WrongConfiguration
 from ..events import Events
 from ..json_text import Members, NotJson, NumberTooLarge, read_json, write_json
 from ..node.feeder import Feeder, NodeEnded, OutcomeLost
@@ -58,8 +58,11 @@ class Admin:
 
     def __init__(self, configuration: Configuration, state: State, events: Events, feeder: Feeder, objects: Objects,
                  partners: Partners, metrics: Metrics, locations: Locations | None,
-                 central_system: CentralSystem, takes_orders: Callable[[str], bool]) -> None:
-        """`locations` are an operator's. `takes_orders` says whether a command more may wait for a partner."""
+                 central_system: CentralSystem, takes_orders: Callable[[str], bool],
+                 reload: Callable[[], Awaitable[None]]) -> None:
+        """`locations` are an operator's. `takes_orders` says whether a command more may wait for a partner. `reload`
+        has the configuration read again."""
+        self._reload = reload
         self._configuration, self._events, self._feeder, self._metrics = configuration, events, feeder, metrics
         self._objects, self._locations, self._central_system = objects, locations, central_system
         self._takes_orders, self._state, self._room = takes_orders, state, state.room
@@ -79,11 +82,16 @@ class Admin:
             "/partners": lambda: [{"party": partner.party, "kind": partner.kind, "registered": partner.is_registered,
                                    "versions_url": partner.versions_url} for partner in partners.all()]}
 
+    def take(self, configuration: Configuration) -> None:
+        """Takes a configuration in place of that of before."""
+        self._configuration = configuration
+
     def application(self) -> web.Application:
         application = web.Application(middlewares=[_guard], client_max_size=1 << 20)
         application.add_routes([
             *(web.post(path, self._feed) for path in EVENTS), *(web.get(path, self._list) for path in self._lists),
-            web.post("/backup", self._backup), web.get("/metrics", self._metrics_text),
+            web.post("/backup", self._backup), web.post("/reload", self._read_again),
+            web.get("/metrics", self._metrics_text),
             web.get("/health", self._health), web.get("/events", self._stream),
             web.get("/", _page), web.get(r"/{file:page\.(js|css)}", _page)])
         return application
@@ -130,6 +138,16 @@ class Admin:
         except (OSError, sqlite3.Error) as fault:
             raise web.HTTPConflict(text=f"to: no copy was made: {getattr(fault, 'strerror', fault)}") from None
         return _answer({"bytes": size, "seconds": round(time.monotonic() - began, 3)})
+
+    async def _read_again(self, request: web.Request) -> web.Response:
+        """Has the configuration read again. What is wrong there is told, and the old one goes on."""
+        await self._body(request)
+        began = time.monotonic()
+        try:
+            await self._reload()
+        except WrongConfiguration as wrong:
+            raise web.HTTPConflict(text=str(wrong)) from None
+        return _answer({"seconds": round(time.monotonic() - began, 3)})
 
     async def _metrics_text(self, _: web.Request) -> web.Response:
         return web.Response(text=self._metrics.text(), headers={"Content-Type": "text/plain; version=0.0.4"})

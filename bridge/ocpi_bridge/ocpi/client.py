@@ -17,6 +17,7 @@ from ..node.feeder import NodeEnded, repeated
 from ..parties import party_key
 from ..room import NoRoom
 from ..state import State
+from ..workers import Workers
 from .envelope import INVALID, SUCCESS, routing_headers
 from .exchange import Exchange, NoAddress, NoResponse, NotSent, Response
 from .lanes import AT_ONCE, Lanes
@@ -44,8 +45,16 @@ class Client:
         self._orders = orders
         self._url, self._state, self._sent, self._feed = configuration.ocpi.url, state, SentOnce(state), feed
         self.partners, self.exchange, self.requests, self.events = partners, exchange, requests, events
-        self._lanes = {party_key(partner.party): Lanes(events.clock) for partner in configuration.partners}
+        self._lanes: dict[str, Lanes] = {}
+        self._workers = Workers(self._work)
+        self.take(configuration)
         self._looking_up: dict[str, asyncio.Future[Endpoints]] = {}
+
+    def take(self, configuration: Configuration) -> None:
+        """Takes the partners of a configuration in place of those of before."""
+        parties = [party_key(partner.party) for partner in configuration.partners]
+        self._lanes = {party: self._lanes.get(party) or Lanes(self.events.clock) for party in parties}
+        self._workers.take((party, number) for party in parties for number in range(AT_ONCE))
 
     def send(self, packet: Packet) -> None:
         """Takes a request of the node, to be sent to its receiver. Where too many wait it is lost."""
@@ -58,9 +67,8 @@ class Client:
         return lanes is None or not lanes.is_full
 
     async def run(self) -> None:
-        """Sends what waits, until it is cancelled or the bridge ends."""
-        await asyncio.gather(*(self._work(lanes, number == 0) for lanes in self._lanes.values()
-                               for number in range(AT_ONCE)))
+        """Sends what waits, until it is cancelled."""
+        await self._workers.run()
 
     async def endpoint(self, partner: Partner, module: str, role: str) -> str:
         """Where a module of a partner stands. Its versions are asked where nothing is known yet, once for all that
@@ -99,10 +107,12 @@ class Client:
             log.warning("%s of %s: nested too deep", packet.kind, packet.sender)
             return None
 
-    async def _work(self, lanes: Lanes, urgent_alone: bool) -> None:
-        """Sends one request after the other: any, or those alone that are awaited by somebody."""
+    async def _work(self, key: tuple[str, int]) -> None:
+        """Sends a party one request after the other: the first worker those alone that are awaited by somebody."""
+        party, number = key
+        lanes = self._lanes[party]
         while True:
-            packet, failures = await lanes.take(urgent_alone)
+            packet, failures = await lanes.take(number == 0)
             was_answered = False
             try:
                 was_answered = await self._send(packet)

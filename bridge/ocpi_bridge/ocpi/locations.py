@@ -3,6 +3,7 @@ from collections.abc import Callable
 from contextlib import suppress
 
 from ..clock import Clock, milliseconds_of
+from ..configuration import Configuration
 from ..json_text import Members, write_json
 from ..parties import codes
 from ..room import NoRoom
@@ -17,7 +18,15 @@ class Locations:
                  evse_status: Callable[[str], str | None]) -> None:
         """`evse_status` tells OUTOFORDER or INOPERATIVE of the uid of an EVSE, or None where it may be used."""
         self._state, self._clock, self._objects = state, clock, objects
-        self._party, self._site, self._evse_status = party, site, evse_status
+        self._party, self._evse_status = party, evse_status
+        self._take(site)
+
+    def take(self, configuration: Configuration) -> None:
+        """Takes the site of a configuration in place of that of before."""
+        self._take(configuration.site or {"locations": []})
+
+    def _take(self, site: Members) -> None:
+        self._site = site
         self._setups = {location["id"].upper(): location for location in site["locations"]}
         self._evse_setups = {(name, evse["uid"].upper()): evse for name, location in self._setups.items()
                              for evse in location["evses"]}

@@ -35,10 +35,14 @@ class Orders:
     def __init__(self, configuration: Configuration, state: State, events: Events, objects: Objects,
                  requests: Requests, feed: Callable[[Members], Awaitable[Outcome]]) -> None:
         self._state, self._events, self._objects, self._requests, self._feed = state, events, objects, requests, feed
-        self._others = {party_key(partner.party) for partner in configuration.partners
-                        if partner.kind == "ocpi" and not configuration.is_operator}
+        self.take(configuration)
         # When the orders were given that a stop left in the line that was under way.
         self._left: list[int] = []
+
+    def take(self, configuration: Configuration) -> None:
+        """Takes the partners of a configuration in place of those of before."""
+        self._others = {party_key(partner.party) for partner in configuration.partners
+                        if partner.kind == "ocpi" and not configuration.is_operator}
 
     def note_left(self, events: list[Members]) -> None:
         """Takes in the events of the line that a stop left, before the node is opened anew."""
@@ -114,7 +118,7 @@ class Orders:
 
     async def run(self) -> None:
         """Does what is due, until it is cancelled or the bridge ends."""
-        while self._others:
+        while True:
             await self._events.clock.sleep(LOOK_EVERY)
             try:
                 await self._do_what_is_due()

@@ -42,7 +42,6 @@ class Partners:
     """All partners of the configuration, with what the state has of them."""
 
     def __init__(self, configuration: Configuration, state: State) -> None:
-        self._settings = {party_key(settings.party): settings for settings in configuration.partners}
         self._state = state
         # Which version of the state was read: what it says of each partner, and whom each token shows.
         self._version: int | None = None
@@ -51,6 +50,12 @@ class Partners:
         self._former: set[str] = set()
         # Tokens are looked up by a digest that nobody else can make: so how long that takes tells nothing of them.
         self._secret = secrets.token_bytes(32)
+        self.take(configuration)
+
+    def take(self, configuration: Configuration) -> None:
+        """Takes the partners of a configuration in place of those of before."""
+        self._settings = {party_key(settings.party): settings for settings in configuration.partners}
+        self._version = None
 
     def sharing(self, token: str, is_base64: bool = True) -> list[Partner]:
         """The partners that present a token, in Base64 or as it is. Takes as long whichever it is.

@@ -11,10 +11,12 @@ from urllib.parse import urlencode
 from yarl import URL
 
 from ..clock import milliseconds_of, moment_of
+from ..configuration import Configuration
 from ..events import Outcome, Packet
 from ..node.feeder import NodeEnded
 from ..parties import party_key, party_of, same_party
 from ..state import State
+from ..workers import Workers
 from .client import Client
 from .envelope import SERVER_ERROR, SUCCESS, refusal_of, routing_headers
 from .exchange import NoResponse, Response
@@ -39,9 +41,17 @@ class Pulling:
     def __init__(self, client: Client, objects: Objects, state: State, is_operator: bool) -> None:
         self._client, self._objects, self._state = client, objects, state
         self._clock = client.events.clock
-        kinds = ("put_token",) if is_operator else ("put_session", "post_cdr")
-        self._woken = {(partner.party, kind): asyncio.Event() for partner in client.partners.all()
-                       for kind in kinds if partner.kind == "ocpi"}
+        self._kinds = ("put_token",) if is_operator else ("put_session", "post_cdr")
+        self._woken: dict[tuple[str, str], asyncio.Event] = {}
+        self._workers = Workers(self._pull_again_and_again)
+        self.take()
+
+    def take(self, _: Configuration | None = None) -> None:
+        """Takes the partners that the client has by now in place of those of before."""
+        self._woken = {key: self._woken.get(key) or asyncio.Event() for key in (
+            (partner.party, kind) for partner in self._client.partners.all() if partner.kind == "ocpi"
+            for kind in self._kinds)}
+        self._workers.take(self._woken)
 
     def wake(self) -> None:
         """Has the lists pulled now, as after an opening of the node."""
@@ -49,11 +59,11 @@ class Pulling:
             woken.set()
 
     async def run(self) -> None:
-        """Pulls until it is cancelled or the bridge ends."""
-        await asyncio.gather(*(self._pull_again_and_again(*key) for key in self._woken))
+        """Pulls until it is cancelled."""
+        await self._workers.run()
 
-    async def _pull_again_and_again(self, party: str, kind: str) -> None:
-        woken = self._woken[party, kind]
+    async def _pull_again_and_again(self, key: tuple[str, str]) -> None:
+        (party, kind), woken = key, self._woken[key]
         while True:
             woken.clear()
             partner, is_whole = self._client.partners.of(party), True

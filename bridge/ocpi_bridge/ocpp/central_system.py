@@ -11,7 +11,7 @@ from typing import Any
 from aiohttp import web
 
 from ..clock import seconds_of
-from ..configuration import ChargePointSettings, OcppSettings
+from ..configuration import ChargePointSettings, Configuration, OcppSettings
 from ..events import Events, Outcome
 from ..json_text import Members
 from ..node.feeder import Feeder, NodeEnded
@@ -50,6 +50,17 @@ class CentralSystem:
         self._watch = Watch(self._site, self._readings, self._orders.stop, self._spawn)
         self._reports = Reports(self._site, self._readings, self._watch, self._orders.stop)
         self._tasks: dict[object, asyncio.Task[None]] = {}
+
+    def take(self, configuration: Configuration) -> None:
+        """Takes the charge points of a configuration in place of those of before. All connections go on, but those of
+        charge points that are no more."""
+        for charge_point in self._site.take(configuration.ocpp or OcppSettings("", {})):
+            if charge_point.connection is not None:
+                self._spawn(charge_point.connection.close)
+        self._watch.forget_others()
+        for charge_point in self._site.by_id.values():
+            if charge_point.connection is not None:
+                self._spawn(self._look_after, charge_point, charge_point.connection)
 
     def application(self) -> web.Application:
         """The web application at `/ocpp/{id}`. Its shutdown closes all connections."""

@@ -36,6 +36,11 @@ class Watch:
         for place in charge_point.places.values():
             self._available.pop(place, None)
 
+    def forget_others(self) -> None:
+        """Forgets what it knew of connectors that are no more."""
+        for place in [place for place in self._available if self._site.place(place.settings.evse_uid) != place]:
+            del self._available[place]
+
     def note_status(self, place: Place, status: str) -> None:
         """Called with each status that a connector reports."""
         self._heard[place.settings.evse_uid] = self._site.clock.seconds()
