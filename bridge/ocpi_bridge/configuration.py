@@ -86,9 +86,9 @@ class PartnerSettings:
 
     party: str
     kind: str
-    token: str
-    their_token: str | None
-    versions_url: str | None
+    token: str | None = None
+    their_token: str | None = None
+    versions_url: str | None = None
     token_base64: bool = True
     own_references: bool = False
 
@@ -233,7 +233,7 @@ def _partners(entries: list[Members], missing: list[str]) -> tuple[PartnerSettin
         for name in ("token_base64", "own_references"):
             if name in entry and entry["kind"] != "ocpi":
                 refuse(f"{path}.{name}", "only of a partner of kind ocpi")
-        members: Members = {"their_token": None, "versions_url": None, **entry, "party": party}
+        members: Members = {**entry, "party": party}
         partner = PartnerSettings(**members)
         if any(partner.token == other.token and ((partner.kind, other.kind) != ("ocpi", "ocpi")
                                                  or partner.token_base64 != other.token_base64) for other in found):

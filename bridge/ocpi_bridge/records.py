@@ -6,16 +6,13 @@ from .json_text import Number
 
 
 class Token(TypedDict, total=False):
-    """A token, or a `cdr_token`, which has the first five."""
+    """A token, or a `cdr_token`, which has the first four."""
 
     country_code: str
     party_id: str
     uid: str
     type: str
-    contract_id: str
-    issuer: str
     valid: bool
-    whitelist: str
     last_updated: str
 
 
@@ -74,14 +71,10 @@ class Body(Session, Answer, Command, total=False):
 
     uid: str
     type: str
-    contract_id: str
-    issuer: str
     valid: bool
-    whitelist: str
     session_id: str
     total_energy: int | Number
     credit: bool
-    credit_reference_id: str
 
 
 PacketLine = TypedDict("PacketLine", {

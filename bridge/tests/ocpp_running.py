@@ -15,7 +15,8 @@ from ocpi_bridge.configuration import ChargePointSettings, ConnectorSettings, No
 from ocpi_bridge.events import Events, Outcome, Packet
 from ocpi_bridge.json_text import Members
 from ocpi_bridge.metrics import Metrics
-from ocpi_bridge.node.feeder import Feeder, NodeEnded, OutcomeLost
+from ocpi_bridge.node.feeder import NodeEnded, OutcomeLost
+from ocpi_bridge.node.revocable import RevocableFeeder
 from ocpi_bridge.ocpi.objects import Objects
 from ocpi_bridge.ocpp.central_system import CentralSystem
 from ocpi_bridge.records import Body
@@ -54,7 +55,7 @@ class Operating:
         self.state = State(self.folder / "state.db")
         self.events = Events("BE/BEC", self.clock)
         self.metrics = Metrics()
-        self.feeder = Feeder(self.settings, self.events, self.state, self.metrics)
+        self.feeder = RevocableFeeder(self.settings, self.events, self.state, self.metrics)
         self.objects = Objects(self.state)
         connectors = [ConnectorSettings(uid, "1", self.max_kw) for uid in ("E1", "E2", "E3")]
         charge_points = {"CP1": ChargePointSettings("CP1", "secret", {1: connectors[0], 2: connectors[1]}),

@@ -48,7 +48,8 @@ class Tokens(unittest.TestCase):
         partners = self.partners()
         self.assertEqual([False, None, None], self.shown(partners, "first", "", "firs\udc80"))
         partners.register("be/bec", "second", "theirs", VERSIONS_URL, ENDPOINTS)
-        wanted = Partner("BE/BEC", "ocpi", "second", "theirs", VERSIONS_URL, ENDPOINTS, True)
+        wanted = Partner("BE/BEC", "ocpi", "second", "theirs", VERSIONS_URL, endpoints=ENDPOINTS,
+                         is_registered=True)
         for each in (partners, self.partners()):
             self.assertEqual([None, True], self.shown(each, "first", "second"))
             self.assertEqual([wanted], each.all())

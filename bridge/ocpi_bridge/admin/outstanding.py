@@ -7,11 +7,11 @@ from ..clock import moment_of
 from ..events import Outcome, Packet
 from ..json_text import Members, read_json, write_json
 from ..ocpi.objects import Objects, ten_thousandths
+from ..ocpi.packets import COMMANDS
 from ..parties import party_key
 from ..records import Body
 from ..state import State
 
-COMMANDS = ("start_session", "stop_session", "reserve_now", "cancel_reservation", "unlock_connector")
 # Each push, and the members that say what it is about. A newer one about the same, to the same party, takes its place.
 PUSHES = {"command_result": ["response_url"], "put_session": ["id"], "post_cdr": ["id"], "put_token": ["type", "uid"]}
 

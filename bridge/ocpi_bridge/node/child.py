@@ -26,7 +26,12 @@ class ChildEnded(Exception):
 
 
 class Child:
-    """A running program. It is in a session of its own, so that a signal from the terminal reaches the bridge alone."""
+    """A running program. It is in a session of its own, so that a signal from the terminal reaches the bridge alone.
+
+    `state` is to be set before it is opened: that has to be on the disk before a line is fed.
+    """
+
+    state: State
 
     def __init__(self, process: Process, settings: NodeSettings, is_known: bool) -> None:
         assert process.stdin and process.stdout and process.stderr
@@ -34,8 +39,6 @@ class Child:
         self._settings, self._is_known = settings, is_known
         self._transcript: Transcript | None = None
         self._refusal, self.found_lock, self.found_no_room = 0, False, False
-        # The state that has to be on the disk before a line is fed, where there is one.
-        self.state: State | None = None
         # Whether the store has to be the very one that was copied with the state.
         self.is_backup = False
         # Whether the output ended within a line, or the transcript has not all of it.
@@ -83,25 +86,21 @@ class Child:
     async def _record(self, write: Callable[[], None]) -> None:
         """Writes to the transcript, by the thread that waits for the disk. Raises NoRoom."""
         with self._noting_room():
-            if self.state is None:
-                write()
-            else:
-                await self.state.in_writer(write)
+            await self.state.in_writer(write)
 
     @contextmanager
     def _noting_room(self) -> Iterator[None]:
         try:
             yield
         except OSError as fault:
-            if fault.errno in FULL and self.state is not None and self._settings.transcript is not None:
+            if fault.errno in FULL and self._settings.transcript is not None:
                 raise self.state.room.lacks("transcript", self._settings.transcript) from None
             raise
 
     async def write(self, line: str) -> None:
         """Feeds a line. The transcript has it before the program does. Raises ChildEnded and NoRoom."""
         ended = line.encode() + b"\n"
-        if self.state is not None:
-            await self.state.synced()
+        await self.state.synced()
         if self._transcript is not None:
             await self._record(partial(self._transcript.echo, ended))
         try:

@@ -18,6 +18,7 @@ from ..parties import party_key
 from ..records import Body, Event
 from ..room import NoRoom
 from ..state import State
+from ..tasks import Tasks
 from .envelope import INVALID, SUCCESS, routing_headers
 from .exchange import Exchange, NoAddress, NoResponse, NotSent, Response
 from .lanes import AT_ONCE, Lanes
@@ -46,7 +47,7 @@ class Client:
         self._url, self._state, self._sent, self._feed = configuration.ocpi.url, state, SentOnce(state), feed
         self.partners, self.exchange, self.requests, self.events = partners, exchange, requests, events
         self._lanes = {party_key(partner.party): Lanes(events.clock) for partner in configuration.partners}
-        self._looking_up: dict[str, asyncio.Future[Endpoints]] = {}
+        self._looking_up = Tasks(NoResponse)
 
     def send(self, packet: Packet) -> None:
         """Takes a request of the node, to be sent to its receiver. Where too many wait it is lost."""
@@ -79,26 +80,14 @@ class Client:
     async def endpoint(self, partner: Partner, module: str, role: str) -> str:
         """Where a module of a partner stands. Its versions are asked where nothing is known yet, once for all that
         wait for them. Raises NoResponse."""
-        endpoints = partner.endpoints
-        if not endpoints:
-            endpoints = await self._look_up_once(partner)
+        key = party_key(partner.party)
+        endpoints = partner.endpoints or await asyncio.shield(self._looking_up.begin(self._look_up, key))
         if (module, role) not in endpoints:
             raise NoAddress(f"it lists no {module} {role}")
         return endpoints[module, role]
 
-    async def _look_up_once(self, partner: Partner) -> Endpoints:
-        def end(ended: asyncio.Future[Endpoints]) -> None:
-            del self._looking_up[key]
-            if not ended.cancelled():
-                ended.exception()
-
-        key = party_key(partner.party)
-        if key not in self._looking_up:
-            self._looking_up[key] = asyncio.ensure_future(self._look_up(partner))
-            self._looking_up[key].add_done_callback(end)
-        return await asyncio.shield(self._looking_up[key])
-
-    async def _look_up(self, partner: Partner) -> Endpoints:
+    async def _look_up(self, party: str) -> Endpoints:
+        partner = self.partners.of(party)
         endpoints = await self.exchange.endpoints(partner)
         self.partners.set_endpoints(partner.party, partner.versions_url, endpoints)
         return endpoints

@@ -24,18 +24,11 @@ Endpoints = Mapping[tuple[str, str], str]
 
 
 @dataclass(frozen=True)
-class Partner:
+class Partner(PartnerSettings):
     """One party, as one of its tokens shows it. Without `is_registered` that token opens nothing but registering."""
 
-    party: str
-    kind: str
-    token: str | None = None
-    their_token: str | None = None
-    versions_url: str | None = None
     endpoints: Endpoints = field(default_factory=dict)
     is_registered: bool = False
-    token_base64: bool = True
-    own_references: bool = False
 
 
 class Partners:
@@ -97,11 +90,11 @@ class Partners:
         self._version = version
 
     def _partner(self, settings: PartnerSettings, kept: Members) -> Partner:
-        known: Members = {**asdict(settings), **kept}
-        listed = known.get("endpoints", []) if known.get("details_of") == known["versions_url"] else []
-        return Partner(settings.party, settings.kind, known["token"], known["their_token"], known["versions_url"],
-                       {(module, role): url for module, role, url in listed}, known["their_token"] is not None,
-                       settings.token_base64, settings.own_references)
+        """A partner by its settings, and by what is kept in the place of them."""
+        known: Members = {name: kept.get(name, value) for name, value in asdict(settings).items()}
+        listed = kept.get("endpoints", []) if kept.get("details_of") == known["versions_url"] else []
+        return Partner(**known, endpoints={(module, role): url for module, role, url in listed},
+                       is_registered=known["their_token"] is not None)
 
     def together(self) -> AbstractContextManager[None]:
         """What is kept inside is kept together, or not at all."""

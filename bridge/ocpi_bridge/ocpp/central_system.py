@@ -3,10 +3,9 @@ import asyncio
 import base64
 import hmac
 import logging
-from collections.abc import Callable, Coroutine
+from collections.abc import Callable
 from dataclasses import asdict
 from functools import partial
-from typing import Any
 
 from aiohttp import web
 
@@ -18,6 +17,7 @@ from ..node.feeder import Feeder, NodeEnded
 from ..ocpi.objects import Objects
 from ..room import when_there_is_room
 from ..state import State
+from ..tasks import Tasks
 from .connection import Connection
 from .orders import Orders
 from .readings import Readings
@@ -45,11 +45,13 @@ class CentralSystem:
         """`count` adds to a metric."""
         self._clock, self._objects, self._synced = events.clock, objects, state.synced
         self._site = Site(settings, events, state, feeder, objects)
+        # What a node that ended leaves is taken up at the next start.
+        self._tasks = Tasks(NodeEnded)
+        self._spawn = self._tasks.begin
         self._orders = Orders(self._site, self._spawn)
         self._readings = Readings(self._site, state, count)
         self._watch = Watch(self._site, self._readings, self._orders.stop, self._spawn)
         self._reports = Reports(self._site, self._readings, self._watch, self._orders.stop)
-        self._tasks: dict[object, asyncio.Task[None]] = {}
 
     def application(self) -> web.Application:
         """The web application at `/ocpp/{id}`. Its shutdown closes all connections."""
@@ -58,26 +60,10 @@ class CentralSystem:
         application.on_shutdown.append(self._close)
         return application
 
-    def _spawn(self, work: Callable[..., Coroutine[Any, Any, None]], *arguments: object) -> None:
-        """Has something done in a task of its own, unless that is under way already."""
-        key = (work, *arguments)
-        if key not in self._tasks or self._tasks[key].done():
-            task = self._tasks[key] = asyncio.create_task(work(*arguments))
-            task.add_done_callback(partial(self._end_task, key))
-
-    def _end_task(self, key: object, task: asyncio.Task[None]) -> None:
-        """Tells why a task failed, but where the node ended: what that leaves is taken up at the next start."""
-        if self._tasks[key] is task:
-            del self._tasks[key]
-        fault = None if task.cancelled() else task.exception()
-        if fault is not None and not isinstance(fault, NodeEnded):
-            LOG.error("a charge point could not be served", exc_info=fault)
-
     async def _close(self, application: web.Application) -> None:
         points = self._site.by_id.values()
         await asyncio.gather(*(point.connection.close() for point in points if point.connection is not None))
-        for task in self._tasks.values():
-            task.cancel()
+        self._tasks.cancel()
 
     async def _connect(self, request: web.Request) -> web.WebSocketResponse:
         charge_point = self._site.by_id.get(request.match_info["id"])

@@ -1,13 +1,12 @@
 """Commands that were ordered too long ago: no charge point is asked, and the node is told that it refuses."""
-import asyncio
 from collections.abc import Awaitable, Callable
-from contextlib import suppress
 
 from ..events import Events, Outcome, Packet
 from ..json_text import Members
 from ..node.feeder import NodeEnded, repeated
 from ..records import Event
 from ..state import State
+from ..tasks import Tasks
 from .commands import OPEN, REFUSED
 
 
@@ -18,7 +17,7 @@ class LateCommands:
     def __init__(self, state: State, events: Events, feed: Callable[[Event], Awaitable[Outcome]]) -> None:
         self._state, self._events, self._feed = state, events, feed
         self._refused: list[tuple[str, int]] = []
-        self._tasks: set[asyncio.Task[None]] = set()
+        self._tasks = Tasks(NodeEnded)
 
     def expect(self, provider: str, number: int) -> None:
         """Keeps that a command which is about to be fed was ordered too long ago."""
@@ -38,10 +37,7 @@ class LateCommands:
     def act(self, outcome: Outcome) -> None:
         """Tells the node of each that was refused. Where a stop keeps that from it, the node ends it at its time."""
         while self._refused:
-            task = asyncio.create_task(self._refuse(*self._refused.pop()))
-            self._tasks.add(task)
-            task.add_done_callback(self._tasks.discard)
+            self._tasks.begin(self._refuse, *self._refused.pop())
 
     async def _refuse(self, provider: str, number: int) -> None:
-        with suppress(NodeEnded):
-            await repeated(lambda: self._feed(self._events.make("refuses", provider=provider, number=number)))
+        await repeated(lambda: self._feed(self._events.make("refuses", provider=provider, number=number)))

@@ -18,7 +18,7 @@ from .transactions import OVER, STOPPED, Transaction
 class Orders:
     """Carries out commands. `spawn` has each done in a task of its own, that is not under way already."""
 
-    def __init__(self, site: Site, spawn: Callable[..., None]) -> None:
+    def __init__(self, site: Site, spawn: Callable[..., object]) -> None:
         self._site, self._commands, self._spawn = site, site.commands, spawn
 
     def begin(self) -> None:

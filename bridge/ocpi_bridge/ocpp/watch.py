@@ -22,7 +22,7 @@ class Watch:
     """`stop` has a transaction stopped, and `spawn` has something done in a task of its own."""
 
     def __init__(self, site: Site, readings: Readings, stop: Callable[[Transaction], None],
-                 spawn: Callable[..., None]) -> None:
+                 spawn: Callable[..., object]) -> None:
         self._site, self._transactions, self._stop, self._spawn = site, site.transactions, stop, spawn
         self._readings, self._looked = readings, site.clock.passed()
         # When the last message about each EVSE came since the start, and when its silence was warned of.
