@@ -221,9 +221,9 @@ class OperatorTest(AdminTest):
         self.assertEqual(await self.status_of("POST", "/tokens", json=TOKEN), 409)
         self.assertEqual([point["id"] for point in await self.bridge.admin_get("/charge_points")], ["CP1"])
         text = await self.bridge.admin_get("/metrics")
-        for name, (kind, _) in METRICS.items():
+        for name, (kind, *_) in METRICS.items():
             self.assertIn(f"# TYPE {name} {kind}\n", text)
-        self.assertIn('ocpi_lines_total{done="stepped"} 1\n', text)
+        self.assertIn('ocpi_lines_total{done="stepped"} 1.0\n', text)
         health = await self.bridge.admin_get("/health")
         self.assertEqual([True, "open"], [health["healthy"], health["node"]])
         newest = re.search(r"^## (.+)$", (REPOSITORY / "CHANGELOG.md").read_text(), re.MULTILINE)

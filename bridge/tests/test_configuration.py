@@ -140,7 +140,7 @@ class ConfigurationTest(unittest.TestCase):
         run = subprocess.run([RUN, self.folder / "bridge.json"], capture_output=True, text=True, timeout=60,
                              env={**os.environ, "PYTHONPATH": str(self.folder)})
         self.assertEqual(2, run.returncode, run.stderr)
-        self.assertIn("apt install python3-aiohttp python3-fastjsonschema", run.stderr)
+        self.assertIn("apt install python3-aiohttp python3-fastjsonschema python3-prometheus-client", run.stderr)
 
     def test_charge_points(self) -> None:
         first = charge_point("CP1", ["E1"])

@@ -121,7 +121,7 @@ class TwoBridges(BridgeCase):
 
         async def is_there() -> bool:
             lines = (await self.provider.admin_get("/metrics")).splitlines()
-            return bool(await self.operator.admin_get("/tokens")) and "ocpi_unacknowledged_pushes 0" in lines
+            return bool(await self.operator.admin_get("/tokens")) and "ocpi_unacknowledged_pushes 0.0" in lines
         await eventually(is_there, "a token that was put and acknowledged", 30)
 
     async def test_they_register_and_use_it_at_once(self) -> None:

@@ -16,7 +16,7 @@ class ReadingTest(OcppCase):
         """How many readings were dropped, as the metric tells and as the page shows."""
         line = next(line for line in self.operating.metrics.text().splitlines()
                     if line.startswith("ocpi_readings_dropped_total "))
-        return int(line.split()[1]), len(self.operating.central_system.warnings(50))
+        return int(float(line.split()[1])), len(self.operating.central_system.warnings(50))
 
     async def end_by(self, **members: object) -> None:
         self.assertEqual({}, await self.station.call("StopTransaction", transactionId=self.transaction, **members))

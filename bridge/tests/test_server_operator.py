@@ -256,5 +256,5 @@ class OperatorServer(ServerCase):
         self.assertEqual([record.getMessage() for record in logs.records],
                          ["NL/TNM GET /ocpi/2.2.1/receiver/tokens/{country_code}/{party_id}/{identifier}: 404",
                           "unknown GET unknown path: 401"])
-        counted = 'ocpi_http_requests_total{direction="in",partner="NL/TNM",status="404"} 1'
+        counted = 'ocpi_http_requests_total{direction="in",partner="NL/TNM",status="404"} 1.0'
         self.assertIn(counted, self.metrics.text().splitlines())
