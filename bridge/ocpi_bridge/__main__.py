@@ -4,7 +4,6 @@ import asyncio
 import resource
 import sqlite3
 import sys
-from dataclasses import replace
 from getpass import getpass
 from pathlib import Path
 
@@ -30,14 +29,13 @@ def main() -> int:
     resource.setrlimit(resource.RLIMIT_NOFILE, (most_files, most_files))
     set_up_logs(words.json_logs)
     try:
-        configuration = read_configuration(words.configuration)
+        configuration = read_configuration(words.configuration, words.restored, words.new_state)
     except WrongConfiguration as wrong:
         print(wrong, file=sys.stderr)
         return 2
     try:
         if words.register is None:
-            node = replace(configuration.node, takes_new_state=words.new_state)
-            return asyncio.run(run(replace(configuration, node=node, is_restored=words.restored)))
+            return asyncio.run(run(configuration))
         party, url = words.register
         token = getpass("token: ") if sys.stdin.isatty() else sys.stdin.readline().strip()
         return asyncio.run(register(configuration, party, url, token))

@@ -23,7 +23,6 @@ from .ocpi.pulling import Pulling
 from .ocpi.requests import Requests
 from .ocpi.server import Server
 from .ocpp.central_system import CentralSystem
-from .ocpp.late import LateCommands
 from .state import State
 from .warnings import Warnings
 
@@ -44,40 +43,37 @@ class Bridge:
         partners = Partners(configuration, state)
         self._requests = requests = Requests(state)
         self._exchange = exchange = Exchange(clock, metrics, state.synced)
-        self._orders = orders = Orders(configuration, state, events, objects, requests, feeder.feed)
+        orders = Orders(configuration, state, events, objects, requests, feeder.feed)
         self._client = Client(configuration, state, partners, exchange, requests, events, feeder.feed, orders)
         self._pulling = Pulling(self._client, objects, state, configuration.is_operator)
         ocpp = configuration.ocpp
-        central_system = CentralSystem(ocpp or OcppSettings("", {}), events, state, feeder, objects,
-                                       metrics.count)
+        central_system = CentralSystem(ocpp or OcppSettings("", {}), events, state, feeder, objects, metrics.count)
         locations = None if configuration.site is None else Locations(
             state, clock, objects, configuration.node.party, configuration.site,
             central_system.evse_status if ocpp is not None else lambda _: None)
-        late = LateCommands(state, events, feeder.feed)
-        interfaces = Interfaces(configuration.ocpi.url, events, objects, requests, locations, feeder.feed,
-                                self._client.takes_orders, feeder.revoke, *([late.expect] if ocpp else ()))
-        server = Server(events, partners, Credentials(configuration, partners, exchange), interfaces, metrics,
-                        state)
+        interfaces = Interfaces(
+            configuration.ocpi.url, events, objects, requests, locations, feeder.feed, self._client.takes_orders,
+            feeder.revoke, *([central_system.expect_late] if ocpp is not None else ()))
+        server = Server(events, partners, Credentials(configuration, partners, exchange), interfaces, metrics, state)
         admin = Admin(configuration, state, events, feeder, objects, self._client, metrics, locations, central_system)
         self._listeners = [Listener("ocpi", configuration.ocpi.listen, server.application()),
                            Listener("admin", configuration.admin, admin.application())]
         if ocpp is not None:
             self._listeners.append(Listener("ocpp", ocpp.listen, central_system.application()))
-        self._follow(objects, warnings, admin, None if ocpp is None else (late, central_system))
+        self._follow(objects, warnings, orders, admin, None if ocpp is None else central_system)
 
-    def _follow(self, objects: Objects, warnings: Warnings, admin: Admin,
-                charge_points: tuple[LateCommands, CentralSystem] | None) -> None:
+    def _follow(self, objects: Objects, warnings: Warnings, orders: Orders, admin: Admin,
+                central_system: CentralSystem | None) -> None:
         """Says who is told of what the node does, and in which order: those that look at the state of another come
-        behind it. (Which commands come late is noted behind the commands, and acted on before these.)"""
-        feeder, orders = self._feeder, self._orders
+        behind it."""
+        feeder = self._feeder
         feeder.before_opening = [orders.note_left, admin.feeding.note_left]
         feeder.before_commit = [objects.note, warnings.note, orders.note, admin.outstanding.note, admin.feeding.note]
-        feeder.after_commit = [warnings.act, self._send]
+        feeder.after_commit = [warnings.act, orders.act, self._send]
         feeder.after_opening = [self._pulling.wake]
-        if charge_points is not None:
-            late, central_system = charge_points
-            feeder.before_commit += [central_system.note, late.note]
-            feeder.after_commit += [late.act, central_system.act]
+        if central_system is not None:
+            feeder.before_commit.append(central_system.note)
+            feeder.after_commit.append(central_system.act)
             feeder.after_opening.append(central_system.opened)
 
     def _send(self, outcome: Outcome) -> None:
@@ -119,7 +115,6 @@ class Bridge:
         async with asyncio.TaskGroup() as group:
             group.create_task(self._client.run())
             group.create_task(self._pulling.run())
-            group.create_task(self._orders.run())
             group.create_task(self._requests.run())
 
 

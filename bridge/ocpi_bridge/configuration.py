@@ -116,7 +116,7 @@ class Configuration:
         return self.site is not None
 
 
-def read_configuration(path: Path) -> Configuration:
+def read_configuration(path: Path, is_restored: bool = False, takes_new_state: bool = False) -> Configuration:
     """Reads the file, and the setup that it names. Raises WrongConfiguration with the path of what is wrong."""
     text, file = _read_file(path, str(path))
     _try_form(json.loads(text))
@@ -135,11 +135,12 @@ def read_configuration(path: Path) -> Configuration:
     if "ocpp" in file and site is None:
         refuse("ocpp", "a provider has no charge points")
     return Configuration(
-        node=NodeSettings(files["program"], party, write_json(setup), files["store"], files.get("transcript")),
+        node=NodeSettings(files["program"], party, write_json(setup), files["store"], files.get("transcript"),
+                          takes_new_state),
         state=state, ocpi=OcpiSettings(ocpi["listen"], ocpi["url"].rstrip("/"), ocpi["business"]),
         ocpp=_ocpp(file["ocpp"], site) if "ocpp" in file and site else None, admin=file["admin"]["listen"],
         partners=_partners(file["partners"], [name for name in sites if (sites[name] is None) == (site is not None)]),
-        clock_factor=float(file.get("clock_factor", 1)), site=site, setup=setup)
+        clock_factor=float(file.get("clock_factor", 1)), site=site, setup=setup, is_restored=is_restored)
 
 
 def refuse(path: str, fault: str) -> NoReturn:
@@ -200,9 +201,8 @@ def _ocpp(ocpp: Members, site: Members) -> OcppSettings:
         path = f"ocpp.charge_points[{place}]"
         if entry["id"] in charge_points:
             refuse(f"{path}.id", "that of another charge point")
-        connectors = {}
-        for number, connector in entry["connectors"].items():
-            connectors[int(number)] = _connector(connector, f"{path}.connectors.{number}", evses)
+        connectors = {int(number): _connector(connector, f"{path}.connectors.{number}", evses)
+                      for number, connector in entry["connectors"].items()}
         charge_points[entry["id"]] = ChargePointSettings(entry["id"], entry.get("password"), connectors)
     return OcppSettings(ocpp["listen"], charge_points)
 

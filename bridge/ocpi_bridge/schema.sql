@@ -53,10 +53,6 @@ CREATE TABLE IF NOT EXISTS session_to_stop (
     operator TEXT, session_id TEXT COLLATE NOCASE, ordered_at INTEGER NOT NULL,
     PRIMARY KEY (operator, session_id)) WITHOUT ROWID;
 
--- ocpp/late.py
-CREATE TABLE IF NOT EXISTS late_command (
-    provider TEXT COLLATE NOCASE, number INTEGER, PRIMARY KEY (provider, number)) WITHOUT ROWID;
-
 -- ocpi/pulling.py
 CREATE TABLE IF NOT EXISTS list_pulled (
     party TEXT, module TEXT, latest INTEGER NOT NULL, PRIMARY KEY (party, module)) WITHOUT ROWID;
@@ -80,6 +76,8 @@ CREATE TABLE IF NOT EXISTS ocpp_command (
 CREATE INDEX IF NOT EXISTS ocpp_command_open ON ocpp_command (number) WHERE ended_by IS NULL;
 CREATE INDEX IF NOT EXISTS ocpp_command_evse ON ocpp_command (evse_uid, state);
 CREATE INDEX IF NOT EXISTS ocpp_command_reference ON ocpp_command (provider, reference);
+CREATE TABLE IF NOT EXISTS late_command (
+    provider TEXT COLLATE NOCASE, number INTEGER, PRIMARY KEY (provider, number)) WITHOUT ROWID;
 
 -- ocpp/transactions.py
 CREATE TABLE IF NOT EXISTS ocpp_transaction (

@@ -18,6 +18,7 @@ from aiohttp import web
 
 from .. import __version__
 from ..backup import copy_together
+from ..clock import milliseconds_of
 from ..configuration import Configuration
 from ..events import Events
 from ..json_text import Members, NotJson, NumberTooLarge, read_json, write_json
@@ -64,7 +65,7 @@ class Admin:
                  central_system: CentralSystem) -> None:
         """`locations` are an operator's."""
         self._configuration, self._state, self._feeder, self._metrics = configuration, state, feeder, metrics
-        self._clock = events.clock
+        self._clock, self._objects = events.clock, objects
         self.feeding = Feeding(
             events, feeder, objects, Answers(state, events.clock), locations,
             None if configuration.ocpp is None else central_system, client.takes_orders)
@@ -88,7 +89,7 @@ class Admin:
             *(web.post(path, self._feed) for path in EVENTS), *(web.get(path, self._list) for path in self._lists),
             web.post("/backup", self._backup), web.get("/metrics", self._metrics_text),
             web.get("/totals", self._totals), web.get("/health", self._health), web.get("/events", self._stream),
-            web.get("/openapi.json", _openapi), web.get("/", _page), web.get(r"/{file:page\.(js|css)}", _page)])
+            web.get("/openapi.json", _page), web.get("/", _page), web.get(r"/{file:page\.(js|css)}", _page)])
         return application
 
     async def _list(self, request: web.Request) -> web.Response:
@@ -154,7 +155,8 @@ class Admin:
     async def _totals(self, request: web.Request) -> web.Response:
         """The totals of the bills of a time, such as a day."""
         try:
-            return _answer(self._shown.totals(request.query["date_from"], request.query["date_to"]))
+            moments = [milliseconds_of(request.query[name]) for name in ("date_from", "date_to")]
+            return _answer(self._objects.totals(*moments))
         except (KeyError, ValueError, OverflowError):
             raise web.HTTPBadRequest(text="date_from, date_to: wanted are two moments") from None
 
@@ -177,11 +179,7 @@ def _answer(value: object, status: int = 200) -> web.Response:
 
 
 async def _page(request: web.Request) -> web.FileResponse:
-    return web.FileResponse(PAGE / request.match_info.get("file", "page.html"), headers=HEADERS)
-
-
-async def _openapi(_: web.Request) -> web.FileResponse:
-    return web.FileResponse(Path(__file__).with_name("openapi.json"), headers=HEADERS)
+    return web.FileResponse(PAGE / (request.path[1:] or "page.html"), headers=HEADERS)
 
 
 @web.middleware

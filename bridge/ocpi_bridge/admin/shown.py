@@ -1,5 +1,4 @@
 """What the page shows, and /events tells: all of it in one object."""
-from ..clock import milliseconds_of
 from ..configuration import Configuration
 from ..json_text import Members
 from ..ocpi.client import Client
@@ -41,7 +40,3 @@ class Shown:
         return [{"uid": evse["uid"], "location": f"{location['address']}, {location['city']}", "status": evse["status"],
                  "session": self._objects.living_session(evse["uid"])}
                 for location in locations.all() for evse in location["evses"]]
-
-    def totals(self, date_from: str, date_to: str) -> list[Members]:
-        """Of the bills from a moment on and before another. Raises ValueError and OverflowError."""
-        return self._objects.totals(milliseconds_of(date_from), milliseconds_of(date_to))

@@ -16,15 +16,14 @@ from ..node.feeder import NodeEnded, OutcomeLost
 from ..parties import party_key
 from ..records import Body, Event, Session
 from ..state import State
+from ..tasks import Tasks
 from .objects import Objects
 from .packets import COMMANDS
 from .requests import NODES_URL, Requests, number_of
 
 # In milliseconds: the age from which on an order is late, how long a result may come behind the `timeout` of its
-# response, and how long until a session that still goes on is ordered to stop once more. Each so many seconds it is
-# looked whether something is due.
+# response, and how long until a session that still goes on is ordered to stop once more.
 LATE, RESULT_WITHIN, STOPPED_WITHIN = 60_000, 30_000, 60_000
-LOOK_EVERY = 2.0
 USUAL_TIMEOUT, LONGEST_TIMEOUT = 30, 86_400
 
 log = logging.getLogger(__name__)
@@ -38,6 +37,7 @@ class Orders:
         self._state, self._events, self._objects, self._requests, self._feed = state, events, objects, requests, feed
         self._others = {party_key(partner.party) for partner in configuration.partners
                         if partner.kind == "ocpi" and not configuration.is_operator}
+        self._tasks = Tasks(NodeEnded, OutcomeLost)
         # When the orders were given that a stop left in the line that was under way.
         self._left: list[int] = []
 
@@ -113,18 +113,10 @@ class Orders:
             "status_code": 1000, "timestamp": self._events.clock.moment(),
             "data": {"result": "REJECTED", "timeout": 0}})
 
-    async def run(self) -> None:
-        """Does what is due, until it is cancelled or the bridge ends."""
-        while self._others:
-            await self._events.clock.sleep(LOOK_EVERY)
-            try:
-                await self._do_what_is_due()
-            except NodeEnded:
-                return
-            except OutcomeLost:
-                continue
-            except Exception:
-                log.exception("what is due of orders was not done")
+    def act(self, outcome: Outcome) -> None:
+        """Begins with each tick what is due then. Called behind the transaction that ends its line."""
+        if self._others and outcome.event["event"] == "tick":
+            self._tasks.begin(self._do_what_is_due)
 
     async def _do_what_is_due(self) -> None:
         now, node = self._now(), self._events.node

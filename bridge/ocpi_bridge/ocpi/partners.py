@@ -50,7 +50,7 @@ class Partners:
 
         A registration's new token ends the one of before when it is used: until then its partner may not have it.
         """
-        self._read()
+        self._known()
         found = self._shown.get(self._digest(token, is_base64), {})
         for key in [key for key in found if key in self._former and token == self._partners[key].token]:
             self._keep(key, former=None)
@@ -58,22 +58,20 @@ class Partners:
 
     def of(self, party: str) -> Partner:
         """The partner of a party. Raises KeyError where the configuration has none."""
-        self._read()
-        return self._partners[party_key(party)]
+        return self._known()[party_key(party)]
 
     def all(self) -> list[Partner]:
-        self._read()
-        return list(self._partners.values())
+        return list(self._known().values())
 
     def _digest(self, token: str, is_base64: bool) -> bytes:
         return hashlib.blake2b(token.encode("utf-8", "surrogatepass"), key=self._secret,
                                person=b"base64" if is_base64 else b"as it is").digest()
 
-    def _read(self) -> None:
-        """Reads the state, where it has changed."""
+    def _known(self) -> Mapping[str, Partner]:
+        """The partners by their parties. Reads the state, where it has changed."""
         version = self._state.version()
         if version == self._version:
-            return
+            return self._partners
         self._partners, self._shown, self._former = {}, {}, set()
         for key, settings in self._settings.items():
             kept = self._kept(key)
@@ -88,6 +86,7 @@ class Partners:
             if kept.get("former"):
                 self._former.add(key)
         self._version = version
+        return self._partners
 
     def _partner(self, settings: PartnerSettings, kept: Members) -> Partner:
         """A partner by its settings, and by what is kept in the place of them."""

@@ -49,6 +49,7 @@ class CentralSystem:
         self._tasks = Tasks(NodeEnded)
         self._spawn = self._tasks.begin
         self._orders = Orders(self._site, self._spawn)
+        self.expect_late = self._site.commands.expect_late
         self._readings = Readings(self._site, state, count)
         self._watch = Watch(self._site, self._readings, self._orders.stop, self._spawn)
         self._reports = Reports(self._site, self._readings, self._watch, self._orders.stop)

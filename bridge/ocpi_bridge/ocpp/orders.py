@@ -10,7 +10,7 @@ from collections.abc import Callable
 from functools import partial
 
 from ..node.feeder import repeated
-from .commands import REFUSED, Command
+from .commands import LATE, REFUSED, Command
 from .site import ChargePoint, Site
 from .transactions import OVER, STOPPED, Transaction
 
@@ -22,9 +22,14 @@ class Orders:
         self._site, self._commands, self._spawn = site, site.commands, spawn
 
     def begin(self) -> None:
-        """Begins with each open command that no charge point was asked for yet."""
+        """Begins with each open command that no charge point was asked for yet, and refuses each that came late."""
         for command in self._commands.unasked():
             self._spawn(self._carry_out, command.provider, command.number)
+        for command in self._commands.unasked(LATE):
+            self._spawn(self._refuse, command.provider, command.number)
+
+    async def _refuse(self, provider: str, number: int) -> None:
+        await repeated(partial(self._site.report, "refuses", provider=provider, number=number))
 
     async def _carry_out(self, provider: str, number: int) -> None:
         """Asks for a command. A start that names no EVSE is accepted before: only its session tells where it is.

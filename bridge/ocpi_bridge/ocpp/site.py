@@ -51,11 +51,11 @@ class ChargePoint:
 
 @dataclass(frozen=True)
 class Place:
-    """Where an EVSE is: a connector of a charge point."""
+    """Where an EVSE is: a connector of a charge point, which is the same whatever its settings are."""
 
     charge_point: ChargePoint
     connector: int
-    settings: ConnectorSettings
+    settings: ConnectorSettings = field(compare=False)
 
 
 class Site:

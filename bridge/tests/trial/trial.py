@@ -134,7 +134,7 @@ class Trial:
                 found.append(f"no metrics of {party}: {fault!r}")
                 continue
             waiting = dict(WAITING.findall(text))
-            found += [f"{name} of {party} is {waiting.get(name)}" for name in NUMBERS if waiting.get(name) != "0.0"]
+            found += [f"{name} of {party} is {waiting.get(name)}" for name in NUMBERS if waiting.get(name) != "0"]
         return found
 
     def _check(self, drivers: Drivers, kills: Kills) -> None:
