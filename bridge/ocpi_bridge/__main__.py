@@ -4,6 +4,7 @@ import asyncio
 import resource
 import sqlite3
 import sys
+from functools import partial
 from getpass import getpass
 from pathlib import Path
 
@@ -28,14 +29,15 @@ def main() -> int:
     most_files = resource.getrlimit(resource.RLIMIT_NOFILE)[1]
     resource.setrlimit(resource.RLIMIT_NOFILE, (most_files, most_files))
     set_up_logs(words.json_logs)
+    read = partial(read_configuration, words.configuration, words.restored, words.new_state)
     try:
-        configuration = read_configuration(words.configuration, words.restored, words.new_state)
+        configuration = read()
     except WrongConfiguration as wrong:
         print(wrong, file=sys.stderr)
         return 2
     try:
         if words.register is None:
-            return asyncio.run(run(configuration))
+            return asyncio.run(run(configuration, read))
         party, url = words.register
         token = getpass("token: ") if sys.stdin.isatty() else sys.stdin.readline().strip()
         return asyncio.run(register(configuration, party, url, token))

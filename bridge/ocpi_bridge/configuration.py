@@ -7,7 +7,7 @@ import json
 import os
 import re
 from collections.abc import Iterable
-from dataclasses import dataclass
+from dataclasses import dataclass, replace
 from decimal import Decimal
 from pathlib import Path
 from typing import Any, NoReturn
@@ -93,11 +93,12 @@ class PartnerSettings:
     own_references: bool = False
 
 
-@dataclass(frozen=True)
+@dataclass
 class Configuration:
     """All of it. `site` is the node's site in the setup, and None for a provider. Where to listen is HOST:PORT.
 
-    The state may be a backup where it `is_restored`.
+    The state may be a backup where it `is_restored`. All parts of a bridge have one such object, which changes where it
+    is read again.
     """
 
     node: NodeSettings
@@ -114,6 +115,22 @@ class Configuration:
     @property
     def is_operator(self) -> bool:
         return self.site is not None
+
+    def become(self, other: "Configuration") -> None:
+        """Has all that another has, of which `refuse_other` found nothing."""
+        vars(self).update(vars(other))
+
+    def refuse_other(self, other: "Configuration") -> None:
+        """Raises WrongConfiguration where another has more that is new than a bridge that runs can take: the setup, the
+        partners and the charge points."""
+        for path, before, now in (
+                ("node", replace(self.node, setup_line=""), replace(other.node, setup_line="")),
+                ("node.party", self.is_operator, other.is_operator), ("state", self.state, other.state),
+                ("ocpi", self.ocpi, other.ocpi), ("admin", self.admin, other.admin),
+                ("ocpp.listen", self.ocpp and self.ocpp.listen, other.ocpp and other.ocpp.listen),
+                ("clock_factor", self.clock_factor, other.clock_factor)):
+            if before != now:
+                refuse(path, "changed: restart the bridge for that")
 
 
 def read_configuration(path: Path, is_restored: bool = False, takes_new_state: bool = False) -> Configuration:

@@ -19,7 +19,7 @@ from aiohttp import web
 from .. import __version__
 from ..backup import copy_together
 from ..clock import milliseconds_of
-from ..configuration import Configuration
+from ..configuration import Configuration, WrongConfiguration
 from ..events import Events
 from ..json_text import Members, NotJson, NumberTooLarge, read_json, write_json
 from ..metrics import Metrics
@@ -62,10 +62,10 @@ class Admin:
 
     def __init__(self, configuration: Configuration, state: State, events: Events, feeder: RevocableFeeder,
                  objects: Objects, client: Client, metrics: Metrics, locations: Locations | None,
-                 central_system: CentralSystem) -> None:
-        """`locations` are an operator's."""
+                 central_system: CentralSystem, reload: Callable[[], Awaitable[None]]) -> None:
+        """`locations` are an operator's. `reload` has the configuration read again."""
+        self._clock, self._objects, self._reload = events.clock, objects, reload
         self._configuration, self._state, self._feeder, self._metrics = configuration, state, feeder, metrics
-        self._clock, self._objects = events.clock, objects
         self.feeding = Feeding(
             events, feeder, objects, Answers(state, events.clock), locations,
             None if configuration.ocpp is None else central_system, client.takes_orders)
@@ -87,7 +87,8 @@ class Admin:
         application = web.Application(middlewares=[_guard], client_max_size=1 << 20)
         application.add_routes([
             *(web.post(path, self._feed) for path in EVENTS), *(web.get(path, self._list) for path in self._lists),
-            web.post("/backup", self._backup), web.get("/metrics", self._metrics_text),
+            web.post("/backup", self._backup), web.post("/reload", self._read_again),
+            web.get("/metrics", self._metrics_text),
             web.get("/totals", self._totals), web.get("/health", self._health), web.get("/events", self._stream),
             web.get("/openapi.json", _page), web.get("/", _page), web.get(r"/{file:page\.(js|css)}", _page)])
         return application
@@ -119,6 +120,12 @@ class Admin:
         except (OSError, sqlite3.Error) as fault:
             raise web.HTTPConflict(text=f"to: no copy was made: {getattr(fault, 'strerror', fault)}") from None
         return _answer({"bytes": size, "seconds": round(time.monotonic() - began, 3)})
+
+    async def _read_again(self, request: web.Request) -> web.Response:
+        """Has the configuration read again. What is wrong there is told, and the old one goes on."""
+        await self._body(request)
+        await self._reload()
+        return _answer({})
 
     async def _metrics_text(self, _: web.Request) -> web.Response:
         return web.Response(text=self._metrics.text(), headers={"Content-Type": "text/plain; version=0.0.4"})
@@ -194,6 +201,8 @@ async def _guard(request: web.Request, handler: Handler) -> web.StreamResponse:
         return await handler(request)
     except web.HTTPException as refusal:
         return _answer({"error": refusal.text}, refusal.status)
+    except WrongConfiguration as wrong:
+        return _answer({"error": str(wrong)}, 409)
     except tuple(FAILURES) as failure:
         status, words = FAILURES[type(failure)]
         return _answer({"error": words}, status)

@@ -2,6 +2,7 @@
 import asyncio
 import logging
 from asyncio.subprocess import PIPE, Process
+from collections import deque
 from collections.abc import Callable, Iterator
 from contextlib import contextmanager, suppress
 from functools import partial
@@ -39,6 +40,8 @@ class Child:
         self._settings, self._is_known = settings, is_known
         self._transcript: Transcript | None = None
         self._refusal, self.found_lock, self.found_no_room = 0, False, False
+        # What it said last on standard error, or why the bridge does not take it.
+        self.words = deque[str](maxlen=10)
         # Whether the store has to be the very one that was copied with the state.
         self.is_backup = False
         # Whether the output ended within a line, or the transcript has not all of it.
@@ -72,7 +75,8 @@ class Child:
         elif opened["rows"] > 0 and not (self._is_known or self._settings.takes_new_state):
             self._refusal, fault = 3, NEW_STATE
         if self._refusal:
-            LOG.error("%s: %s", fault, line.decode().rstrip())
+            self.words.append(f"{fault}: {line.decode().rstrip()}")
+            LOG.error("%s", self.words[-1])
             raise ChildEnded()
         if self._settings.transcript is not None:
             await self._record(partial(self._begin_transcript, self._settings.transcript, line))
@@ -143,6 +147,7 @@ class Child:
     async def _log_errors(self, errors: asyncio.StreamReader) -> None:
         async for line in errors:
             text = line.decode(errors="replace").rstrip()
+            self.words.append(text)
             self.found_lock = self.found_lock or LOCKED in text
             self.found_no_room = self.found_no_room or NO_ROOM in text
             LOG.warning("%s", text)

@@ -46,36 +46,48 @@ class Client:
         self._orders = orders
         self._url, self._state, self._sent, self._feed = configuration.ocpi.url, state, SentOnce(state), feed
         self.partners, self.exchange, self.requests, self.events = partners, exchange, requests, events
-        self._lanes = {party_key(partner.party): Lanes(events.clock) for partner in configuration.partners}
+        self._lanes: dict[str, Lanes] = {}
+        self._workers, self._may_send = Tasks(), asyncio.Event()
         self._looking_up = Tasks(NoResponse)
 
     def send(self, packet: Packet) -> None:
         """Takes a request of the node, to be sent to its receiver. Where too many wait it is lost."""
-        if not self._lanes[party_key(packet.receiver)].put(packet):
+        if not self._lanes_of(packet.receiver).put(packet):
             log.warning("%s to %s: lost, too many wait", packet.kind, packet.receiver)
 
     def takes_orders(self, party: str) -> bool:
         """Whether a partner may be sent one command or result more. (Of no partner its node has a word.)"""
-        lanes = self._lanes.get(party_key(party))
-        return lanes is None or not lanes.is_full
+        return not (self.partners.has(party) and self._lanes_of(party).is_full)
+
+    def _lanes_of(self, party: str) -> Lanes:
+        """The lanes of a partner, which are there from its first request on."""
+        key = party_key(party)
+        if key not in self._lanes:
+            self._lanes[key] = Lanes(self.events.clock)
+            for number in range(AT_ONCE):
+                self._workers.begin(self._work, key, number)
+        return self._lanes[key]
 
     def told(self) -> list[Members]:
         """Each partner: how it stands (`state`), and how many requests are `waiting` for it or under way."""
         return [{"party": partner.party, "kind": partner.kind, "registered": partner.is_registered,
                  "versions_url": partner.versions_url, "state": self._state_of(partner),
-                 "waiting": self._lanes[party_key(partner.party)].waiting} for partner in self.partners.all()]
+                 "waiting": self._lanes_of(partner.party).waiting} for partner in self.partners.all()]
 
     def _state_of(self, partner: Partner) -> str:
         if not partner.is_registered:
             return "UNREGISTERED"
         if self.exchange.is_resting(partner):
             return "RESTING"
-        return "FAILING" if self._lanes[party_key(partner.party)].is_failing else "ANSWERING"
+        return "FAILING" if self._lanes_of(partner.party).is_failing else "ANSWERING"
 
     async def run(self) -> None:
-        """Sends what waits, until it is cancelled or the bridge ends."""
-        await asyncio.gather(*(self._work(lanes, number == 0) for lanes in self._lanes.values()
-                               for number in range(AT_ONCE)))
+        """Sends what waits, until it is cancelled."""
+        self._may_send.set()
+        try:
+            await asyncio.Event().wait()
+        finally:
+            self._workers.cancel()
 
     async def endpoint(self, partner: Partner, module: str, role: str) -> str:
         """Where a module of a partner stands. Its versions are asked where nothing is known yet, once for all that
@@ -102,10 +114,13 @@ class Client:
             log.warning("%s of %s: nested too deep", packet.kind, packet.sender)
             return None
 
-    async def _work(self, lanes: Lanes, urgent_alone: bool) -> None:
-        """Sends one request after the other: any, or those alone that are awaited by somebody."""
+    async def _work(self, party: str, number: int) -> None:
+        """Sends a partner one request after the other. The first of its workers sends those alone that are awaited by
+        somebody."""
+        lanes = self._lanes[party]
+        await self._may_send.wait()
         while True:
-            packet, failures = await lanes.take(urgent_alone)
+            packet, failures = await lanes.take(urgent_alone=number == 0)
             was_answered = False
             try:
                 was_answered = await self._send(packet)
@@ -116,7 +131,10 @@ class Client:
             await lanes.finish(packet, failures, was_answered)
 
     async def _send(self, packet: Packet) -> bool:
-        """Sends one request. True where its partner answered, be it by an error, or where it is not asked at all."""
+        """Sends one request. True where its partner answered, be it by an error, or where it is not asked at all, as
+        one that is no partner any more."""
+        if not self.partners.has(packet.receiver):
+            return True
         partner = self.partners.of(packet.receiver)
         kept = self._sent.answer(packet) if _is_sent_once(packet, partner) else None
         may_ask = kept is None and await self.exchange.may_ask(partner, LONGEST_WAIT)

@@ -185,11 +185,10 @@ def _address(url: str) -> URL:
 
 
 def _members(text: bytes) -> Members:
-    try:
+    with suppress(NotJson, NumberTooLarge):
         body = read_json(text)
-    except (NotJson, NumberTooLarge):
-        return {}
-    return body if isinstance(body, dict) else {}
+        return body if isinstance(body, dict) else {}
+    return {}
 
 
 def objects_of(listed: object, *names: str) -> list[dict[str, str]]:

@@ -17,7 +17,12 @@ class Locations:
                  evse_status: Callable[[str], str | None]) -> None:
         """`evse_status` tells OUTOFORDER or INOPERATIVE of the uid of an EVSE, or None where it may be used."""
         self._state, self._clock, self._objects = state, clock, objects
-        self._party, self._site, self._evse_status = party, site, evse_status
+        self._party, self._evse_status = party, evse_status
+        self.take(site)
+
+    def take(self, site: Members) -> None:
+        """Takes a site in place of that of before."""
+        self._site = site
         self._setups = {location["id"].upper(): location for location in site["locations"]}
         self._evse_setups = {(name, evse["uid"].upper()): evse for name, location in self._setups.items()
                              for evse in location["evses"]}

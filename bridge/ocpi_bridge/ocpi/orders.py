@@ -13,7 +13,7 @@ from ..configuration import Configuration
 from ..events import Events, Outcome, Packet
 from ..json_text import Members
 from ..node.feeder import NodeEnded, OutcomeLost
-from ..parties import party_key
+from ..parties import party_key, same_party
 from ..records import Body, Event, Session
 from ..state import State
 from ..tasks import Tasks
@@ -35,9 +35,7 @@ class Orders:
     def __init__(self, configuration: Configuration, state: State, events: Events, objects: Objects,
                  requests: Requests, feed: Callable[[Event], Awaitable[Outcome]]) -> None:
         self._state, self._events, self._objects, self._requests, self._feed = state, events, objects, requests, feed
-        self._others = {party_key(partner.party) for partner in configuration.partners
-                        if partner.kind == "ocpi" and not configuration.is_operator}
-        self._tasks = Tasks(NodeEnded, OutcomeLost)
+        self._configuration, self._tasks = configuration, Tasks(NodeEnded, OutcomeLost)
         # When the orders were given that a stop left in the line that was under way.
         self._left: list[int] = []
 
@@ -55,8 +53,13 @@ class Orders:
                 self._state.query("INSERT OR IGNORE INTO order_given (request, operator, reference, at, state)"
                                   " VALUES (?, ?, ?, ?, 'open')", packet.request, party_key(packet.receiver),
                                   packet.body.get("authorization_reference"), min(moments))
-        if event["event"] == "deliver" and party_key(event["packet"]["from"]) in self._others:
+        if event["event"] == "deliver" and self._is_of_other(event["packet"]["from"]):
             self._note_delivered(outcome, Packet.of(event["packet"]))
+
+    def _is_of_other(self, party: str) -> bool:
+        """Whether an operator is one of kind `ocpi`."""
+        return not self._configuration.is_operator and any(
+            partner.kind == "ocpi" and same_party(partner.party, party) for partner in self._configuration.partners)
 
     def _note_delivered(self, outcome: Outcome, packet: Packet) -> None:
         operator, body = party_key(packet.sender), packet.body
@@ -115,8 +118,9 @@ class Orders:
 
     def act(self, outcome: Outcome) -> None:
         """Begins with each tick what is due then. Called behind the transaction that ends its line."""
-        if self._others and outcome.event["event"] == "tick":
+        if outcome.event["event"] == "tick" and not self._configuration.is_operator:
             self._tasks.begin(self._do_what_is_due)
+
 
     async def _do_what_is_due(self) -> None:
         now, node = self._now(), self._events.node

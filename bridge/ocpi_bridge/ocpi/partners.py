@@ -8,12 +8,11 @@ another process may register.
 import hashlib
 import secrets
 from collections.abc import Mapping
-from contextlib import AbstractContextManager
 from dataclasses import asdict, dataclass, field, replace
 
 from ..configuration import Configuration, PartnerSettings
 from ..json_text import Members
-from ..parties import party_key
+from ..parties import party_key, same_party
 from ..state import State
 
 # What is kept of a registration, of which the first ones count once it is decided.
@@ -35,10 +34,12 @@ class Partners:
     """All partners of the configuration, with what the state has of them."""
 
     def __init__(self, configuration: Configuration, state: State) -> None:
-        self._settings = {party_key(settings.party): settings for settings in configuration.partners}
-        self._state = state
-        # Which version of the state was read: what it says of each partner, and whom each token shows.
-        self._version: int | None = None
+        self._configuration, self._state = configuration, state
+        # What is kept inside is kept together, or not at all.
+        self.together = state.transaction
+        # Of which settings and of which version of the state this is: what is known of each partner, and whom each
+        # token shows.
+        self._read_of: object = None
         self._partners: dict[str, Partner] = {}
         self._shown: dict[bytes, dict[str, Partner]] = {}
         self._former: set[str] = set()
@@ -60,6 +61,10 @@ class Partners:
         """The partner of a party. Raises KeyError where the configuration has none."""
         return self._known()[party_key(party)]
 
+    def has(self, party: str) -> bool:
+        """Whether there is one, as long as no other configuration is read."""
+        return party_key(party) in self._known()
+
     def all(self) -> list[Partner]:
         return list(self._known().values())
 
@@ -68,12 +73,13 @@ class Partners:
                                person=b"base64" if is_base64 else b"as it is").digest()
 
     def _known(self) -> Mapping[str, Partner]:
-        """The partners by their parties. Reads the state, where it has changed."""
-        version = self._state.version()
-        if version == self._version:
+        """The partners by their parties. Reads settings and state, where one has changed."""
+        read_of = self._configuration.partners, self._state.version()
+        if read_of == self._read_of:
             return self._partners
         self._partners, self._shown, self._former = {}, {}, set()
-        for key, settings in self._settings.items():
+        for settings in self._configuration.partners:
+            key = party_key(settings.party)
             kept = self._kept(key)
             partner = self._partners[key] = self._partner(settings, kept)
             unused = None if kept.get("used", settings.token) == settings.token else settings.token
@@ -85,7 +91,7 @@ class Partners:
                     self._shown.setdefault(digest, {})[key] = replace(shown, token=known)
             if kept.get("former"):
                 self._former.add(key)
-        self._version = version
+        self._read_of = read_of
         return self._partners
 
     def _partner(self, settings: PartnerSettings, kept: Members) -> Partner:
@@ -95,10 +101,6 @@ class Partners:
         return Partner(**known, endpoints={(module, role): url for module, role, url in listed},
                        is_registered=known["their_token"] is not None)
 
-    def together(self) -> AbstractContextManager[None]:
-        """What is kept inside is kept together, or not at all."""
-        return self._state.transaction()
-
     def register(self, party: str, token: str, their_token: str | None, versions_url: str | None,
                  endpoints: Endpoints, former: str | None = None) -> None:
         """Keeps both tokens of a registration, in place of what was there, and ends an offer.
@@ -106,13 +108,17 @@ class Partners:
         A `former` token shows the partner too, until it uses the new one.
         """
         self._keep(party, token=token, their_token=their_token, versions_url=versions_url, offer=None, former=former,
-                   used=self._settings[party_key(party)].token, is_decided=True)
+                   used=self._token_of(party), is_decided=True)
         self.set_endpoints(party, versions_url, endpoints)
 
     def unregister(self, party: str) -> None:
         """Ends a registration: neither token is used any more."""
         self._keep(party, token=None, their_token=None, versions_url=None, former=None,
-                   used=self._settings[party_key(party)].token, is_decided=True)
+                   used=self._token_of(party), is_decided=True)
+
+    def _token_of(self, party: str) -> str | None:
+        """The token of the configuration."""
+        return next(settings.token for settings in self._configuration.partners if same_party(settings.party, party))
 
     def offer(self, party: str) -> str:
         """A new token, of at most 64 characters, by which the partner may look up this bridge while it registers."""
@@ -139,7 +145,7 @@ class Partners:
         return {}
 
     def _keep(self, party: str, **members: object) -> None:
-        self._version = None
+        self._read_of = None
         with self._state.transaction():
             self._state.query("INSERT OR IGNORE INTO registration (party) VALUES (?)", party_key(party))
             self._state.query(f"UPDATE registration SET {', '.join(f'{name} = ?' for name in members)} WHERE party = ?",

@@ -15,6 +15,7 @@ from ..events import Outcome, Packet
 from ..node.feeder import NodeEnded
 from ..parties import party_key, party_of, same_party
 from ..state import State
+from ..tasks import Tasks
 from .client import Client
 from .envelope import SERVER_ERROR, SUCCESS, refusal_of, routing_headers
 from .exchange import NoResponse, Response
@@ -39,24 +40,29 @@ class Pulling:
     def __init__(self, client: Client, objects: Objects, state: State, is_operator: bool) -> None:
         self._client, self._objects, self._state = client, objects, state
         self._clock = client.events.clock
-        kinds = ("put_token",) if is_operator else ("put_session", "post_cdr")
-        self._woken = {(partner.party, kind): asyncio.Event() for partner in client.partners.all()
-                       for kind in kinds if partner.kind == "ocpi"}
+        self._kinds = ("put_token",) if is_operator else ("put_session", "post_cdr")
+        self._woken, self._tasks = asyncio.Event(), Tasks()
 
     def wake(self) -> None:
-        """Has the lists pulled now, as after an opening of the node."""
-        for woken in self._woken.values():
-            woken.set()
+        """Has the lists pulled now, of whoever is a partner by then, as after an opening of the node."""
+        self._woken.set()
+        self._woken = asyncio.Event()
 
     async def run(self) -> None:
-        """Pulls until it is cancelled or the bridge ends."""
-        await asyncio.gather(*(self._pull_again_and_again(*key) for key in self._woken))
+        """Pulls until it is cancelled."""
+        try:
+            while True:
+                woken = self._woken
+                for partner in self._client.partners.all():
+                    for kind in self._kinds if partner.kind == "ocpi" else ():
+                        self._tasks.begin(self._pull_again_and_again, partner.party, kind)
+                await woken.wait()
+        finally:
+            self._tasks.cancel()
 
     async def _pull_again_and_again(self, party: str, kind: str) -> None:
-        woken = self._woken[party, kind]
-        while True:
-            woken.clear()
-            partner, is_whole = self._client.partners.of(party), True
+        while self._client.partners.has(party):
+            woken, partner, is_whole = self._woken, self._client.partners.of(party), True
             try:
                 is_whole = not partner.is_registered or await self._pull(partner, kind)
             except NodeEnded:

@@ -49,10 +49,20 @@ class CentralSystem:
         self._tasks = Tasks(NodeEnded)
         self._spawn = self._tasks.begin
         self._orders = Orders(self._site, self._spawn)
-        self.expect_late = self._site.commands.expect_late
+        self.expect_late, self.evse_status = self._site.commands.expect_late, self._site.evse_status
         self._readings = Readings(self._site, state, count)
         self._watch = Watch(self._site, self._readings, self._orders.stop, self._spawn)
         self._reports = Reports(self._site, self._readings, self._watch, self._orders.stop)
+
+    def take(self, settings: OcppSettings) -> None:
+        """Takes charge points in place of those of before. Connections go on, but those of charge points that are no
+        more."""
+        for charge_point in self._site.take(settings):
+            if charge_point.connection is not None:
+                self._spawn(charge_point.connection.close)
+        for charge_point in self._site.by_id.values():
+            if charge_point.connection is not None:
+                self._spawn(self._look_after, charge_point, charge_point.connection)
 
     def application(self) -> web.Application:
         """The web application at `/ocpp/{id}`. Its shutdown closes all connections."""
@@ -125,8 +135,9 @@ class CentralSystem:
         if outcome.event["event"] == "tick":
             self._end_unused()
             self._watch.tick()
-        if outcome.event["event"] == "fault" and outcome.word in ("stepped", "idle"):
-            self._watch.stop_at(outcome.event["evse_uid"])
+        if outcome.event["event"] == "fault" and outcome.word in ("stepped", "idle") and (
+                place := self._site.place(outcome.event["evse_uid"])) is not None:
+            self._watch.stop_all(place.charge_point)
         if outcome.sent("command_response"):
             self._orders.begin()
 
@@ -170,10 +181,6 @@ class CentralSystem:
     def commands(self) -> list[Members]:
         """The commands that are open, with their `provider`, `number`, `kind`, and what they are about."""
         return [asdict(command) for command in self._site.commands.opened()]
-
-    def evse_status(self, evse_uid: str) -> str | None:
-        """`OUTOFORDER` where the charge point is away or Faulted, `INOPERATIVE` where out of service, else None."""
-        return self._site.evse_status(evse_uid)
 
     async def change_availability(self, evse_uid: str, in_service: bool) -> str:
         """Asks a charge point to take an EVSE out of service or back. The caller feeds `service`.

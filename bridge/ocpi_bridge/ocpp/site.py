@@ -1,7 +1,7 @@
 """The site of a node: its EVSEs with their charge points, what is kept of these, and how the node is told of them."""
 import asyncio
 import hashlib
-from collections.abc import Awaitable, Callable, Sequence
+from collections.abc import Awaitable, Callable
 from dataclasses import dataclass, field
 from typing import TypeVar
 
@@ -63,15 +63,23 @@ class Site:
 
     def __init__(self, settings: OcppSettings, events: Events, state: State, feeder: Feeder, objects: Objects) -> None:
         self.transactions, self.commands, self.clock = Transactions(state), Commands(state, events.clock), events.clock
-        self.by_id = {name: ChargePoint(point) for name, point in settings.charge_points.items()}
-        self._places: dict[str, Place] = {}
-        for point in self.by_id.values():
-            for number, connector in point.settings.connectors.items():
-                point.places[number] = self._places[connector.evse_uid.upper()] = Place(point, number, connector)
+        self.by_id: dict[str, ChargePoint] = {}
+        self.take(settings)
         self._state, self._events, self._feeder, self._objects = state, events, feeder, objects
+        self.all_living = objects.living_sessions
         # Until when each question awaits its answer, and whether a stop of the node ended that.
         self._questions: dict[tuple[str, int], tuple[float, asyncio.Future[bool]]] = {}
         self._was_open = False
+
+    def take(self, settings: OcppSettings) -> list[ChargePoint]:
+        """Takes charge points in place of those of before, whose connections stay. Gives those that are no more."""
+        before, self.by_id, self._places = self.by_id, {}, dict[str, Place]()
+        for name, of_point in settings.charge_points.items():
+            point = self.by_id[name] = before.get(name) or ChargePoint(of_point)
+            point.settings, point.places = of_point, {}
+            for number, connector in of_point.connectors.items():
+                point.places[number] = self._places[connector.evse_uid.upper()] = Place(point, number, connector)
+        return [point for name, point in before.items() if name not in self.by_id]
 
     def place(self, evse_uid: str | None) -> Place | None:
         """Where an EVSE is. None where no charge point has it."""
@@ -162,10 +170,6 @@ class Site:
         """The session of an id, where it is PENDING or ACTIVE."""
         session = self.session(session_id)
         return session if session is not None and session["status"] in ("PENDING", "ACTIVE") else None
-
-    def all_living(self) -> Sequence[Session]:
-        """The sessions that are PENDING or ACTIVE."""
-        return self._objects.living_sessions()
 
     async def accept(self, command: Command) -> Command:
         """Feeds that a command is carried out, and gives it as it stands then: a start has a session, or had ended."""

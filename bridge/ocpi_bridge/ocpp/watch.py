@@ -69,12 +69,6 @@ class Watch:
             if transaction.state != NEW and self._site.living(transaction.session_id) is None:
                 self._stop(transaction)
 
-    def stop_at(self, evse_uid: str) -> None:
-        """The same of the charge point that has an EVSE."""
-        place = self._site.place(evse_uid)
-        if place is not None:
-            self.stop_all(place.charge_point)
-
     async def _end_all(self, place: Place) -> None:
         """Ends what runs at a connector, where that is still Available."""
         async def end() -> None:
