@@ -1,5 +1,6 @@
 pub mod DoneLines
 pub mod Stops
+pub mod SetupLines
 pub mod NodeTurns
 pub mod ListTurns
 pub mod NodeAnswers

@@ -7,7 +7,6 @@ use Rattle.ocpi_types.specs.declared.node_events.NodeEventKind.TheVariants as ev
 use Rattle.json_text.specs.declared.fault.JsonFault.{JsonFault}
 use Rattle.json_text.specs.declared.fault.JsonFault.TheVariants.{Memory as LineMemory}
 use Rattle.json_text.specs.Fault.{Read}
-use Rattle.node_lines.specs.ListLines.{IsListLine}
 use Rattle.node_lines.specs.NodeLines.{node_line_in}
 use Rattle.node_lines.specs.declared.node_line.NodeLine.TheVariants.{Several}
 use Rattle.node_steps.specs.declared.fault.NodeFault.{NodeFault}
@@ -18,10 +17,7 @@ use Rattle.world_steps.specs.World.{NodeState}
 use Rattle.history_laws.specs.Replays.{Brings}
 use Rattle.line_runs.specs.declared.run.Turn.{Turn}
 use Rattle.line_runs.specs.declared.run.Turn.TheVariants.{Taken, Refused}
-use Rattle.node_store.specs.Faults.{IsCommitFault, counted_fault}
-use Rattle.node_store.specs.declared.fault.StoreFault.{StoreFault}
-use Rattle.node_store.specs.declared.fault.StoreFault.TheVariants.{Memory}
-use Rattle.stored_nodes.specs.Keepers.{Commits, Declines, Keeper}
+use Rattle.stored_nodes.specs.Keepers.{Commits, Keeper}
 use Rattle.stored_nodes.specs.Transactions.{changes_of_each}
 use Rattle.program_lines.specs.Writing.{packet_lines}
 use Rattle.node_runs.specs.DoneLines.{all_line, idle_line, malformed_line, refused_line, skipped_line}
@@ -85,25 +81,12 @@ pub record CarriesOut (party : List ℕ) (first : NodeState) (number : ℕ) (eve
   pub done : AreDone party first number events turn lines did after
   pub written : out ≡ lines ++ all_line number (length events)
 
--- The line holds several events, or none. What they changed was committed at once, or nothing was changed and the
+-- The line holds several events, or none. What they changed was committed at once with the number of the line, or nothing was changed and the
 -- keeper was not asked; and then what became of them is written.
 pub record ListTurn {K : Type 0} (keeper : Keeper K) (now : Running K) (number : ℕ) (line : List ℕ) (turn : Turn) (out : List ℕ) (next : Running K) : Type 0 where
   pub events : List (Read NodeEvent)
   pub read : node_line_in line ≡ Ok (Several events)
   pub did : List Deed
   pub carries : CarriesOut now.party now.node.state number events turn out did next.node.state
-  pub commits : Commits keeper (changes_of_each did) now.node.keep next.node.keep
+  pub commits : Commits keeper (Some number) (changes_of_each did) now.node.keep next.node.keep
   pub party : next.party ≡ now.party
-
--- Of a line of several events nothing is kept and nothing is written. This is why, and the keeper of the node that ended.
-pub data LosesLine {K : Type 0} (keeper : Keeper K) (now : Running K) (number : ℕ) (line : List ℕ) (fault : StoreFault) (keep : K) : Type 0 where
-  -- memory ran out for reading the line, before it was known what it holds
-  WasUnread : IsListLine line → fault ≡ Memory → keep ≡ now.node.keep → LosesLine keeper now number line fault keep
-  -- memory ran out for its events, before the keeper was asked
-  WasStarved : (events : List (Read NodeEvent)) → node_line_in line ≡ Ok (Several events) → fault ≡ Memory → keep ≡ now.node.keep
-      → LosesLine keeper now number line fault keep
-  -- the keeper did not take what they changed, whatever the fault of its commit
-  WasDeclined : (events : List (Read NodeEvent)) → node_line_in line ≡ Ok (Several events)
-      → (turn : Turn) (out : List ℕ) (did : List Deed) (after : NodeState) → CarriesOut now.party now.node.state number events turn out did after
-      → changes_of_each did ≢ [] → IsCommitFault fault → Declines keeper (changes_of_each did) (counted_fault fault) now.node.keep keep
-      → LosesLine keeper now number line fault keep

@@ -1,5 +1,5 @@
 -- What holds of a node over its keeper holds after each event, whether its changes were committed or not.
-use Rattle.std.proofs.Common.{◌≡◌, ◌≢◌, ◌⊎◌, ◌∙◌, ℕ, List, [], inl, inr, refl, sym, ap, subst}
+use Rattle.std.proofs.Common.{◌≡◌, ◌≢◌, ◌⊎◌, ◌∙◌, ℕ, List, [], Option, inl, inr, refl, sym, ap, subst}
 use Rattle.std.specs.FinMap.{empty}
 use Rattle.std.specs.Prelude.{All, Contains, Some}
 use Rattle.ocpi_types.specs.declared.rows.Change.{Change}
@@ -47,25 +47,25 @@ module _ {K : Type 0} (keeper : Keeper K) (held : ChangesAreHeld) (start : Nodes
   }
 
   -- it took changes, which make what it kept the rows of the node now
-  pub taken : (old new : Stored K) (changes : List Change) → CanStartAgain new.state → (keeper.is_honest new.keep → HoldsRows (changed_all (keeper.content old.keep) changes) new.state) →
-      Takes keeper changes old.keep new.keep → IsStored keeper new
-  taken old new changes starts holds takes = record {
+  pub taken : (line : Option ℕ) (old new : Stored K) (changes : List Change) → CanStartAgain new.state → (keeper.is_honest new.keep → HoldsRows (changed_all (keeper.content old.keep) changes) new.state) →
+      Takes keeper line changes old.keep new.keep → IsStored keeper new
+  taken line old new changes starts holds takes = record {
     starts = starts;
     holds = λ honest. subst (λ (c : Content). HoldsRows c new.state) (sym (takes.makes honest)) (holds honest);
     stops = λ honest c may. inl (takes.settled honest c may);
   }
 
   -- the changes of a step were committed
-  pub took : (old new : Stored K) (x : NodeEvent) → IsStored keeper old → NodeStep old.state x new.state → Commits keeper (changes_of x) old.keep new.keep → IsStored keeper new
-  took old new x h step (Nothing none same) = unasked old new h (start old.state new.state x h.starts step) (alike.by_steps old.state new.state x step none) same
-  took old new x h step (Taken some takes) =
-      taken old new (changes_of x) (start old.state new.state x h.starts step)
+  pub took : (line : Option ℕ) (old new : Stored K) (x : NodeEvent) → IsStored keeper old → NodeStep old.state x new.state → Commits keeper line (changes_of x) old.keep new.keep → IsStored keeper new
+  took line old new x h step (Nothing none same) = unasked old new h (start old.state new.state x h.starts step) (alike.by_steps old.state new.state x step none) same
+  took line old new x h step (Taken some takes) =
+      taken line old new (changes_of x) (start old.state new.state x h.starts step)
       (λ honest. held (keeper.content old.keep) old.state new.state x h.starts.sound (h.holds (takes.earlier honest)) step takes.again) takes
 
   -- and were not: the node is as it was
-  pub declined : (old : Stored K) (after : NodeState) (k : K) (x : NodeEvent) (rise : ℕ → ℕ) → IsStored keeper old → NodeStep old.state x after → Declines keeper (changes_of x) rise old.keep k →
+  pub declined : (line : Option ℕ) (old : Stored K) (after : NodeState) (k : K) (x : NodeEvent) (rise : ℕ → ℕ) → IsStored keeper old → NodeStep old.state x after → Declines keeper line (changes_of x) rise old.keep k →
       IsStored keeper (record { state = old.state; keep = k })
-  declined old after k x rise h step d = record {
+  declined line old after k x rise h step d = record {
     starts = h.starts;
     holds = λ honest. subst (λ (c : Content). HoldsRows c old.state) (sym (d.same honest)) (h.holds (d.earlier honest));
     stops = λ honest c may.

@@ -1,6 +1,6 @@
 -- Events whose changes are committed together: what holds of the node meanwhile and once they are, and what a refused
 -- commit leaves.
-use Rattle.std.proofs.Common.{◌≡◌, ◌∙◌, ◌++◌, ℕ, List, [], ◌∷◌, inl, inr, refl, sym, ap, subst, append-nil}
+use Rattle.std.proofs.Common.{◌≡◌, ◌∙◌, ◌++◌, ℕ, List, [], ◌∷◌, Option, inl, inr, refl, sym, ap, subst, append-nil}
 use Rattle.std.specs.List.{AllByRecursion}
 use Rattle.std.specs.Prelude.{All}
 use Rattle.std.proofs.lemmas.List.Concat.{flat_map-append}
@@ -83,12 +83,12 @@ module _ {K : Type 0} (keeper : Keeper K) where
   module _ (held : ChangesAreHeld) (start : NodesCanStartAgain) where
     -- ---- once they are committed
 
-    pub committed : RestartsAreHeld → AreClasses → (p : Pending K) (k : K) → IsPending keeper p → Commits keeper p.changes p.keep k → IsStored keeper (record { state = p.state; keep = k })
-    committed alike classes p k h (Nothing none same) =
+    pub committed : RestartsAreHeld → AreClasses → (line : Option ℕ) (p : Pending K) (k : K) → IsPending keeper p → Commits keeper line p.changes p.keep k → IsStored keeper (record { state = p.state; keep = k })
+    committed alike classes line p k h (Nothing none same) =
         unasked keeper held start alike classes (record { state = h.first; keep = p.keep }) (record { state = p.state; keep = k }) h.stored
         (starts_by_events start h.first p.state h.events h.did h.stored.starts) (alike_by_events alike classes h.first p.state h.events h.did (sym h.gathers ∙ none)) same
-    committed alike classes p k h (Taken some takes) =
-        taken keeper held start alike classes (record { state = h.first; keep = p.keep }) (record { state = p.state; keep = k }) p.changes
+    committed alike classes line p k h (Taken some takes) =
+        taken keeper held start alike classes line (record { state = h.first; keep = p.keep }) (record { state = p.state; keep = k }) p.changes
         (starts_by_events start h.first p.state h.events h.did h.stored.starts)
         (λ honest. subst (λ (l : List Change). HoldsRows (changed_all (keeper.content p.keep) l) p.state) (sym h.gathers)
         (held_by_events held start (keeper.content p.keep) h.first p.state h.events h.stored.starts (h.stored.holds (takes.earlier honest)) h.did (subst (All IsReadAgain) h.gathers takes.again)))
@@ -97,7 +97,7 @@ module _ {K : Type 0} (keeper : Keeper K) where
     -- ---- what a refused commit leaves
 
     pub all_or_nothing : LeavesAllOrNothing keeper
-    all_or_nothing old events after rise k h run d = record {
+    all_or_nothing line old events after rise k h run d = record {
       starts = h.starts;
       holds = λ honest. subst (λ (c : Content). HoldsRows c old.state) (sym (d.same honest)) (h.holds (d.earlier honest));
       stops = λ honest c may.
