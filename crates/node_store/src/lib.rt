@@ -2,8 +2,8 @@
 //!
 //! ```
 //! let mut keep = ListKeep::new(alloc);
-//! keep.commit(world.changes())?;
-//! let rows = keep.load()?;
+//! keep.commit(world.changes(), LineNumber::new(number))?;
+//! let Kept { rows, line } = keep.load()?;
 //! ```
 //!
 //! # Promises
@@ -75,6 +75,7 @@ mod editing;
 mod fault;
 mod keep;
 mod laws;
+mod line_number;
 mod list_keep;
 mod moving;
 mod stored;
@@ -83,8 +84,9 @@ mod table_opening;
 mod unopened;
 
 pub use fault::{Cause, StoreFault};
-pub use keep::Keep;
-pub use laws::{closed_files_are_found, opening_keeps_rows};
+pub use keep::{Keep, Kept};
+pub use laws::{closed_files_are_found, numbers_are_no_rows, opening_keeps_rows};
+pub use line_number::LineNumber;
 pub use list_keep::ListKeep;
 pub use table_keep::TableKeep;
 pub use unopened::Unopened;

@@ -9,12 +9,12 @@ ghost use Rattle.ocpi_types.specs.Rows.{key_of};
 ghost use Rattle.row_table.specs.Contents.{IsWhole, content_of};
 ghost use Rattle.row_table.specs.Kept.{IsClean, Leaves, LeavesWhole, content, texts};
 ghost use Rattle.row_table.specs.Opening.{ShowsTheSame};
-ghost use Rattle.node_store.specs.Contents.{is_row};
 ghost use Rattle.node_store.specs.Faults.{IsListFault};
 ghost use Rattle.node_store.specs.Moved.{HasBadText, IsMovedTo, is_cdr};
-ghost use Rattle.node_store.specs.Moving.{HasBadEntry, IsMovable, edits_of_read, text_edits};
+ghost use Rattle.node_store.specs.Moving.{HasBadEntry, IsBadEntry, MayMove, edits_of_read, text_edits};
 
 use crate::fault::StoreFault;
+use crate::line_number::is_line_place;
 use crate::stored::row_of_1;
 use crate::table_keep::fault_of;
 use ocpi_json::{Scratch, write_row};
@@ -55,7 +55,7 @@ fn add_edit(
     Ok(())
 }
 
-/// Reads one text, and adds the edit that it takes, if any.
+/// Reads one text, and adds the edit that it takes, if any. What stands at the place of the number is passed over.
 fn add_edit_of(
     alloc: Global,
     scratch: &mut Scratch,
@@ -63,10 +63,13 @@ fn add_edit_of(
     edits: &mut Vec<TextEdit>,
 ) -> Result<(), StoreFault>
     ensures edits { OnOk result (edits.new.items ≡ edits.old.items ++ text_edits text.now) }
-    ensures movable { OnOk result (IsMovable text.now) }
-    ensures bad { IfErr result (λ e. e ≡ StoreFault.BadRow → is_row (row_in_1 text.now.0.0 text.now.0.1 text.now.1) ≡ false) }
+    ensures movable { OnOk result (MayMove text.now) }
+    ensures bad { IfErr result (λ e. e ≡ StoreFault.BadRow → IsBadEntry text.now) }
     ensures fault { IfErr result IsListFault }
 {
+    if is_line_place(text.kind(), text.name()) {
+        return Ok(());
+    }
     let row = row_of_1(
         alloc,
         scratch,
@@ -81,7 +84,7 @@ fn add_edit_of(
 /// The edits that texts of layout 1 take: a charge detail record is written anew, and all others stay.
 fn edits_of(alloc: Global, texts: &[TextRow]) -> Result<Vec<TextEdit>, StoreFault>
     ensures edits { IfOk result (λ v. v.items ≡ flat_map text_edits texts.now) }
-    ensures movable { IfOk result (λ v. All IsMovable texts.now) }
+    ensures movable { IfOk result (λ v. All MayMove texts.now) }
     ensures bad { IfErr result (λ e. e ≡ StoreFault.BadRow → HasBadEntry texts.now) }
     ensures fault { IfErr result IsListFault }
 {
