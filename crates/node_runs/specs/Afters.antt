@@ -1,5 +1,6 @@
 -- What a line behind the setup left, and how the program goes on with it.
 use Rattle.std.specs.Prelude.{◌≡◌, ◌≢◌, ◌⊎◌, ℕ, List, [], ◌++◌, Bool, true, false, Option, None, Some, Result, Ok, Err}
+use Rattle.std.specs.declared.alloc.AllocError.{AllocError}
 use Rattle.line_runs.specs.declared.run.Turn.{Turn}
 use Rattle.line_runs.specs.declared.run.Turn.TheVariants.{Refused, Taken}
 use Rattle.json_text.specs.Fault.{Read}
@@ -30,7 +31,22 @@ abbrev pub IsAfter : {K : Type 0} → Keeper K → Running K → ℕ → List �
 IsAfter keeper now number line before after (Runs next turn) = (out : List ℕ) × (after ≡ before ++ out) × LineTurn keeper now number line turn out next
 IsAfter keeper now number line before after (Lost keep stop) = LosesLine keeper now number line stop keep × IsStored keeper now.node × (after ≡ before)
 
+-- This text is told behind what was written before, and the node runs on; or memory ran out for that, and it has ended.
+abbrev pub IsTold : {K : Type 0} → Running K → Turn → List ℕ → List ℕ → List ℕ → After K → Type 0
+IsTold now turn text before after (Runs next answered) = (next ≡ now) × (answered ≡ turn) × (after ≡ before ++ text)
+IsTold now turn text before after (Lost keep stop) = (keep ≡ now.node.keep) × (stop ≡ Memory) × (after ≡ before)
+
+-- where the node runs on
+abbrev pub IfRuns : {K : Type 0} → After K → Type 0 → Type 0
+IfRuns (Runs next answered) P = P
+IfRuns (Lost keep stop) P = Unit {0}
+
 -- ---- a line of one event
+
+-- it was told, unless memory ran out for that
+abbrev pub told : Result (Unit {0}) AllocError → Turn → Answered
+told (Ok written) turn = Told turn
+told (Err starved) turn = Untold
 
 -- What became of the event of a line: it is told behind what was written before; memory ran out for telling it; or it
 -- was not done, for want of memory or because the keeper did not take its changes.

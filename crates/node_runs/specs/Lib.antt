@@ -5,6 +5,7 @@ pub mod NodeTurns
 pub mod ListTurns
 pub mod NodeAnswers
 pub mod Afters
+pub mod Stages
 pub mod NodeCut
 pub mod NodeOutputs
 pub mod NodeHistories

@@ -138,6 +138,9 @@ abbrev pub ended_stage : {K : Type 0} → Stage K → List ℕ → Option K → 
 ended_stage s asked spare stop =
     record { wanted = s.wanted; opened = s.opened ++ asked; running = None; spare = spare; stop = stop; number = s.number; known = s.known }
 
+abbrev pub starved_stage : {K : Type 0} → Stage K → Stage K
+starved_stage s = record { wanted = s.wanted; opened = s.opened; running = None; spare = s.spare; stop = Some Memory; number = s.number; known = s.known }
+
 -- The first line opens the keeper and the node, and says so. Where it is no setup, or the node does not begin, it is
 -- the last line; so it is where memory runs out for reading it or for what is to be written, of which nothing is.
 pub data SetupTurn {K : Type 0} (keeper : Keeper K) (source : Source K) (s : Stage K)
@@ -155,7 +158,7 @@ pub data SetupTurn {K : Type 0} (keeper : Keeper K) (source : Source K) (s : Sta
   NoSetup : (fault : JsonFault) → FailsToRead fault (numbered_setup_in line) → fault ≢ LineMemory
       → turn ≡ Ended → out ≡ malformed_line 1 None fault → next ≡ s
       → SetupTurn keeper source s line turn out next
-  Unread : turn ≡ Ended → out ≡ [] → next ≡ ended_stage s [] s.spare (Some Memory)
+  Unread : turn ≡ Ended → out ≡ [] → next ≡ starved_stage s
       → SetupTurn keeper source s line turn out next
 
 -- ---- each event

@@ -50,6 +50,13 @@ impl<K: Keep> Model for Running<K> {
 }
 
 impl<K: Keep> Running<K> {
+    /// What holds of its node over the keeper, which the node's type keeps. It does nothing.
+    pub fn is_stored(&self)
+        ensures { IsStored (keeper_of K.content K.is_honest K.refusals K.may_leave) self.now.node }
+    {
+        self.node.is_stored();
+    }
+
     /// Its keeper. The node ends.
     pub fn into_keep(self) -> K
         ensures value { result ≡ self.node.keep }

@@ -6,7 +6,7 @@ ghost use Rattle.node_lines.specs.NodeLines.{node_line_in};
 ghost use Rattle.node_lines.specs.declared.node_line.NodeLine.TheVariants.{One};
 ghost use Rattle.program_lines.specs.Writing.{packet_lines};
 ghost use Rattle.ocpi_text.specs.Text.{key};
-ghost use Rattle.node_runs.specs.Afters.{IsAnswered};
+ghost use Rattle.node_runs.specs.Afters.{IsAnswered, told};
 ghost use Rattle.node_runs.specs.NodeTurns.{applied_lines, step_line};
 
 use crate::beginning::Running;
@@ -44,7 +44,7 @@ pub fn answer_event<K: Keep>(
         → IsAnswered (keeper_of K.content K.is_honest K.refusals K.may_leave) running.old number line (string_bytes text.old) (string_bytes text.new) result running.new }
 {
     if !event.node.is_same(&running.party) {
-        return told(write_skipped(number.value(), None, text), Turn::Taken);
+        return told(write_skipped(number.value().value(), None, text), Turn::Taken);
     }
     answer_own(alloc, running, event, number, text)
 }
@@ -73,11 +73,11 @@ fn answer_own<K: Keep>(
 {
     match running.node.apply(&event.kind, Some(number)) {
         Ok(applied) => told(
-            write_applied(alloc, applied, number.value(), None, text),
+            write_applied(alloc, applied, number.value().value(), None, text),
             Turn::Taken,
         ),
         Err(ApplyFault::Core(fault)) => told(
-            write_refused(number.value(), None, fault, text),
+            write_refused(number.value().value(), None, fault, text),
             Turn::Refused,
         ),
         Err(ApplyFault::Store(fault)) => Answered::Declined(fault),

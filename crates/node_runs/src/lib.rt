@@ -43,6 +43,7 @@ mod fault;
 pub mod laws;
 mod list_lines;
 mod node_run;
+mod setup_line;
 
 pub use fault::{NodeRunFault, NodeStop, UNKNOWN_PARTY, status_after_node};
 pub use node_run::run_node;

@@ -1,6 +1,6 @@
 //! What a keeper of a node's rows is.
 
-ghost use Rattle.std.specs.Prelude.{◌≡◌, ◌≢◌, ◌⊎◌, All, List, ℕ, [], IfErr, IfOk, OnErr, OnOk, None, Some};
+ghost use Rattle.std.specs.Prelude.{◌≡◌, ◌≢◌, ◌≤◌, ◌⊎◌, All, List, ℕ, [], IfErr, IfOk, OnErr, OnOk, None, Some};
 ghost use Rattle.node_store.specs.Contents.{Content, IsReadAgain, changed_all, line_of, marked, rows_of};
 ghost use Rattle.node_store.specs.Faults.{IsCommitFault, counted};
 ghost use Rattle.node_store.specs.declared.fault.StoreFault.TheVariants.{BadRow, OldLayout};
@@ -38,6 +38,7 @@ pub trait Keep {
     /// text is no row of its kind and key, or that of the number is no number from 2.
     fn load(&mut self) -> Result<Kept, StoreFault>
         ensures rows { Self.is_honest self.new → IfOk result (λ k. rows_of (Self.content self.old) ≡ Some k.rows.items) }
+        ensures first { IfOk result (λ k. 1 ≤ k.line) }
         ensures line { Self.is_honest self.new → IfOk result (λ k. line_of (Self.content self.old) ≡ Some k.line) }
         ensures bad { Self.is_honest self.new → IfErr result (λ e. e ≡ BadRow → (rows_of (Self.content self.old) ≡ None) ⊎ (line_of (Self.content self.old) ≡ None)) }
         ensures layout { IfErr result (λ e. e ≢ OldLayout) }

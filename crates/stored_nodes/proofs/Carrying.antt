@@ -85,9 +85,9 @@ module _ {K : Type 0} (keeper : Keeper K) where
   unchanged : (old new : Stored K) → new.state ≡ old.state → new.keep ≡ old.keep → new ≡ old
   unchanged old new s k = ap (λ (n : NodeState). record { state = n; keep = new.keep }) s ∙ ap (λ (q : K). record { state = old.state; keep = q }) k
 
-  pub failed : {A : Type 0} (old new : Stored K) (k : NodeEventKind) (i : NodeInput) (x : NodeWork) (r : Result A ApplyFault) → SaysTheSame i k → IsWork old.state i x →
-      OnErr r (new.state ≡ old.state) → IfErr r (λ f. IsNotCarriedOut keeper line x old.keep f new.keep) → IfErr r (λ f. Fails keeper old k f new)
-  failed old new k i x (Ok a) says is same err = tt
-  failed old new k i x (Err (fault.Store refusal)) says is same err = (err.0, loses old new k i x (counted_fault refusal) says is same err.1)
-  failed old new k i x (Err (fault.Core refusal)) says is same err = absurd err
-  failed old new k i x (Err fault.Memory) says is same left = unchanged old new same left
+  pub failed : {A : Type 0} (line : Option ℕ) (old new : Stored K) (k : NodeEventKind) (i : NodeInput) (x : NodeWork) (r : Result A ApplyFault) → SaysTheSame i k → IsWork old.state i x →
+      OnErr r (new.state ≡ old.state) → IfErr r (λ f. IsNotCarriedOut keeper line x old.keep f new.keep) → IfErr r (λ f. Fails keeper line old k f new)
+  failed line old new k i x (Ok a) says is same err = tt
+  failed line old new k i x (Err (fault.Store refusal)) says is same err = (err.0, loses line old new k i x (counted_fault refusal) says is same err.1)
+  failed line old new k i x (Err (fault.Core refusal)) says is same err = absurd err
+  failed line old new k i x (Err fault.Memory) says is same left = unchanged old new same left

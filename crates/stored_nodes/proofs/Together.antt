@@ -18,7 +18,7 @@ use Rattle.stored_nodes.specs.Keepers.{Commits, Declines, Keeper, Nothing, Taken
 use Rattle.stored_nodes.specs.Stored.{IsStored, Stored}
 use Rattle.stored_nodes.specs.Transactions as transactions
 use Rattle.stored_nodes.specs.Transactions.{IsAllOrNothing, IsPending, KeepsAllOrNothing, LeavesAllOrNothing, Pending, changes_of_each}
-use Rattle.stored_nodes.proofs.Staying.{taken, unasked}
+use Rattle.stored_nodes.proofs.Staying.{marked_holds, taken, unasked}
 
 -- ---- lists in two parts
 
@@ -92,7 +92,7 @@ module _ {K : Type 0} (keeper : Keeper K) where
         (starts_by_events start h.first p.state h.events h.did h.stored.starts)
         (λ honest. subst (λ (l : List Change). HoldsRows (changed_all (keeper.content p.keep) l) p.state) (sym h.gathers)
         (held_by_events held start (keeper.content p.keep) h.first p.state h.events h.stored.starts (h.stored.holds (takes.earlier honest)) h.did (subst (All IsReadAgain) h.gathers takes.again)))
-        takes
+        h.stored takes
 
     -- ---- what a refused commit leaves
 
@@ -107,7 +107,9 @@ module _ {K : Type 0} (keeper : Keeper K) where
               | inr more ↦ transactions.IsAllOrNothing.Earlier more
             ]
             | inr made ↦ transactions.IsAllOrNothing.All
-                (subst (λ (b : Content). HoldsRows b after) (sym made.0) (held_by_events held start (keeper.content old.keep) old.state after events h.starts (h.holds (d.earlier honest)) run made.1))
+                (subst (λ (b : Content). HoldsRows b after) (sym made.0)
+                (marked_holds line (changed_all (keeper.content old.keep) (changes_of_each events)) after
+                (held_by_events held start (keeper.content old.keep) old.state after events h.starts (h.holds (d.earlier honest)) run made.1)))
                 (starts_by_events start old.state after events run h.starts)
           ];
     }

@@ -1,6 +1,7 @@
 -- What is said of a keeper of any type: what it keeps, which is said where it is honest; how many calls it has refused;
 -- and what is kept where a stop comes.
-use Rattle.std.specs.Prelude.{◌≡◌, ◌≢◌, ◌⊎◌, ℕ, List, [], Option, All}
+use Rattle.std.specs.Prelude.{◌≡◌, ◌≢◌, ◌≤◌, ◌⊎◌, ℕ, List, [], Option, None, Some, All}
+use Rattle.ocpi_text.specs.Whole.{max_whole}
 use Rattle.ocpi_types.specs.declared.rows.Change.{Change}
 use Rattle.node_store.specs.Contents.{Content, IsReadAgain, changed_all, marked}
 
@@ -24,12 +25,18 @@ pub record KeepsOn {K : Type 0} (keeper : Keeper K) (before after : K) : Type 0 
   pub same : keeper.is_honest after → keeper.content after ≡ keeper.content before
   pub stops : keeper.is_honest after → (c : Content) → keeper.may_leave after c → keeper.may_leave before c
 
+-- the number of a line that can take hold, where one is told
+abbrev pub IsLine : Option ℕ → Type 0
+IsLine None = Unit {0}
+IsLine (Some n) = (2 ≤ n) × (n ≤ max_whole)
+
 -- It took these changes, which can be read again, with the number of their line, where one is told; and a stop leaves
 -- just them.
 pub record Takes {K : Type 0} (keeper : Keeper K) (line : Option ℕ) (changes : List Change) (before after : K) : Type 0 where
   pub earlier : keeper.is_honest after → keeper.is_honest before
   pub makes : keeper.is_honest after → keeper.content after ≡ marked line (changed_all (keeper.content before) changes)
   pub again : All IsReadAgain changes
+  pub is_line : IsLine line
   pub counted : keeper.refusals after ≡ keeper.refusals before
   pub settled : IsSettled keeper after
 
@@ -44,6 +51,7 @@ pub data Commits {K : Type 0} (keeper : Keeper K) (line : Option ℕ) (changes :
 pub record Declines {K : Type 0} (keeper : Keeper K) (line : Option ℕ) (changes : List Change) (rise : ℕ → ℕ) (before after : K) : Type 0 where
   pub earlier : keeper.is_honest after → keeper.is_honest before
   pub same : keeper.is_honest after → keeper.content after ≡ keeper.content before
+  pub is_line : IsLine line
   pub counted : keeper.refusals after ≡ rise (keeper.refusals before)
   pub stops : keeper.is_honest after → (c : Content) → keeper.may_leave after c →
       keeper.may_leave before c ⊎ ((c ≡ marked line (changed_all (keeper.content before) changes)) × All IsReadAgain changes)

@@ -1,5 +1,5 @@
 -- A node whose rows a keeper keeps: what holds of it at any time, and what an event makes of it.
-use Rattle.std.specs.Prelude.{◌≡◌, ◌≢◌, ◌⊎◌, ◌↔◌, ℕ, List, [], Bool, true, false, IsTrue, Option, None, Some, IsSome, length}
+use Rattle.std.specs.Prelude.{◌≡◌, ◌≢◌, ◌≤◌, ◌⊎◌, ◌↔◌, ℕ, List, [], Bool, true, false, IsTrue, Option, None, Some, IsSome, length}
 use Rattle.ocpi_types.specs.declared.node_events.NodeEventKind.{NodeEventKind}
 use Rattle.ocpi_types.specs.declared.node_events.NodeEventKind.TheVariants as event
 use Rattle.ocpi_types.specs.declared.packet.Packet.{Packet}
@@ -47,12 +47,15 @@ pub record HoldsOneMore (c : Content) (now : NodeState) : Type 0 where
   pub alike : StoresAlike u now
   pub step : NodeStep u event v
   pub holds : HoldsRows c v
+  pub numbered : IsSome (line_of c)
   pub starts : CanStartAgain v
 
--- What is kept is the rows of the node. A stop leaves that, or what one event more would have made of it.
+-- What is kept is the rows of the node, and the number of a line. A stop leaves that, or what one event more would have
+-- made of it.
 pub record IsStored {K : Type 0} (keeper : Keeper K) (n : Stored K) : Type 0 where
   pub starts : CanStartAgain n.state
   pub holds : keeper.is_honest n.keep → HoldsRows (keeper.content n.keep) n.state
+  pub numbered : keeper.is_honest n.keep → IsSome (line_of (keeper.content n.keep))
   pub stops : keeper.is_honest n.keep → (c : Content) → keeper.may_leave n.keep c → (c ≡ keeper.content n.keep) ⊎ HoldsOneMore c n.state
 
 -- ---- what an event makes of it
@@ -144,6 +147,7 @@ pub record Reopens {K : Type 0} (keeper : Keeper K) (setup : List SetupNode) (me
   pub list : List Row
   pub reads : keeper.is_honest new.keep → rows_of (keeper.content before) ≡ Some list
   pub counts : rows ≡ length list
+  pub first : 1 ≤ line
   pub told : keeper.is_honest new.keep → line_of (keeper.content before) ≡ Some line
   pub made : IsMadeOfRows setup member list new.state
   pub keeps : KeepsOn keeper before new.keep
@@ -170,4 +174,4 @@ pub record IsKeptFor (setup : List SetupNode) (member : SetupNode) (c : Content)
   pub starts : CanStartAgain s
   pub of_member : IsOfOpening (opening_of setup member) s
   pub holds : HoldsRows c s
-  pub number : IsSome (line_of c)
+  pub numbered : IsSome (line_of c)

@@ -2,7 +2,7 @@
 
 ghost use Rattle.std.specs.Prelude.{◌≡◌, ◌↔◌, ◌≢◌, List, ℕ, Contains, IfErr, IfOk, IsTrue, OnErr, OnOk, []};
 ghost use Rattle.std.specs.FinMap.{empty};
-ghost use Rattle.stored_nodes.specs.Keepers.{Commits, Declines, IsSettled, KeepsOn, keeper_of};
+ghost use Rattle.stored_nodes.specs.Keepers.{Commits, Declines, IsLine, IsSettled, KeepsOn, keeper_of};
 ghost use Rattle.stored_nodes.specs.Stored.{
   Applies,
   Fails,
@@ -111,6 +111,15 @@ pub struct Unopened<K> {
     pub fault: ReopenFault,
 }
 
+/// What holds of the number of a line, which its type keeps. It does nothing.
+fn is_line(line: Option<LineNumber>)
+    ensures { IsLine line }
+{
+    if let Some(number) = line {
+        let _number = number.value();
+    }
+}
+
 /// Commits changes with the number of their line, where there are changes, and says whether there are. A refusal
 /// changes nothing.
 pub(crate) fn commit<K: Keep>(
@@ -126,6 +135,7 @@ pub(crate) fn commit<K: Keep>(
     if changes.is_empty() {
         return Ok(false);
     }
+    is_line(line);
     match keep.commit(changes, line) {
         Ok(()) => Ok(true),
         Err(fault) => Err(fault),
