@@ -7,7 +7,7 @@ use Rattle.node_store.specs.Contents.{Content, changed, changed_all}
 use Rattle.node_store.specs.Placing.{placed_all, placed_of, set_text}
 use Rattle.node_store.specs.declared.stored.Placed.{Placed}
 
-one_placed : (c : Content) (x : Change) → set_text c (placed_of x).place (placed_of x).row ≡ changed c x
+pub one_placed : (c : Content) (x : Change) → set_text c (placed_of x).place (placed_of x).row ≡ changed c x
 one_placed c (change.Put r) = refl
 one_placed c (change.Drop k) = refl
 
