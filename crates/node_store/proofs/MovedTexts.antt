@@ -24,6 +24,7 @@ use Rattle.node_store.specs.declared.fault.StoreFault.{StoreFault}
 use Rattle.node_store.specs.declared.fault.StoreFault.TheVariants.{Refused, BadRow, OldLayout, Memory}
 use Rattle.ocpi_json.proofs.RowLemmas.{row_found_1}
 use Rattle.node_store.proofs.Alike.{row_alike}
+use Rattle.node_store.proofs.Edited.{set_more}
 use Rattle.node_store.proofs.Numbered.{no_row_place, one_place, same_place}
 
 -- ---- one text
@@ -62,10 +63,6 @@ one_more es i e front more lt is made so_far =
     no_more : (l : List Edit) → l ++ [] ≡ l
     no_more [] = refl
     no_more (x ∷ xs) = ap (λ (l : List Edit). x ∷ l) (no_more xs)
-
-set_more : (c : Content) (a b : List Edit) → set_all c (a ++ b) ≡ set_all (set_all c a) b
-set_more c [] b = refl
-set_more c (x ∷ xs) b = set_more (set c x) xs b
 
 -- what stands elsewhere stays
 put_apart : (b : Bool) (p k : RowPlace) (v : List ℕ) (d : Content) → eq_by_cmp text_pair_cmp p k ≡ false → get (set_all d (cond b ((k, Some v) ∷ []) [])) p ≡ get d p
