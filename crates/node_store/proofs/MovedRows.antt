@@ -105,7 +105,7 @@ all_rows old new moved =
     alike e.0 e.1 (get new e.0) (subst (λ (o : Option (List ℕ)). MovesTo e.0 o (get new e.0)) stands (moved e.0)))
 
 none_moved : (p : RowPlace) (old new : Option (List ℕ)) → old ≡ None → new ≡ None → MovesTo p old new
-none_moved p old new no none = subst (λ (o : Option (List ℕ)). MovesTo p o new) (sym no) (subst (MovesTo p None) (sym none) tt)
+none_moved p old new was is = subst (λ (o : Option (List ℕ)). MovesTo p o new) (sym was) (subst (MovesTo p None) (sym is) tt)
 
 -- without the number all are rows
 moved_without : (old new : Content) → IsMoved old new → AllMoved (remove old line_place) (remove new line_place)

@@ -1,12 +1,13 @@
 -- The number of the last line that took hold stands at a place of its own.
-use Rattle.std.proofs.Common.{◌≡◌, ◌≢◌, ℕ, ◌≤◌, Bool, true, false, cond, ◌&&◌, T, List, [], ◌∷◌, Option, Some, None, Ok, Err, inl, inr, refl, sym, ap, subst, ◌∙◌}
-use Rattle.std.specs.Prelude.{codes, if◌then◌else◌}
+use Rattle.std.proofs.Common.{◌≡◌, ◌≢◌, ℕ, ◌≤◌, Bool, true, false, cond, ◌&&◌, T, List, [], ◌∷◌, Option, Some, None, Ok, Err, inl, inr, refl, sym, ap, subst, ◌∙◌, arith}
+use Rattle.std.specs.Prelude.{codes, nat_le, if◌then◌else◌}
 use Rattle.std.specs.FinMap.{empty, entries, entries_sorted, entries-from_sorted, find, from_sorted, get, get-empty, get-entries, get-from_sorted, get-insert, get-remove, insert, is_sorted, remove, same_map}
 use Rattle.std.specs.FinMap.Entries.{below_all}
 use Rattle.std.specs.Ordering.{eq_by_cmp, is_lt}
 use Rattle.std.specs.Cmp.{eq_by_cmp_equiv}
 use Rattle.std.specs.Str.{bytes_eq}
-use Rattle.std.proofs.lemmas.Bool.{and_parts, le-leb}
+use Rattle.std.proofs.lemmas.Bool.{and_parts, le-leb, leb-true}
+use Rattle.std.proofs.lemmas.Option.{same_Some}
 use Rattle.std.proofs.lemmas.Slice.Eq.{bytes_eq-Decides}
 use Rattle.tables.specs.Keys.{text_pair_cmp, text_pair_total, text_pair_exact}
 use Rattle.tables.proofs.Maps.{equal_of_is_eq}
@@ -34,25 +35,29 @@ Entry = RowPlace × List ℕ
 
 -- ---- places
 
+differ : (s t : List ℕ) → bytes_eq s t ≡ false → s ≡ t → ⊥
+differ s t apart same = let tied : bytes_eq s t ≡ true = (bytes_eq-Decides s t).1 same in absurd (let e : true ≡ false = sym tied ∙ apart in cc)
+
+-- no key of a row has the place of the number
 pub no_row_place : (k : RowKey) → place_of k ≢ line_place
 unfolding key_text
-no_row_place (keys.Count counter.Serial) is = absurd (let e = ap (λ (p : RowPlace). p.1) is in cc)
-no_row_place (keys.Count counter.Request) is = absurd (let e = ap (λ (p : RowPlace). p.1) is in cc)
-no_row_place (keys.Count counter.Session) is = absurd (let e = ap (λ (p : RowPlace). p.1) is in cc)
-no_row_place (keys.Count counter.Cdr) is = absurd (let e = ap (λ (p : RowPlace). p.1) is in cc)
-no_row_place (keys.Count counter.Reference) is = absurd (let e = ap (λ (p : RowPlace). p.1) is in cc)
-no_row_place (keys.Reply sender number) is = absurd (let e = ap (λ (p : RowPlace). p.0) is in cc)
-no_row_place (keys.Token party token_type uid) is = absurd (let e = ap (λ (p : RowPlace). p.0) is in cc)
-no_row_place (keys.Push number) is = absurd (let e = ap (λ (p : RowPlace). p.0) is in cc)
-no_row_place (keys.Service evse_uid) is = absurd (let e = ap (λ (p : RowPlace). p.0) is in cc)
-no_row_place (keys.Spent provider reference) is = absurd (let e = ap (λ (p : RowPlace). p.0) is in cc)
-no_row_place (keys.Mark provider reservation_id) is = absurd (let e = ap (λ (p : RowPlace). p.0) is in cc)
-no_row_place (keys.Reservation provider reservation_id) is = absurd (let e = ap (λ (p : RowPlace). p.0) is in cc)
-no_row_place (keys.Pending provider number) is = absurd (let e = ap (λ (p : RowPlace). p.0) is in cc)
-no_row_place (keys.Result provider number) is = absurd (let e = ap (λ (p : RowPlace). p.0) is in cc)
-no_row_place (keys.Session operator id) is = absurd (let e = ap (λ (p : RowPlace). p.0) is in cc)
-no_row_place (keys.Cdr operator id) is = absurd (let e = ap (λ (p : RowPlace). p.0) is in cc)
-no_row_place (keys.Command number) is = absurd (let e = ap (λ (p : RowPlace). p.0) is in cc)
+no_row_place (keys.Count counter.Serial) is = differ (codes "serial") (codes "line") refl (ap (λ (p : RowPlace). p.1) is)
+no_row_place (keys.Count counter.Request) is = differ (codes "request") (codes "line") refl (ap (λ (p : RowPlace). p.1) is)
+no_row_place (keys.Count counter.Session) is = differ (codes "session") (codes "line") refl (ap (λ (p : RowPlace). p.1) is)
+no_row_place (keys.Count counter.Cdr) is = differ (codes "cdr") (codes "line") refl (ap (λ (p : RowPlace). p.1) is)
+no_row_place (keys.Count counter.Reference) is = differ (codes "reference") (codes "line") refl (ap (λ (p : RowPlace). p.1) is)
+no_row_place (keys.Reply sender number) is = differ (codes "reply") (codes "count") refl (ap (λ (p : RowPlace). p.0) is)
+no_row_place (keys.Token party token_type uid) is = differ (codes "token") (codes "count") refl (ap (λ (p : RowPlace). p.0) is)
+no_row_place (keys.Push number) is = differ (codes "push") (codes "count") refl (ap (λ (p : RowPlace). p.0) is)
+no_row_place (keys.Service evse_uid) is = differ (codes "service") (codes "count") refl (ap (λ (p : RowPlace). p.0) is)
+no_row_place (keys.Spent provider reference) is = differ (codes "spent") (codes "count") refl (ap (λ (p : RowPlace). p.0) is)
+no_row_place (keys.Mark provider reservation_id) is = differ (codes "mark") (codes "count") refl (ap (λ (p : RowPlace). p.0) is)
+no_row_place (keys.Reservation provider reservation_id) is = differ (codes "reservation") (codes "count") refl (ap (λ (p : RowPlace). p.0) is)
+no_row_place (keys.Pending provider number) is = differ (codes "pending") (codes "count") refl (ap (λ (p : RowPlace). p.0) is)
+no_row_place (keys.Result provider number) is = differ (codes "result") (codes "count") refl (ap (λ (p : RowPlace). p.0) is)
+no_row_place (keys.Session operator id) is = differ (codes "session") (codes "count") refl (ap (λ (p : RowPlace). p.0) is)
+no_row_place (keys.Cdr operator id) is = differ (codes "cdr") (codes "count") refl (ap (λ (p : RowPlace). p.0) is)
+no_row_place (keys.Command number) is = differ (codes "command") (codes "count") refl (ap (λ (p : RowPlace). p.0) is)
 
 pub change_apart : (x : Change) → (placed_of x).place ≢ line_place
 change_apart (change.Put r) = no_row_place (key_of r)
@@ -164,6 +169,35 @@ number_again n least most = ap (λ (read : Read Row). after_row read number_in) 
 pub line_marked : (c : Content) (n : ℕ) → 2 ≤ n → n ≤ max_whole → line_of (marked (Some n) c) ≡ Some n
 line_marked c n least most = ap number_kept (get_set_same c line_place (Some (line_text n))) ∙ number_again n least most
 
+-- no text is read as the number 1
+no_small : (b : Bool) (n : ℕ) → nat_le 2 n ≡ b → (if b then Some n else None) ≡ Some 1 → ⊥
+no_small true n least is = absurd (let le = leb-true 2 n least in let same : n ≡ 1 = same_Some n 1 is in omega (arith, le, same))
+no_small false n least is = absurd (let e = is in cc)
+
+no_first : (r : Row) → number_in r ≡ Some 1 → ⊥
+no_first (row.Count counter last) is = no_small (nat_le 2 last) last refl is
+no_first (row.Reply sender number reply) is = absurd (let e = is in cc)
+no_first (row.Token t) is = absurd (let e = is in cc)
+no_first (row.Push number to push) is = absurd (let e = is in cc)
+no_first (row.Service evse_uid) is = absurd (let e = is in cc)
+no_first (row.Spent provider reference) is = absurd (let e = is in cc)
+no_first (row.Mark provider reservation_id number) is = absurd (let e = is in cc)
+no_first (row.Reservation provider reservation_id r) is = absurd (let e = is in cc)
+no_first (row.Pending provider number open_command) is = absurd (let e = is in cc)
+no_first (row.Result provider number result) is = absurd (let e = is in cc)
+no_first (row.Session s) is = absurd (let e = is in cc)
+no_first (row.Cdr c) is = absurd (let e = is in cc)
+no_first (row.Command number command) is = absurd (let e = is in cc)
+
+no_first_read : (read : Read Row) → after_row read number_in ≡ Some 1 → ⊥
+no_first_read (Ok r) is = no_first r is
+no_first_read (Err e) is = absurd (let f = is in cc)
+
+-- the number is 1 only where nothing is kept
+pub no_first_number : (o : Option (List ℕ)) → number_kept o ≡ Some 1 → o ≡ None
+no_first_number None is = refl
+no_first_number (Some t) is = absurd (no_first_read (row_in (codes "count") (codes "serial") t) is)
+
 pub line_of_empty : line_of empty ≡ Some 1
 line_of_empty = ap number_kept (get-empty text_pair_cmp line_place)
 
@@ -198,7 +232,7 @@ sorted_others (e ∷ es) h = by_place (is_line_place e.0) (sorted_others es (lat
 find_others : (q : RowPlace) (es : List Entry) → find text_pair_cmp q (others es) ≡ cond (is_line_place q) None (find text_pair_cmp q es)
 find_others q [] = by_test (is_line_place q)
   where
-    by_test : (b : Bool) → None ≡ cond b None (None {X = List ℕ})
+    by_test : (b : Bool) → ◌≡◌ {A = Option (List ℕ)} None (cond b None None)
     by_test true = refl
     by_test false = refl
 find_others q (e ∷ es) = by_place (is_line_place e.0) (is_line_place q) (eq_by_cmp text_pair_cmp q e.0) refl refl refl (find_others q es)
