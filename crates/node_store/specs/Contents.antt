@@ -1,7 +1,8 @@
 -- What a keeper keeps: under each kind and key, the text of the row.
-use Rattle.std.specs.Prelude.{◌≡◌, ◌≢◌, ℕ, codes, nat_le, Bool, true, false, if◌then◌else◌, List, [], ◌∷◌, ◌++◌, Option, Some, None, Result, Ok, Err}
+use Rattle.std.specs.Prelude.{◌≡◌, ◌≢◌, ◌≤◌, ℕ, codes, nat_le, Bool, true, false, if◌then◌else◌, List, [], ◌∷◌, ◌++◌, Option, Some, None, Result, Ok, Err}
 use Rattle.std.specs.FinMap.{FinMap, entries, get, insert, remove}
 use Rattle.tables.specs.Keys.{text_pair_cmp}
+use Rattle.ocpi_text.specs.Whole.{max_whole}
 use Rattle.json_text.specs.Fault.{Read}
 use Rattle.ocpi_types.specs.Rows.{key_of}
 use Rattle.ocpi_types.specs.declared.rows.Counter.TheVariants.{Serial}
@@ -76,6 +77,10 @@ abbrev pub rows_of : Content → Option (List Row)
 rows_of c = rows_after [] (entries (remove c line_place))
 
 -- ---- the number of the last line that took hold
+
+-- the number of a line that can take hold
+abbrev pub IsLineNumber : ℕ → Type 0
+IsLineNumber n = (2 ≤ n) × (n ≤ max_whole)
 
 -- its text is that of the row of a counter
 abbrev pub line_text : ℕ → List ℕ

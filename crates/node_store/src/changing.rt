@@ -1,8 +1,8 @@
 //! Changes of a table of rows, made all together or not at all.
 
-ghost use Rattle.std.specs.Prelude.{◌≡◌, ◌++◌, All, IfOk, IsTrue, OnOk, map};
+ghost use Rattle.std.specs.Prelude.{◌≡◌, ◌++◌, All, IfOk, IfSome, IsTrue, OnOk, map};
 ghost use Rattle.std.specs.FinMap.{contains_key};
-ghost use Rattle.node_store.specs.Contents.{IsReadAgain, RowPlace};
+ghost use Rattle.node_store.specs.Contents.{IsLineNumber, IsReadAgain, RowPlace};
 ghost use Rattle.node_store.specs.Numbers.{line_placed};
 ghost use Rattle.node_store.specs.Placing.{HasRoom, kept, placed_all, placed_of, room, set_text};
 ghost use Rattle.node_store.specs.declared.stored.Placed.{Placed as PlacedOf};
@@ -31,7 +31,8 @@ pub(crate) fn place_number(
     line: Option<LineNumber>,
     placed: &mut Vec<Placed>,
 ) -> Result<(), AllocError>
-    ensures { OnOk result (placed.new.items ≡ placed.old.items ++ line_placed line) }
+    ensures placed { OnOk result (placed.new.items ≡ placed.old.items ++ line_placed line) }
+    ensures fits { OnOk result (IfSome line IsLineNumber) }
 {
     let Some(number) = line else {
         return Ok(());

@@ -4,7 +4,7 @@ ghost use Rattle.std.specs.Prelude.{◌≡◌, ◌≤◌, ◌++◌, IfOk, OnOk, 
 ghost use Rattle.ocpi_text.specs.Whole.{max_whole};
 ghost use Rattle.ocpi_types.specs.declared.rows.Counter.TheVariants.{Serial};
 ghost use Rattle.ocpi_types.specs.declared.rows.Row.TheVariants as row;
-ghost use Rattle.node_store.specs.Contents.{AnswersNumber, line_text, number_in, number_of_text};
+ghost use Rattle.node_store.specs.Contents.{AnswersNumber, IsLineNumber, line_text, number_in, number_of_text};
 ghost use Rattle.node_store.specs.Numbers.{is_line_place, line_edits};
 
 use crate::fault::StoreFault;
@@ -69,7 +69,8 @@ pub(crate) fn is_line_place(kind: &str, name: &str) -> bool
 
 /// The row whose text is that of the number.
 pub(crate) fn line_row(number: LineNumber) -> Row
-    ensures { result ≡ row.Count Serial number }
+    ensures row { result ≡ row.Count Serial number }
+    ensures fits { IsLineNumber number }
 {
     Row::Count {
         counter: Counter::Serial,

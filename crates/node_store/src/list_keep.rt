@@ -1,8 +1,8 @@
 //! A keeper in memory.
 
-ghost use Rattle.std.specs.Prelude.{◌≡◌, ◌≢◌, ◌⊎◌, All, List, ℕ, [], IfErr, IfOk, OnErr, OnOk, IsSome, None, Some};
+ghost use Rattle.std.specs.Prelude.{◌≡◌, ◌≢◌, ◌⊎◌, All, List, ℕ, [], IfErr, IfOk, IfSome, OnErr, OnOk, IsSome, None, Some};
 ghost use Rattle.std.specs.FinMap.{empty};
-ghost use Rattle.node_store.specs.Contents.{AnswersNumber, Content, IsReadAgain, changed_all, line_of, marked, rows_after, rows_of};
+ghost use Rattle.node_store.specs.Contents.{AnswersNumber, Content, IsLineNumber, IsReadAgain, changed_all, line_of, marked, rows_after, rows_of};
 ghost use Rattle.node_store.specs.Faults.{IsListFault, IsCommitFault, counted};
 ghost use Rattle.node_store.specs.Placing.{kept, placed_of, set_text};
 ghost use Rattle.node_store.specs.declared.fault.StoreFault.TheVariants.{BadRow};
@@ -142,6 +142,7 @@ fn change_several(
     ensures all { OnOk result (kept stored.new ≡ marked line (changed_all (kept stored.old) changes.now)) }
     ensures none { OnErr result (kept stored.new ≡ kept stored.old) }
     ensures again { OnOk result (All IsReadAgain changes.now) }
+    ensures fits { OnOk result (IfSome line IsLineNumber) }
 {
     let mut placed = placed_all(alloc, changes)?;
     place_number(line, &mut placed)?;
@@ -161,6 +162,7 @@ fn change_all(
     ensures all { OnOk result (kept stored.new ≡ marked line (changed_all (kept stored.old) changes.now)) }
     ensures none { OnErr result (kept stored.new ≡ kept stored.old) }
     ensures again { OnOk result (All IsReadAgain changes.now) }
+    ensures fits { OnOk result (IfSome line IsLineNumber) }
 {
     match (changes, line) {
         ([change], None) => change_one(alloc, stored, change),

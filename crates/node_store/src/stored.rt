@@ -6,7 +6,7 @@ ghost use Rattle.ocpi_json.specs.RowForms.{row_in, row_in_1, row_text};
 ghost use Rattle.ocpi_json.specs.RowKeys.{KeyFits};
 ghost use Rattle.ocpi_types.specs.Rows.{key_of};
 ghost use Rattle.ocpi_types.specs.declared.rows.Row.{Row};
-ghost use Rattle.node_store.specs.Contents.{AnswersRow, IsReadAgain, line_place, line_text, place_of};
+ghost use Rattle.node_store.specs.Contents.{AnswersRow, IsLineNumber, IsReadAgain, line_place, line_text, place_of};
 ghost use Rattle.node_store.specs.Placing.{placed_of};
 
 use crate::fault::StoreFault;
@@ -53,7 +53,8 @@ impl StoredRow {
 
     /// The number of a line, to be kept as the row of a counter, whose text it has.
     pub(crate) fn of_number(number: LineNumber) -> StoredRow
-        ensures { result ≡ line_text number }
+        ensures text { result ≡ line_text number }
+        ensures fits { IsLineNumber number }
     {
         StoredRow {
             row: line_row(number),

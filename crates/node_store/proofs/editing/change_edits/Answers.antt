@@ -2,7 +2,7 @@ use Rattle.std.proofs.Common.{subst, ◌∙◌}
 use Rattle.std.proofs.lemmas.List.Elements.{All-more}
 use Rattle.node_store.specs.Contents.{IsReadAgain}
 use Rattle.node_store.proofs.Edited.{one_more}
-use Rattle.node_store.proofs.editing.edits_of.Goals as goal
+use Rattle.node_store.proofs.editing.change_edits.Goals as goal
 
 pub loop-change-preserved : goal.loop-change-preserved
 loop-change-preserved c =
