@@ -19,7 +19,7 @@ use Rattle.node_runs.specs.SetupLines.{base_in, base_of_line, numbered_setup_in}
 use Rattle.node_runs.specs.declared.fault.NodeStop.{NodeStop}
 
 setup-cut : (line : List ℕ) → numbered_setup_in (take KEPT_BYTES line) ≡ numbered_setup_in line
-unfolding numbered_setup_in, setup_in, base_in
+unfolding numbered_setup_in setup_in base_in
 setup-cut line = ap (λ t. (t >>= setup_of_line) >>= (λ setup. (t >>= base_of_line) >>= (λ base. Ok (setup, base)))) (tree-cut line)
 
 line-cut : (line : List ℕ) → node_line_in (take KEPT_BYTES line) ≡ node_line_in line

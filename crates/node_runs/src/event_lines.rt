@@ -44,7 +44,10 @@ pub fn answer_event<K: Keep>(
         → IsAnswered (keeper_of K.content K.is_honest K.refusals K.may_leave) running.old number line (string_bytes text.old) (string_bytes text.new) result running.new }
 {
     if !event.node.is_same(&running.party) {
-        return told(write_skipped(number.value().value(), None, text), Turn::Taken);
+        return told(
+            write_skipped(number.value().value(), None, text),
+            Turn::Taken,
+        );
     }
     answer_own(alloc, running, event, number, text)
 }

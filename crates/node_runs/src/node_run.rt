@@ -27,7 +27,9 @@ use crate::done_lines::{write_known, write_malformed, write_opened, write_refuse
 use crate::fault::{NodeRunFault, NodeStop};
 use crate::list_lines::After;
 use crate::setup_line::{NumberedSetup, read_numbered_setup};
-use line_runs::{AnswerNumbered, LineReader, Ran, RunFault, Turn, flush, run_numbered, write_whole};
+use line_runs::{
+    AnswerNumbered, LineReader, Ran, RunFault, Turn, flush, run_numbered, write_whole,
+};
 use node_keepers::Keeps;
 use node_steps::NodeFault;
 use node_store::{Keep, LineNumber};

@@ -175,7 +175,7 @@ fn explain_run(rt: &HostRuntime, ran: &Result<Ran, NodeRunFault>, words: &NodeWo
 /// Says why the store at that place stopped a run of one node, if it did.
 fn explain_fault(rt: &HostRuntime, fault: &NodeRunFault, place: &str) {
     match fault {
-        NodeRunFault::Run(_) | NodeRunFault::Stop(NodeStop::UnknownParty) => {}
+        NodeRunFault::Run(_) | NodeRunFault::Stop(NodeStop::UnknownParty | NodeStop::Memory) => {}
         NodeRunFault::Stop(NodeStop::Store(refusal)) => {
             explain(rt, place, words_for_node(*refusal));
         }
