@@ -7,17 +7,16 @@ use Rattle.json_text.specs.Fault.{Read}
 use Rattle.ocpi_types.specs.declared.node_events.NodeEvent.{NodeEvent}
 use Rattle.world_steps.specs.Steps.{NodeEvent as Deed}
 use Rattle.stored_nodes.specs.Keepers.{Commits, Declines, Keeper}
-use Rattle.stored_nodes.specs.Stored.{Fails, IsStored}
+use Rattle.stored_nodes.specs.Stored.{IsStored}
 use Rattle.stored_nodes.specs.Transactions.{Pending, changes_of_each}
-use Rattle.stored_nodes.specs.declared.fault.ApplyFault.TheVariants as apply
 use Rattle.stored_nodes.specs.declared.fault.StepFault.{StepFault}
 use Rattle.stored_nodes.specs.declared.fault.StepFault.TheVariants as step
 use Rattle.node_store.specs.Faults.{IsCommitFault, counted_fault}
 use Rattle.node_store.specs.declared.fault.StoreFault.{StoreFault}
 use Rattle.node_runs.specs.DoneLines.{refused_line}
-use Rattle.node_runs.specs.ListTurns.{CarriesOut, PlacedTurn}
+use Rattle.node_runs.specs.LineAnswers.{CarriesOut, PlacedTurn}
 use Rattle.node_runs.specs.NodeAnswers.{LineTurn, LosesLine}
-use Rattle.node_runs.specs.NodeTurns.{EventTurn, IsOfNode, Running}
+use Rattle.node_runs.specs.NodeTurns.{Running}
 use Rattle.node_runs.specs.declared.event_lines.Answered.{Answered}
 use Rattle.node_runs.specs.declared.event_lines.Answered.TheVariants.{Declined, Starved, Told, Untold}
 use Rattle.node_runs.specs.declared.fault.NodeStop.{NodeStop}
@@ -51,11 +50,10 @@ told (Err starved) turn = Untold
 -- What became of the event of a line: it is told behind what was written before; memory ran out for telling it; or it
 -- was not done, for want of memory or because the keeper did not take its changes.
 abbrev pub IsAnswered : {K : Type 0} → Keeper K → Running K → ℕ → List ℕ → List ℕ → List ℕ → Answered → Running K → Type 0
-IsAnswered keeper now number line before after (Told turn) next = (out : List ℕ) × (after ≡ before ++ out) × EventTurn keeper now number line turn out next
-IsAnswered keeper now number line before after Untold next = (turn : Turn) × (out : List ℕ) × EventTurn keeper now number line turn out next
+IsAnswered keeper now number line before after (Told turn) next = (out : List ℕ) × (after ≡ before ++ out) × LineTurn keeper now number line turn out next
+IsAnswered keeper now number line before after Untold next = (turn : Turn) × (out : List ℕ) × LineTurn keeper now number line turn out next
 IsAnswered keeper now number line before after Starved next = next ≡ now
-IsAnswered keeper now number line before after (Declined fault) next =
-    (x : NodeEvent) × IsOfNode now.party line x × Fails keeper (Some number) now.node x.kind (apply.Store fault) next.node
+IsAnswered keeper now number line before after (Declined fault) next = LosesLine keeper now number line (Store fault) next.node.keep
 
 -- ---- the parts of a line of several events
 
@@ -78,7 +76,7 @@ pub record DoesPlaced {K : Type 0} (party : List ℕ) (old : Pending K) (number 
     (before after : List ℕ) (new : Pending K) : Type 0 where
   pub did : List Deed
   pub out : List ℕ
-  pub is : PlacedTurn party old.state number place read (turn_of taken) out did new.state
+  pub is : PlacedTurn party old.state number (Some place) read (turn_of taken) out did new.state
   pub gathers : new.changes ≡ old.changes ++ changes_of_each did
   pub written : after ≡ before ++ out
 

@@ -2,7 +2,7 @@ pub mod DoneLines
 pub mod Stops
 pub mod SetupLines
 pub mod NodeTurns
-pub mod ListTurns
+pub mod LineAnswers
 pub mod NodeAnswers
 pub mod Afters
 pub mod Stages

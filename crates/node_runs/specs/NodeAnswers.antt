@@ -1,11 +1,7 @@
 -- What the program `node` gives for each line that it reads, and at the end of its input.
-use Rattle.std.specs.Prelude.{◌≡◌, ◌≢◌, ◌≤◌, ℕ, suc, List, [], Option, None, Some, Ok}
+use Rattle.std.specs.Prelude.{◌≡◌, ◌≢◌, ◌≤◌, ℕ, suc, List, [], Option, None, Some}
 use Rattle.ocpi_text.specs.Whole.{max_whole}
-use Rattle.ocpi_types.specs.declared.node_events.NodeEvent.{NodeEvent}
-use Rattle.json_text.specs.Fault.{Read}
 use Rattle.json_text.specs.declared.fault.JsonFault.TheVariants.{Syntax}
-use Rattle.node_lines.specs.NodeLines.{node_line_in}
-use Rattle.node_lines.specs.declared.node_line.NodeLine.TheVariants.{Several}
 use Rattle.line_runs.specs.declared.outcome.Ran.{Ran}
 use Rattle.line_runs.specs.declared.outcome.Ran.TheVariants.{Whole, WithRefusals}
 use Rattle.line_runs.specs.declared.run.Turn.{Turn}
@@ -14,25 +10,27 @@ use Rattle.node_keepers.specs.Opening.{Source}
 use Rattle.node_steps.specs.declared.fault.NodeFault.TheVariants.{NumbersUsedUp}
 use Rattle.node_store.specs.Faults.{IsCommitFault, counted_fault}
 use Rattle.node_store.specs.declared.fault.StoreFault.{StoreFault}
-use Rattle.stored_nodes.specs.Keepers.{Declines, Keeper}
-use Rattle.stored_nodes.specs.Stored.{Fails, IsStored, Stored}
+use Rattle.stored_nodes.specs.Keepers.{Commits, Declines, Keeper}
+use Rattle.stored_nodes.specs.Stored.{IsStored}
 use Rattle.stored_nodes.specs.Transactions.{changes_of_each}
-use Rattle.stored_nodes.specs.declared.fault.ApplyFault.TheVariants as apply
 use Rattle.world_steps.specs.Steps.{NodeEvent as Deed}
 use Rattle.world_steps.specs.World.{NodeState}
 use Rattle.node_runs.specs.DoneLines.{known_line, malformed_line, refused_line}
-use Rattle.node_runs.specs.ListTurns.{CarriesOut, ListTurn}
-use Rattle.node_runs.specs.NodeTurns.{EventTurn, IsOfNode, Running, SetupTurn, Stage}
+use Rattle.node_runs.specs.LineAnswers.{Answers}
+use Rattle.node_runs.specs.NodeTurns.{Running, SetupTurn, Stage}
 use Rattle.node_runs.specs.declared.fault.NodeStop.{NodeStop}
 use Rattle.node_runs.specs.declared.fault.NodeStop.TheVariants.{Memory, Store}
 
 -- ---- each line behind the setup that is read
 
--- a line behind which the node runs on: one event, or several that were committed together
-pub data LineTurn {K : Type 0} (keeper : Keeper K) (now : Running K) (number : ℕ) (line : List ℕ)
+-- A line behind which the node runs on. What it changed was committed at once with its number, or nothing was changed and
+-- the keeper was not asked; and then what became of it is written.
+pub record LineTurn {K : Type 0} (keeper : Keeper K) (now : Running K) (number : ℕ) (line : List ℕ)
     (turn : Turn) (out : List ℕ) (next : Running K) : Type 0 where
-  OneEvent : EventTurn keeper now number line turn out next → LineTurn keeper now number line turn out next
-  SeveralEvents : ListTurn keeper now number line turn out next → LineTurn keeper now number line turn out next
+  pub did : List Deed
+  pub answers : Answers now.party now.node.state number line turn out did next.node.state
+  pub commits : Commits keeper (Some number) (changes_of_each did) now.node.keep next.node.keep
+  pub party : next.party ≡ now.party
 
 -- Of a line nothing is written, and the node has ended. This is why, and its keeper then.
 pub data LosesLine {K : Type 0} (keeper : Keeper K) (now : Running K) (number : ℕ) (line : List ℕ) (stop : NodeStop) (keep : K) : Type 0 where
@@ -41,12 +39,8 @@ pub data LosesLine {K : Type 0} (keeper : Keeper K) (now : Running K) (number : 
   -- it was carried out, and what it changed was committed; memory ran out for what was to be written
   WasUntold : (turn : Turn) (out : List ℕ) (next : Running K) → LineTurn keeper now number line turn out next → IsStored keeper next.node
       → stop ≡ Memory → keep ≡ next.node.keep → LosesLine keeper now number line stop keep
-  -- the keeper did not take what its one event changes, whatever the fault of its commit
-  WasDeclined : (x : NodeEvent) → IsOfNode now.party line x → (fault : StoreFault) (left : Stored K) → Fails keeper (Some number) now.node x.kind (apply.Store fault) left
-      → stop ≡ Store fault → keep ≡ left.keep → LosesLine keeper now number line stop keep
-  -- nor what its events change
-  WereDeclined : (events : List (Read NodeEvent)) → node_line_in line ≡ Ok (Several events)
-      → (turn : Turn) (out : List ℕ) (did : List Deed) (after : NodeState) → CarriesOut now.party now.node.state number events turn out did after
+  -- the keeper did not take what it changes, whatever the fault of its commit
+  WasDeclined : (turn : Turn) (out : List ℕ) (did : List Deed) (after : NodeState) → Answers now.party now.node.state number line turn out did after
       → changes_of_each did ≢ [] → (fault : StoreFault) → IsCommitFault fault → Declines keeper (Some number) (changes_of_each did) (counted_fault fault) now.node.keep keep
       → stop ≡ Store fault → LosesLine keeper now number line stop keep
 

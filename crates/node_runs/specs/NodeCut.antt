@@ -4,19 +4,21 @@ use Rattle.std.proofs.Common.{sym, ap, subst, ◌∙◌}
 use Rattle.json_text.specs.Fault.{◌>>=◌, Fails}
 use Rattle.node_lines.specs.NodeLines.{node_line_in, node_line_of}
 use Rattle.ocpi_json.specs.SetupForms.{setup_in, setup_of_line}
-use Rattle.ocpi_types.specs.declared.node_events.NodeEvent.{NodeEvent}
 use Rattle.line_runs.specs.declared.run.Turn.{Turn}
 use Rattle.line_runs.specs.declared.lines.TheConstants.{KEPT_BYTES}
 use Rattle.node_keepers.specs.Opening.{Source}
 use Rattle.stored_nodes.specs.Keepers.{Keeper}
 use Rattle.program_lines.specs.Cut.{tree-cut}
-use Rattle.node_runs.specs.ListTurns.{ListTurn}
+use Rattle.node_runs.specs.LineAnswers.{Answers}
+use Rattle.node_runs.specs.LineAnswers as answer
 use Rattle.node_runs.specs.NodeAnswers.{BehindTurn, LineTurn, LosesLine, NodeLineGives, NodeTurn}
 use Rattle.node_runs.specs.NodeAnswers as answers
-use Rattle.node_runs.specs.NodeTurns.{EventTurn, IsOfNode, OpensNode, Running, SetupTurn, Stage, opened_stage}
+use Rattle.node_runs.specs.NodeTurns.{OpensNode, Running, SetupTurn, Stage}
 use Rattle.node_runs.specs.NodeTurns as turns
 use Rattle.node_runs.specs.SetupLines.{base_in, base_of_line, numbered_setup_in}
 use Rattle.node_runs.specs.declared.fault.NodeStop.{NodeStop}
+use Rattle.world_steps.specs.Steps.{NodeEvent as Deed}
+use Rattle.world_steps.specs.World.{NodeState}
 
 setup-cut : (line : List ℕ) → numbered_setup_in (take KEPT_BYTES line) ≡ numbered_setup_in line
 unfolding numbered_setup_in setup_in base_in
@@ -26,8 +28,10 @@ line-cut : (line : List ℕ) → node_line_in (take KEPT_BYTES line) ≡ node_li
 unfolding node_line_in
 line-cut line = ap (λ t. t >>= node_line_of) (tree-cut line)
 
-of-node-cut : (party line : List ℕ) (x : NodeEvent) → IsOfNode party (take KEPT_BYTES line) x → IsOfNode party line x
-of-node-cut party line x is = record { read = sym (line-cut line) ∙ is.read; same = is.same }
+answers-cut : (party : List ℕ) (now next : NodeState) (number : ℕ) (line : List ℕ) (turn : Turn) (out : List ℕ) (did : List Deed)
+    → Answers party now number (take KEPT_BYTES line) turn out did next → Answers party now number line turn out did next
+answers-cut party now next number line turn out did (answer.OneEvent read is turns) = answer.OneEvent read (sym (line-cut line) ∙ is) turns
+answers-cut party now next number line turn out did (answer.SeveralEvents events is carries) = answer.SeveralEvents events (sym (line-cut line) ∙ is) carries
 
 module _ {K : Type 0} (keeper : Keeper K) (source : Source K) where
   opens-cut : (wanted : Option (List ℕ)) (line : List ℕ) → OpensNode keeper source wanted (take KEPT_BYTES line) → OpensNode keeper source wanted line
@@ -53,48 +57,22 @@ module _ {K : Type 0} (keeper : Keeper K) (source : Source K) where
       turns.NoSetup fault (subst (Fails fault) (setup-cut line) fails) other ended written next
   setup-turn-cut s t line turn out (turns.Unread ended written next) = turns.Unread ended written next
 
-  event-turn-cut : (now next : Running K) (number : ℕ) (line : List ℕ) (turn : Turn) (out : List ℕ)
-      → EventTurn keeper now number (take KEPT_BYTES line) turn out next → EventTurn keeper now number line turn out next
-  event-turn-cut now next number line turn out (turns.DidStep x is packets changed does some taken written party) =
-      turns.DidStep x (of-node-cut now.party line x is) packets changed does some taken written party
-  event-turn-cut now next number line turn out (turns.WasIdle x is does taken written party) =
-      turns.WasIdle x (of-node-cut now.party line x is) does taken written party
-  event-turn-cut now next number line turn out (turns.WasUnstored x is refused taken written left) =
-      turns.WasUnstored x (of-node-cut now.party line x is) refused taken written left
-  event-turn-cut now next number line turn out (turns.IsElsewhere x read other taken written left) =
-      turns.IsElsewhere x (sym (line-cut line) ∙ read) other taken written left
-  event-turn-cut now next number line turn out (turns.IsOfOtherRole x is passes taken written party) =
-      turns.IsOfOtherRole x (of-node-cut now.party line x is) passes taken written party
-  event-turn-cut now next number line turn out (turns.IsMalformed fault fails other refused written left) =
-      turns.IsMalformed fault (subst (Fails fault) (line-cut line) fails) other refused written left
-  event-turn-cut now next number line turn out (turns.IsRefused x is fault refuses refused written party) =
-      turns.IsRefused x (of-node-cut now.party line x is) fault refuses refused written party
-
-  list-turn-cut : (now next : Running K) (number : ℕ) (line : List ℕ) (turn : Turn) (out : List ℕ)
-      → ListTurn keeper now number (take KEPT_BYTES line) turn out next → ListTurn keeper now number line turn out next
-  list-turn-cut now next number line turn out is = record {
-    events = is.events;
-    read = sym (line-cut line) ∙ is.read;
+  line-turn-cut : (now next : Running K) (number : ℕ) (line : List ℕ) (turn : Turn) (out : List ℕ)
+      → LineTurn keeper now number (take KEPT_BYTES line) turn out next → LineTurn keeper now number line turn out next
+  line-turn-cut now next number line turn out is = record {
     did = is.did;
-    carries = is.carries;
+    answers = answers-cut now.party now.node.state next.node.state number line turn out is.did is.answers;
     commits = is.commits;
     party = is.party;
   }
-
-  line-turn-cut : (now next : Running K) (number : ℕ) (line : List ℕ) (turn : Turn) (out : List ℕ)
-      → LineTurn keeper now number (take KEPT_BYTES line) turn out next → LineTurn keeper now number line turn out next
-  line-turn-cut now next number line turn out (answers.OneEvent is) = answers.OneEvent (event-turn-cut now next number line turn out is)
-  line-turn-cut now next number line turn out (answers.SeveralEvents is) = answers.SeveralEvents (list-turn-cut now next number line turn out is)
 
   loses-cut : (now : Running K) (number : ℕ) (line : List ℕ) (stop : NodeStop) (keep : K)
       → LosesLine keeper now number (take KEPT_BYTES line) stop keep → LosesLine keeper now number line stop keep
   loses-cut now number line stop keep (answers.WasStarved want same) = answers.WasStarved want same
   loses-cut now number line stop keep (answers.WasUntold turn out next is stored want left) =
       answers.WasUntold turn out next (line-turn-cut now next number line turn out is) stored want left
-  loses-cut now number line stop keep (answers.WasDeclined x is fault left fails told same) =
-      answers.WasDeclined x (of-node-cut now.party line x is) fault left fails told same
-  loses-cut now number line stop keep (answers.WereDeclined events read turn out did after carries some fault is declines told) =
-      answers.WereDeclined events (sym (line-cut line) ∙ read) turn out did after carries some fault is declines told
+  loses-cut now number line stop keep (answers.WasDeclined turn out did after is some fault of_commit declines told) =
+      answers.WasDeclined turn out did after (answers-cut now.party now.node.state after number line turn out did is) some fault of_commit declines told
 
   behind-cut : (now : Running K) (s t : Stage K) (line : List ℕ) (turn : Turn) (out : List ℕ)
       → BehindTurn keeper now s (take KEPT_BYTES line) turn out t → BehindTurn keeper now s line turn out t

@@ -20,7 +20,7 @@ use Rattle.stored_nodes.specs.Keepers.{Keeper}
 use Rattle.stored_nodes.specs.Stored.{IsStored, Stored}
 use Rattle.node_rows.specs.Holds.{StoresAlike}
 use Rattle.stored_laws.specs.Nodes.{restarted}
-use Rattle.node_runs.specs.ListTurns.{CarriesOut}
+use Rattle.node_runs.specs.LineAnswers.{CarriesOut}
 use Rattle.node_runs.specs.NodeAnswers.{Ends, NodeLineGives}
 use Rattle.node_runs.specs.NodeTurns.{IsMember, Running, Stage, Starts, opening}
 

@@ -1,32 +1,23 @@
--- What the program `node` writes for a setup, which names the node among others, and for a line that is one event, and
--- what each makes of the node.
-use Rattle.std.specs.Prelude.{◌≡◌, ◌≢◌, ◌⊎◌, ℕ, List, [], ◌∷◌, ◌++◌, Bool, true, false, Option, None, Some, Ok, Contains, length}
+-- What the program `node` has behind its lines, and what it writes for the first one: a setup, which names the node
+-- among others.
+use Rattle.std.specs.Prelude.{◌≡◌, ◌≢◌, ℕ, List, [], ◌∷◌, ◌++◌, Option, None, Some, Ok, Contains}
 use Rattle.ocpi_text.specs.Text.{key}
 use Rattle.ocpi_types.specs.Setups.{party_of}
-use Rattle.ocpi_types.specs.declared.node_events.NodeEvent.{NodeEvent}
-use Rattle.ocpi_types.specs.declared.node_events.NodeEventKind.TheVariants as event
-use Rattle.ocpi_types.specs.declared.packet.Packet.{Packet}
 use Rattle.ocpi_types.specs.declared.setup.Node.{Node}
 use Rattle.json_text.specs.declared.fault.JsonFault.{JsonFault}
 use Rattle.json_text.specs.declared.fault.JsonFault.TheVariants.{Memory as LineMemory}
 use Rattle.json_text.specs.Fault.{Fails as FailsToRead}
-use Rattle.node_lines.specs.NodeLines.{node_line_in}
-use Rattle.node_lines.specs.declared.node_line.NodeLine.TheVariants.{One}
-use Rattle.node_steps.specs.declared.fault.NodeFault.{NodeFault}
 use Rattle.line_runs.specs.declared.run.Turn.{Turn}
-use Rattle.line_runs.specs.declared.run.Turn.TheVariants.{Taken, Refused, Ended}
+use Rattle.line_runs.specs.declared.run.Turn.TheVariants.{Taken, Ended}
 use Rattle.node_store.specs.declared.fault.StoreFault.{StoreFault}
 use Rattle.node_keepers.specs.Opening.{Source}
 use Rattle.stored_nodes.specs.Keepers.{IsSettled, Keeper, KeepsOn}
-use Rattle.stored_nodes.specs.Stored.{Does, IsKeptFor, IsNotBad, IsReopenFault, Passes, Refuses, Reopens, Stored}
-use Rattle.stored_nodes.specs.declared.stored_node.Applied.{Applied}
-use Rattle.stored_nodes.specs.declared.stored_node.Applied.TheVariants.{Skipped, Stepped}
+use Rattle.stored_nodes.specs.Stored.{IsKeptFor, IsNotBad, IsReopenFault, Reopens, Stored}
 use Rattle.stored_nodes.specs.declared.fault.ReopenFault.{ReopenFault}
-use Rattle.program_lines.specs.Writing.{packet_lines}
 use Rattle.stored_laws.specs.Nodes.{last_serial, restarted}
 use Rattle.world_steps.specs.World.{NodeState}
 use Rattle.node_runs.specs.SetupLines.{numbered_setup_in}
-use Rattle.node_runs.specs.DoneLines.{idle_line, malformed_line, opened_line, refused_line, skipped_line, stepped_line}
+use Rattle.node_runs.specs.DoneLines.{malformed_line, opened_line}
 use Rattle.node_runs.specs.Stops.{stop_of}
 use Rattle.node_runs.specs.declared.fault.NodeStop.{NodeStop}
 use Rattle.node_runs.specs.declared.fault.NodeStop.TheVariants.{UnknownParty, Store, Memory}
@@ -160,56 +151,3 @@ pub data SetupTurn {K : Type 0} (keeper : Keeper K) (source : Source K) (s : Sta
       → SetupTurn keeper source s line turn out next
   Unread : turn ≡ Ended → out ≡ [] → next ≡ starved_stage s
       → SetupTurn keeper source s line turn out next
-
--- ---- each event
-
--- the line behind the packets that a node sent for an event, by whether rows were changed
-abbrev pub step_line : ℕ → Option ℕ → List Packet → Bool → List ℕ
-step_line number place [] false = idle_line number place
-step_line number place [] true = stepped_line number place 0
-step_line number place (p ∷ ps) changed = stepped_line number place (length (p ∷ ps))
-
--- what is written of an event that was not refused
-abbrev pub applied_lines : ℕ → Option ℕ → Applied → List ℕ
-applied_lines number place Skipped = skipped_line number place
-applied_lines number place (Stepped packets changed) = packet_lines packets.items ++ step_line number place packets.items changed
-
--- the line is one event, and that is one of this node
-pub record IsOfNode (party line : List ℕ) (x : NodeEvent) : Type 0 where
-  pub read : node_line_in line ≡ Ok (One x)
-  pub same : key x.node ≡ key party
-
--- A line that is one event, or is refused as a text, behind which the node runs on. What a step changes is committed
--- with the number of the line before anything of it is written.
-pub data EventTurn {K : Type 0} (keeper : Keeper K) (now : Running K) (number : ℕ) (line : List ℕ)
-    (turn : Turn) (out : List ℕ) (next : Running K) : Type 0 where
-  -- the node did it, and rows were changed or packets sent
-  DidStep : (x : NodeEvent) → IsOfNode now.party line x → (packets : List Packet) (changed : Bool)
-      → Does keeper (Some number) now.node x.kind packets changed next.node → (changed ≡ true) ⊎ (packets ≢ [])
-      → turn ≡ Taken → out ≡ packet_lines packets ++ stepped_line number None (length packets) → next.party ≡ now.party
-      → EventTurn keeper now number line turn out next
-  -- the node did it, and no row was changed and no packet sent
-  WasIdle : (x : NodeEvent) → IsOfNode now.party line x
-      → Does keeper (Some number) now.node x.kind [] false next.node
-      → turn ≡ Taken → out ≡ idle_line number None → next.party ≡ now.party
-      → EventTurn keeper now number line turn out next
-  -- the storing of the event was refused, where it was carried out
-  WasUnstored : (x : NodeEvent) → IsOfNode now.party line x → x.kind ≡ event.Refused
-      → turn ≡ Taken → out ≡ idle_line number None → next ≡ now
-      → EventTurn keeper now number line turn out next
-  -- it is another node's
-  IsElsewhere : (x : NodeEvent) → node_line_in line ≡ Ok (One x) → key x.node ≢ key now.party
-      → turn ≡ Taken → out ≡ skipped_line number None → next ≡ now
-      → EventTurn keeper now number line turn out next
-  -- it is one of the other role
-  IsOfOtherRole : (x : NodeEvent) → IsOfNode now.party line x → Passes now.node x.kind next.node
-      → turn ≡ Taken → out ≡ skipped_line number None → next.party ≡ now.party
-      → EventTurn keeper now number line turn out next
-  -- the line is no event, and no array of events
-  IsMalformed : (fault : JsonFault) → FailsToRead fault (node_line_in line) → fault ≢ LineMemory
-      → turn ≡ Refused → out ≡ malformed_line number None fault → next ≡ now
-      → EventTurn keeper now number line turn out next
-  -- the node refuses it
-  IsRefused : (x : NodeEvent) → IsOfNode now.party line x → (fault : NodeFault) → Refuses now.node x.kind fault next.node
-      → turn ≡ Refused → out ≡ refused_line number None fault → next.party ≡ now.party
-      → EventTurn keeper now number line turn out next

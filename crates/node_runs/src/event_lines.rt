@@ -7,7 +7,7 @@ ghost use Rattle.node_lines.specs.declared.node_line.NodeLine.TheVariants.{One};
 ghost use Rattle.program_lines.specs.Writing.{packet_lines};
 ghost use Rattle.ocpi_text.specs.Text.{key};
 ghost use Rattle.node_runs.specs.Afters.{IsAnswered, told};
-ghost use Rattle.node_runs.specs.NodeTurns.{applied_lines, step_line};
+ghost use Rattle.node_runs.specs.LineAnswers.{applied_lines, step_line};
 
 use crate::beginning::Running;
 use crate::done_lines::{write_idle, write_refused, write_skipped, write_stepped};
