@@ -57,7 +57,7 @@ module _ {K : Type 0} (keeper : Keeper K) (source : Source K) where
   goes_on None s line turn out next (turns.Unread ended written left) on = absurd (on ended)
   goes_on (Some now) s line turn out next gives on = behind_goes_on now s line turn out next gives on
 
-  all_go_on : {echo : Bool} {first now : Stage K} {all : List (List ℕ)} {ran : Ran} {out : List ℕ} → AreNumbered (NodeLineGives keeper source) echo first all ran out now → now.stop ≡ first.stop
+  pub all_go_on : {echo : Bool} {first now : Stage K} {all : List (List ℕ)} {ran : Ran} {out : List ℕ} → AreNumbered (NodeLineGives keeper source) echo first all ran out now → now.stop ≡ first.stop
   all_go_on none_numbered = refl
   all_go_on (empty_line before) = all_go_on before
   all_go_on (taken_line {s = s} {t = t} {line = line} {more = more} before some gives) = goes_on s.running s line Taken more t gives (λ e. absurd cc) ∙ all_go_on before

@@ -1,5 +1,7 @@
 -- What the lines of a run make of its node.
-use Rattle.std.proofs.Common.{◌≡◌, ◌≢◌, ◌⊎◌, ◌++◌, ◌∙◌, ℕ, Bool, List, [], ◌∷◌, Option, Some, None, refl, sym, ap, subst, inl, inr}
+use Rattle.std.proofs.Common.{◌≡◌, ◌≢◌, ◌⊎◌, ◌++◌, ◌∙◌, ◌+◌, ◌<◌, ◌≤◌, ℕ, suc, Bool, List, [], ◌∷◌, Option, Some, None, refl, sym, ap, subst, inl, inr, arith, length, length-append, append_assoc, append-nil}
+use Rattle.std.proofs.lemmas.List.Concat.{flat_map-append}
+use Rattle.ocpi_text.specs.Whole.{max_whole}
 use Rattle.std.proofs.lemmas.Option.{Some-injective}
 use Rattle.node_laws.specs.Runs.{Run}
 use Rattle.json_text.specs.Fault.{Read}
@@ -16,7 +18,7 @@ use Rattle.world_steps.specs.World.{NodeState, Operates, Provides, opening_of}
 use Rattle.line_runs.specs.Numbered.{AreNumbered, empty_line, none_numbered, refused_line, taken_line}
 use Rattle.line_runs.specs.declared.outcome.Ran.{Ran}
 use Rattle.line_runs.specs.declared.run.Turn.{Turn}
-use Rattle.line_runs.specs.declared.run.Turn.TheVariants.{Refused, Taken}
+use Rattle.line_runs.specs.declared.run.Turn.TheVariants.{Ended, Refused, Taken}
 use Rattle.node_keepers.specs.Opening.{Source}
 use Rattle.stored_nodes.specs.Keepers.{Commits, IsSettled, Keeper, KeepsOn, Nothing, Takes, Taken as TakenBy}
 use Rattle.stored_nodes.specs.Stored.{IsStored, Stored}
@@ -32,11 +34,13 @@ use Rattle.std.specs.Prelude.{IsSome}
 use Rattle.stored_laws.specs.Nodes.{CanStartAgain, IsOfOpening, NodesCanStartAgain, NodesKeepOpenings, restarted}
 use Rattle.node_runs.specs.LineAnswers.{Answers, AreDone, PlacedTurn}
 use Rattle.node_runs.specs.LineAnswers as lines
-use Rattle.node_runs.specs.NodeAnswers.{BehindTurn, LineTurn, LosesLine, NodeLineGives, NodeTurn}
+use Rattle.node_runs.specs.NodeAnswers.{BehindTurn, LineTurn, LosesLine, NodeLineGives, NodeTurn, next_stage}
 use Rattle.node_runs.specs.NodeAnswers as answers
-use Rattle.node_runs.specs.NodeTurns.{IsMember, Running, SetupTurn, Stage, Starts, opening}
+use Rattle.node_runs.specs.NodeTurns.{IsMember, OpensNode, Running, Stage, number_from, opened_stage, opening}
+use Rattle.node_runs.specs.NumberedRuns.{Carries, IsKnown, IsRead, Numbered, Takes, all_done, none_carried, one_carried}
+use Rattle.node_runs.proofs.EndLemmas.{all_go_on}
 use Rattle.node_runs.specs.NodeTurns as turns
-use Rattle.node_runs.specs.NodeHistories.{Before_line, Behind_line, GoesOnAtLine, GoesOnFrom, HasHistory, IsLeftBy, LostLinesGoOn, RunsAreHistories, TwoRunsAreOne, WasRun, restart_of}
+use Rattle.node_runs.specs.NodeHistories.{Before_line, Behind_line, GoesOnAtLine, GoesOnFrom, HasHistory, IsLeftBy, LostLinesGoOn, RunsAreHistories, TwoRunsAreOne, WasRun, kept_line, restart_of, some_lines}
 use Rattle.node_runs.specs.declared.fault.NodeStop.{NodeStop}
 
 -- ---- runs
@@ -74,6 +78,11 @@ pub line_run : {party : List ℕ} {now : NodeState} {number : ℕ} {line : List 
 line_run (lines.OneEvent read is turns) = placed_run turns
 line_run (lines.SeveralEvents events is carries) = all_run carries.done
 
+takes_run : {party : List ℕ} {known number : ℕ} {line : List ℕ} {now : NodeState} {out : List ℕ} {did : List NodeEvent} {next : NodeState}
+    → Takes party known number line now out did next → Run NodeStep now did next
+takes_run {now = now} {next = next} (IsKnown is written none same) = subst (λ (did : List NodeEvent). Run NodeStep now did next) (sym none) same
+takes_run (IsRead new turn answers) = line_run answers
+
 -- ---- a stop leaves just what is kept
 
 module _ {K : Type 0} (keeper : Keeper K) where
@@ -86,47 +95,141 @@ module _ {K : Type 0} (keeper : Keeper K) where
 
 -- ---- a run
 
+done_on : (xs : List Numbered) (x : Numbered) → all_done (xs ++ x ∷ []) ≡ all_done xs ++ x.1
+done_on xs x = flat_map-append (λ (y : Numbered). y.1) xs (x ∷ []) ∙ ap (λ (l : List NodeEvent). all_done xs ++ l) (append-nil x.1)
+
+lines_on : (all : List (List ℕ)) (line : List ℕ) → some_lines (all ++ line ∷ []) ≡ some_lines all ++ kept_line line
+lines_on all line = flat_map-append kept_line all (line ∷ []) ∙ ap (λ (l : List (List ℕ)). some_lines all ++ l) (append-nil (kept_line line))
+
+one_kept : (line : List ℕ) → 0 < length line → kept_line line ≡ line ∷ []
+one_kept [] some = absurd (omega some)
+one_kept (c ∷ cs) some = refl
+
 module _ {K : Type 0} (keeper : Keeper K) (source : Source K) (wanted : Option (List ℕ)) where
-  one_line_behind : (now next : Running K) (number : ℕ) (line : List ℕ) (turn : Turn) (out : List ℕ) →
-      LineTurn keeper now number line turn out next → HasHistory keeper source wanted now → HasHistory keeper source wanted next
-  one_line_behind now next number line turn out is h =
+  -- what is known of the node that runs, where one does, and which lines were read before one does
+  abbrev Known : List (List ℕ) → Stage K → Option (Running K) → Type 0
+  Known all s None = Unit {0}
+  Known all s (Some now) = HasHistory keeper source wanted all s now
+
+  record IsTold (all : List (List ℕ)) (s : Stage K) : Type 0 where
+    wanted_so : s.wanted ≡ wanted
+    known : Known all s s.running
+    first : s.running ≡ None → s.stop ≡ None → some_lines all ≡ []
+
+  -- an empty line is passed over
+  known_behind : (all : List (List ℕ)) (s : Stage K) (running : Option (Running K)) → Known all s running → Known (all ++ [] ∷ []) s running
+  known_behind all s None known = tt
+  known_behind all s (Some now) h = record {
+    first = h.first;
+    setup = h.setup;
+    base = h.base;
+    reads = h.reads;
+    member = h.member;
+    asked = h.asked;
+    did = h.did;
+    was = h.was;
+    found = h.found;
+    numbered = h.numbered;
+    others = h.others;
+    carries = h.carries;
+    are = lines_on all [] ∙ append-nil (some_lines all) ∙ h.are;
+    number = h.number;
+    beyond = h.beyond;
+    known = h.known;
+  }
+
+  -- a line more, by the next number
+  one_more : (all : List (List ℕ)) (line out : List ℕ) (did : List NodeEvent) (s : Stage K) (now next : Running K) → 0 < length line → suc s.number ≤ max_whole
+      → Takes now.party s.known (suc s.number) line now.node.state out did next.node.state → next.party ≡ now.party → IsSettled keeper next.node.keep
+      → HasHistory keeper source wanted all s now → HasHistory keeper source wanted (all ++ line ∷ []) (next_stage s next (suc s.number)) next
+  one_more all line out did s now next some few takes party settled h =
       let was = h.was in
+      let base = number_from h.base was.last in
+      let none : h.others ≡ [] = no_others h.others h.beyond few in
+      let number = suc (base + length h.numbered) in
+      let takes_so : Takes now.party was.last number line now.node.state out did next.node.state =
+      subst (λ (n : ℕ). Takes now.party was.last n line now.node.state out did next.node.state) (ap suc h.number)
+      (subst (λ (k : ℕ). Takes now.party k (suc s.number) line now.node.state out did next.node.state) h.known takes) in
       record {
+        first = h.first;
         setup = h.setup;
+        base = h.base;
+        reads = h.reads;
         member = h.member;
         asked = h.asked;
-        events = h.events ++ is.did;
+        did = h.did ++ (number, did) ∷ [];
         was = record {
           rows = was.rows;
           last = was.last;
           start = was.start;
           starts = was.starts;
-          did = joined was.start.state now.node.state next.node.state h.events is.did was.did (line_run is.answers);
-          settled = settled_by keeper (Some number) is.did now.node.keep next.node.keep is.commits was.settled;
-          party = is.party ∙ was.party;
+          did = subst (λ (xs : List NodeEvent). Run NodeStep was.start.state xs next.node.state) (sym (done_on h.did (number, did)))
+              (joined was.start.state now.node.state next.node.state (all_done h.did) did was.did (takes_run takes));
+          settled = settled;
+          party = party ∙ was.party;
         };
         found = h.found;
+        numbered = h.numbered ++ line ∷ [];
+        others = [];
+        carries = subst (λ (p : List ℕ). Carries p was.last base was.start.state (h.numbered ++ line ∷ []) (h.did ++ (number, did) ∷ []) next.node.state) (sym party)
+            (one_carried h.carries takes_so);
+        are = lines_on all line ∙ ap (λ (l : List (List ℕ)). some_lines all ++ l) (one_kept line some)
+            ∙ ap (λ (l : List (List ℕ)). l ++ line ∷ []) (h.are ∙ ap (λ (l : List (List ℕ)). h.first ∷ (h.numbered ++ l)) none ∙ ap (λ (l : List (List ℕ)). h.first ∷ l) (append-nil h.numbered))
+            ∙ ap (λ (l : List (List ℕ)). h.first ∷ l) (sym (append-nil (h.numbered ++ line ∷ [])));
+        number = omega (h.number, length-append h.numbered (line ∷ []));
+        beyond = λ some. absurd (some refl);
+        known = h.known;
       }
+    where
+      no_others : (others : List (List ℕ)) → (others ≢ [] → s.number ≡ max_whole) → suc s.number ≤ max_whole → others ≡ []
+      no_others [] beyond few = refl
+      no_others (o ∷ os) beyond few = let is = beyond (λ e. absurd (cc e)) in absurd (omega (is, few))
 
-  -- what is known of the node that runs, where one does
-  abbrev Known : Option (Running K) → Type 0
-  Known None = Unit {0}
-  Known (Some now) = HasHistory keeper source wanted now
+  -- a line for which there is no number
+  one_beyond : (all : List (List ℕ)) (line : List ℕ) (s : Stage K) (now : Running K) → 0 < length line → s.number ≡ max_whole
+      → HasHistory keeper source wanted all s now → HasHistory keeper source wanted (all ++ line ∷ []) (next_stage s now max_whole) now
+  one_beyond all line s now some is h = record {
+    first = h.first;
+    setup = h.setup;
+    base = h.base;
+    reads = h.reads;
+    member = h.member;
+    asked = h.asked;
+    did = h.did;
+    was = h.was;
+    found = h.found;
+    numbered = h.numbered;
+    others = h.others ++ line ∷ [];
+    carries = h.carries;
+    are = lines_on all line ∙ ap (λ (l : List (List ℕ)). some_lines all ++ l) (one_kept line some) ∙ ap (λ (l : List (List ℕ)). l ++ line ∷ []) h.are
+        ∙ ap (λ (l : List (List ℕ)). h.first ∷ l) (append_assoc h.numbered h.others (line ∷ []));
+    number = sym is ∙ h.number;
+    beyond = λ more. refl;
+    known = h.known;
+  }
 
-  record IsKnown (s : Stage K) : Type 0 where
-    wanted_so : s.wanted ≡ wanted
-    known : Known s.running
+  behind_setup : (all : List (List ℕ)) (now : Running K) (s : Stage K) (line : List ℕ) (turn : Turn) (out : List ℕ) (t : Stage K) → 0 < length line → (turn ≡ Ended → ⊥)
+      → BehindTurn keeper now s line turn out t → IsTold all s → HasHistory keeper source wanted all s now → IsTold (all ++ line ∷ []) t
+  behind_setup all now s line turn out t some on (answers.WasKnown is taken written left) whole h =
+      subst (IsTold (all ++ line ∷ [])) (sym left) (record {
+        wanted_so = whole.wanted_so;
+        known = one_more all line out [] s now now some (omega (is, h.known, h.was.starts.reopens.most)) (IsKnown is written refl refl) refl h.was.settled h;
+        first = λ e. absurd (cc e);
+      })
+  behind_setup all now s line turn out t some on (answers.WasBeyond is refused written left) whole h =
+      subst (IsTold (all ++ line ∷ [])) (sym left) (record { wanted_so = whole.wanted_so; known = one_beyond all line s now some is h; first = λ e. absurd (cc e) })
+  behind_setup all now s line turn out t some on (answers.GoesOn new few next is left) whole h =
+      subst (IsTold (all ++ line ∷ [])) (sym left) (record {
+        wanted_so = whole.wanted_so;
+        known = one_more all line out is.did s now next some few (IsRead new turn is.answers) is.party (settled_by keeper (Some (suc s.number)) is.did now.node.keep next.node.keep is.commits h.was.settled) h;
+        first = λ e. absurd (cc e);
+      })
+  behind_setup all now s line turn out t some on (answers.Ends stop keep loses stored number ended written left) whole h = absurd (on ended)
 
-  behind_setup : (now : Running K) (s : Stage K) (line : List ℕ) (turn : Turn) (out : List ℕ) (t : Stage K) →
-      BehindTurn keeper now s line turn out t → IsKnown s → HasHistory keeper source wanted now → IsKnown t
-  behind_setup now s line turn out t (answers.WasKnown is taken written left) whole known = subst IsKnown (sym left) (record { wanted_so = whole.wanted_so; known = known })
-  behind_setup now s line turn out t (answers.WasBeyond is refused written left) whole known = subst IsKnown (sym left) (record { wanted_so = whole.wanted_so; known = known })
-  behind_setup now s line turn out t (answers.GoesOn new few next is left) whole known =
-      subst IsKnown (sym left) (record { wanted_so = whole.wanted_so; known = one_line_behind now next (suc s.number) line turn out is known })
-  behind_setup now s line turn out t (answers.Ends stop keep loses stored number ended written left) whole known = subst IsKnown (sym left) (record { wanted_so = whole.wanted_so; known = tt })
-
-  opened_so : (s : Stage K) (line : List ℕ) (stop : Option NodeStop) (o : turns.OpensNode keeper source s.wanted line) → IsKnown s → IsKnown (turns.opened_stage s o stop)
-  opened_so s line stop o whole =
+  -- the setup, which is the first line
+  opened_so : (all : List (List ℕ)) (line : List ℕ) (s : Stage K) (o : OpensNode keeper source s.wanted line) → 0 < length line → some_lines all ≡ [] → IsTold all s
+      → IsTold (all ++ line ∷ []) (opened_stage s o s.stop)
+  opened_so all line s o some none whole =
       let now : Running K = record { party = party_of o.member; node = o.node } in
       let was : WasRun keeper o.setup o.member [] now = record {
         rows = o.rows;
@@ -140,40 +243,57 @@ module _ {K : Type 0} (keeper : Keeper K) (source : Source K) (wanted : Option (
       record {
         wanted_so = whole.wanted_so;
         known = record {
+          first = line;
           setup = o.setup;
+          base = o.base;
+          reads = o.reads;
           member = o.member;
           asked = subst (λ (w : Option (List ℕ)). IsMember o.setup w o.member) whole.wanted_so o.asked;
-          events = [];
+          did = [];
           was = was;
           found = o.begins.found;
+          numbered = [];
+          others = [];
+          carries = none_carried;
+          are = lines_on all line ∙ ap (λ (l : List (List ℕ)). l ++ kept_line line) none ∙ one_kept line some;
+          number = omega refl;
+          beyond = λ more. absurd (more refl);
+          known = refl;
         };
+        first = λ e. absurd (cc e);
       }
 
-  one_line : (now : Option (Running K)) (s : Stage K) (line : List ℕ) (turn : Turn) (out : List ℕ) (t : Stage K) →
-      NodeTurn keeper source now s line turn out t → IsKnown s → Known now → IsKnown t
-  one_line None s line turn out t (turns.Opened o taken written left) whole known = subst IsKnown (sym left) (opened_so s line s.stop o whole)
-  one_line None s line turn out t (turns.Untold o ended written left) whole known = subst IsKnown (sym left) (opened_so s line (Some _) o whole)
-  one_line None s line turn out t (turns.Unbegun setup base read places spare stop unbegun ended written left) whole known =
-      subst IsKnown (sym left) (record { wanted_so = whole.wanted_so; known = tt })
-  one_line None s line turn out t (turns.NoSetup fault fails other ended written left) whole known = subst IsKnown (sym left) whole
-  one_line None s line turn out t (turns.Unread ended written left) whole known = subst IsKnown (sym left) (record { wanted_so = whole.wanted_so; known = tt })
-  one_line (Some now) s line turn out t gives whole known = behind_setup now s line turn out t gives whole known
+  one_line : (all : List (List ℕ)) (now : Option (Running K)) (s : Stage K) (line : List ℕ) (turn : Turn) (out : List ℕ) (t : Stage K) → 0 < length line → (turn ≡ Ended → ⊥)
+      → s.running ≡ now → s.stop ≡ None → NodeTurn keeper source now s line turn out t → IsTold all s → Known all s now → IsTold (all ++ line ∷ []) t
+  one_line all None s line turn out t some on is go (turns.Opened o taken written left) whole known =
+      subst (IsTold (all ++ line ∷ [])) (sym left) (opened_so all line s o some (whole.first is go) whole)
+  one_line all None s line turn out t some on is go (turns.Untold o ended written left) whole known = absurd (on ended)
+  one_line all None s line turn out t some on is go (turns.Unbegun setup base read places spare stop unbegun ended written left) whole known = absurd (on ended)
+  one_line all None s line turn out t some on is go (turns.NoSetup fault fails other ended written left) whole known = absurd (on ended)
+  one_line all None s line turn out t some on is go (turns.Unread ended written left) whole known = absurd (on ended)
+  one_line all (Some now) s line turn out t some on is go gives whole known = behind_setup all now s line turn out t some on gives whole known
 
   all_known : {echo : Bool} {opened : List ℕ} {all : List (List ℕ)} {ran : Ran} {out : List ℕ} {s : Stage K} →
-      AreNumbered (NodeLineGives keeper source) echo (opening wanted opened) all ran out s → IsKnown s
-  all_known none_numbered = record { wanted_so = refl; known = tt }
-  all_known (empty_line before) = all_known before
-  all_known (taken_line {s = s} {t = t} {line = line} {more = more} before some gives) =
-      let whole = all_known before in one_line s.running s line Taken more t gives whole whole.known
-  all_known (refused_line {s = s} {t = t} {line = line} {more = more} before some gives) =
-      let whole = all_known before in one_line s.running s line Refused more t gives whole whole.known
+      AreNumbered (NodeLineGives keeper source) echo (opening wanted opened) all ran out s → IsTold all s
+  all_known none_numbered = record { wanted_so = refl; known = tt; first = λ none go. refl }
+  all_known (empty_line {s = s} {before = before} earlier) =
+      let whole = all_known earlier in
+      record {
+        wanted_so = whole.wanted_so;
+        known = known_behind before s s.running whole.known;
+        first = λ none go. lines_on before [] ∙ append-nil (some_lines before) ∙ whole.first none go;
+      }
+  all_known (taken_line {s = s} {t = t} {line = line} {before = before} {more = more} earlier some gives) =
+      let whole = all_known earlier in one_line before s.running s line Taken more t some (λ e. absurd (cc e)) refl (all_go_on keeper source earlier) gives whole whole.known
+  all_known (refused_line {s = s} {t = t} {line = line} {before = before} {more = more} earlier some gives) =
+      let whole = all_known earlier in one_line before s.running s line Refused more t some (λ e. absurd (cc e)) refl (all_go_on keeper source earlier) gives whole whole.known
 
-  known_of : (q : Option (Running K)) (now : Running K) → q ≡ Some now → Known q → HasHistory keeper source wanted now
-  known_of q now is known = subst Known is known
+  known_of : (all : List (List ℕ)) (s : Stage K) (q : Option (Running K)) (now : Running K) → q ≡ Some now → Known all s q → HasHistory keeper source wanted all s now
+  known_of all s q now is known = subst (Known all s) is known
 
 pub runs_are_histories : {K : Type 0} (keeper : Keeper K) (source : Source K) → RunsAreHistories keeper source
 runs_are_histories keeper source echo wanted opened all ran out s now answered is =
-    let whole = all_known keeper source wanted answered in known_of keeper source wanted s.running now is whole.known
+    let whole = all_known keeper source wanted answered in known_of keeper source wanted all s s.running now is whole.known
 
 -- ---- two runs
 

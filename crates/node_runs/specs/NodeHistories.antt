@@ -1,6 +1,8 @@
 -- What a run made of its node, told by the steps that the node did: each run is a chain of them, and two runs over one
 -- store are one chain with a restart between.
-use Rattle.std.specs.Prelude.{◌≡◌, ◌≢◌, ◌⊎◌, ℕ, Bool, List, [], ◌∷◌, ◌++◌, Option, Some}
+use Rattle.std.specs.Prelude.{◌≡◌, ◌≢◌, ◌⊎◌, ℕ, ◌+◌, Bool, List, [], ◌∷◌, ◌++◌, Option, Some, Ok, length}
+use Rattle.std.specs.List.{flat_map}
+use Rattle.ocpi_text.specs.Whole.{max_whole}
 use Rattle.line_runs.specs.declared.run.Turn.{Turn}
 use Rattle.node_laws.specs.Runs.{Run}
 use Rattle.ocpi_types.specs.Setups.{party_of}
@@ -19,7 +21,9 @@ use Rattle.stored_nodes.specs.Transactions.{changes_of_each}
 use Rattle.stored_laws.specs.Nodes.{restarted}
 use Rattle.node_runs.specs.LineAnswers.{Answers}
 use Rattle.node_runs.specs.NodeAnswers.{LosesLine, NodeLineGives}
-use Rattle.node_runs.specs.NodeTurns.{IsMember, Running, Stage, Starts, opening}
+use Rattle.node_runs.specs.NodeTurns.{IsMember, Running, Stage, Starts, number_from, opening}
+use Rattle.node_runs.specs.NumberedRuns.{Carries, Numbered, all_done}
+use Rattle.node_runs.specs.SetupLines.{numbered_setup_in}
 use Rattle.node_runs.specs.declared.fault.NodeStop.{NodeStop}
 
 -- The node of that member of the setup was made of what a keeper kept, where `last` was the number of the last line that
@@ -33,19 +37,39 @@ pub record WasRun {K : Type 0} (keeper : Keeper K) (setup : List Node) (member :
   pub settled : IsSettled keeper now.node.keep
   pub party : now.party ≡ party_of member
 
--- what the lines of a run up to any one made of its node
-pub record HasHistory {K : Type 0} (keeper : Keeper K) (source : Source K) (wanted : Option (List ℕ)) (now : Running K) : Type 0 where
+-- the lines that hold something
+abbrev pub kept_line : List ℕ → List (List ℕ)
+kept_line [] = []
+kept_line (c ∷ cs) = (c ∷ cs) ∷ []
+
+abbrev pub some_lines : List (List ℕ) → List (List ℕ)
+some_lines all = flat_map kept_line all
+
+-- What the lines of a run up to any one made of its node. The first that holds something is the setup, and the others are
+-- counted on from the number that it tells, else from that of the last line that had taken hold; so they are numbered, as
+-- long as there are numbers.
+pub record HasHistory {K : Type 0} (keeper : Keeper K) (source : Source K) (wanted : Option (List ℕ)) (all : List (List ℕ)) (s : Stage K) (now : Running K) : Type 0 where
+  pub first : List ℕ
   pub setup : List Node
+  pub base : Option ℕ
+  pub reads : numbered_setup_in first ≡ Ok (setup, base)
   pub member : Node
   pub asked : IsMember setup wanted member
-  pub events : List NodeEvent
-  pub was : WasRun keeper setup member events now
+  pub did : List Numbered
+  pub was : WasRun keeper setup member (all_done did) now
   pub found : source.found 1 was.starts.fresh
+  pub numbered : List (List ℕ)
+  pub others : List (List ℕ)
+  pub carries : Carries now.party was.last (number_from base was.last) was.start.state numbered did now.node.state
+  pub are : some_lines all ≡ first ∷ (numbered ++ others)
+  pub number : s.number ≡ number_from base was.last + length numbered
+  pub beyond : others ≢ [] → s.number ≡ max_whole
+  pub known : s.known ≡ was.last
 
 abbrev pub RunsAreHistories : {K : Type 0} → Keeper K → Source K → Type 0
 RunsAreHistories {K} keeper source =
     (echo : Bool) (wanted : Option (List ℕ)) (opened : List ℕ) (all : List (List ℕ)) (ran : Ran) (out : List ℕ) (s : Stage K) (now : Running K)
-    → AreNumbered (NodeLineGives keeper source) echo (opening wanted opened) all ran out s → s.running ≡ Some now → HasHistory keeper source wanted now
+    → AreNumbered (NodeLineGives keeper source) echo (opening wanted opened) all ran out s → s.running ≡ Some now → HasHistory keeper source wanted all s now
 
 -- ---- two runs
 
