@@ -124,7 +124,10 @@ module _ {K : Type 0} (keeper : Keeper K) (now : Running K) (s : Stage K) (line 
   -- one behind the last number
   pub beyond_on : s.number ≡ max_whole → (a : After K) (turn : Turn) (t : Stage K) → IsTold now Refused (refused_line max_whole None NumbersUsedUp) before after a
       → GoesOnWith (Bare s.number) a turn t → Turns turn t
-  beyond_on is (Runs next answered) turn t told goes =
-      (refused_line max_whole None NumbersUsedUp, told.2, answers.WasBeyond is (goes.0 ∙ told.1) refl
-      (goes.1 ∙ ap (λ (n : Running K). answers.next_stage s n s.number) told.0 ∙ ap (λ (n : ℕ). answers.next_stage s now n) is))
+  beyond_on is (Runs next answered) turn t told goes = (
+    refused_line max_whole None NumbersUsedUp,
+    told.2,
+    answers.WasBeyond is (goes.0 ∙ told.1) refl
+        (goes.1 ∙ ap (λ (n : Running K). answers.next_stage s n s.number) told.0 ∙ ap (λ (n : ℕ). answers.next_stage s now n) is),
+  )
   beyond_on is (Lost keep stop) turn t told goes = ended s.number keep stop turn t (answers.WasStarved told.1 told.0) told.2 goes

@@ -20,7 +20,7 @@ use Rattle.line_runs.specs.declared.outcome.Ran.{Ran}
 use Rattle.line_runs.specs.declared.run.Turn.{Turn}
 use Rattle.line_runs.specs.declared.run.Turn.TheVariants.{Ended, Refused, Taken}
 use Rattle.node_keepers.specs.Opening.{Source}
-use Rattle.stored_nodes.specs.Keepers.{Commits, IsSettled, Keeper, KeepsOn, Nothing, Takes, Taken as TakenBy}
+use Rattle.stored_nodes.specs.Keepers.{Commits, IsSettled, Keeper, KeepsOn, Nothing, Taken as TakenBy}
 use Rattle.stored_nodes.specs.Stored.{IsStored, Stored}
 use Rattle.stored_nodes.specs.Transactions.{changes_of_each}
 use Rattle.stored_nodes.proofs.Staying.{marked_holds, numbered_behind}
@@ -37,7 +37,7 @@ use Rattle.node_runs.specs.LineAnswers as lines
 use Rattle.node_runs.specs.NodeAnswers.{BehindTurn, LineTurn, LosesLine, NodeLineGives, NodeTurn, next_stage}
 use Rattle.node_runs.specs.NodeAnswers as answers
 use Rattle.node_runs.specs.NodeTurns.{IsMember, OpensNode, Running, Stage, number_from, opened_stage, opening}
-use Rattle.node_runs.specs.NumberedRuns.{Carries, IsKnown, IsRead, Numbered, Takes, all_done, none_carried, one_carried}
+use Rattle.node_runs.specs.NumberedRuns.{Carries, Changed, IsKnown, IsRead, Numbered, Takes, all_done, none_carried, none_changed, one_carried, one_changed, one_quiet}
 use Rattle.node_runs.proofs.EndLemmas.{all_go_on}
 use Rattle.node_runs.specs.NodeTurns as turns
 use Rattle.node_runs.specs.NodeHistories.{Before_line, Behind_line, GoesOnAtLine, GoesOnFrom, HasHistory, IsLeftBy, LostLinesGoOn, RunsAreHistories, TwoRunsAreOne, WasRun, kept_line, restart_of, some_lines}
@@ -136,13 +136,17 @@ module _ {K : Type 0} (keeper : Keeper K) (source : Source K) (wanted : Option (
     number = h.number;
     beyond = h.beyond;
     known = h.known;
+    changed = h.changed;
+    last_change = h.last_change;
+    changes = h.changes;
+    marked = h.marked;
   }
 
   -- a line more, by the next number
   one_more : (all : List (List ℕ)) (line out : List ℕ) (did : List NodeEvent) (s : Stage K) (now next : Running K) → 0 < length line → suc s.number ≤ max_whole
       → Takes now.party s.known (suc s.number) line now.node.state out did next.node.state → next.party ≡ now.party → IsSettled keeper next.node.keep
-      → HasHistory keeper source wanted all s now → HasHistory keeper source wanted (all ++ line ∷ []) (next_stage s next (suc s.number)) next
-  one_more all line out did s now next some few takes party settled h =
+      → Commits keeper (Some (suc s.number)) (changes_of_each did) now.node.keep next.node.keep → HasHistory keeper source wanted all s now → HasHistory keeper source wanted (all ++ line ∷ []) (next_stage s next (suc s.number)) next
+  one_more all line out did s now next some few takes party settled commits h =
       let was = h.was in
       let base = number_from h.base was.last in
       let none : h.others ≡ [] = no_others h.others h.beyond few in
@@ -179,8 +183,27 @@ module _ {K : Type 0} (keeper : Keeper K) (source : Source K) (wanted : Option (
         number = omega (h.number, length-append h.numbered (line ∷ []));
         beyond = λ some. absurd (some refl);
         known = h.known;
+        changed = (mark commits).0;
+        last_change = (mark commits).1;
+        changes = (mark commits).2;
+        marked = (mark commits).3;
       }
     where
+      mark : Commits keeper (Some (suc s.number)) (changes_of_each did) now.node.keep next.node.keep →
+          (changed : List ℕ) × (last : ℕ) × Changed h.was.last (h.did ++ (suc (number_from h.base h.was.last + length h.numbered), did) ∷ []) changed last
+          × (keeper.is_honest next.node.keep → line_of (keeper.content next.node.keep) ≡ Some last)
+      mark (Nothing none same) =
+          (h.changed, h.last_change, one_quiet h.changes none, λ honest. ap (λ (k : K). line_of (keeper.content k)) same ∙ h.marked (subst keeper.is_honest same honest))
+      mark (TakenBy some takes) =
+          let number = suc (number_from h.base h.was.last + length h.numbered) in (
+            h.changed ++ number ∷ [],
+            number,
+            one_changed h.changes some,
+            λ honest.
+                ap line_of (takes.makes honest) ∙ numbers_are_no_rows.is (changed_all (keeper.content now.node.keep) (changes_of_each did)) (suc s.number) takes.is_line.0 takes.is_line.1
+                ∙ ap Some (ap suc h.number),
+          )
+
       no_others : (others : List (List ℕ)) → (others ≢ [] → s.number ≡ max_whole) → suc s.number ≤ max_whole → others ≡ []
       no_others [] beyond few = refl
       no_others (o ∷ os) beyond few = let is = beyond (λ e. absurd (cc e)) in absurd (omega (is, few))
@@ -206,6 +229,10 @@ module _ {K : Type 0} (keeper : Keeper K) (source : Source K) (wanted : Option (
     number = sym is ∙ h.number;
     beyond = λ more. refl;
     known = h.known;
+    changed = h.changed;
+    last_change = h.last_change;
+    changes = h.changes;
+    marked = h.marked;
   }
 
   behind_setup : (all : List (List ℕ)) (now : Running K) (s : Stage K) (line : List ℕ) (turn : Turn) (out : List ℕ) (t : Stage K) → 0 < length line → (turn ≡ Ended → ⊥)
@@ -213,7 +240,7 @@ module _ {K : Type 0} (keeper : Keeper K) (source : Source K) (wanted : Option (
   behind_setup all now s line turn out t some on (answers.WasKnown is taken written left) whole h =
       subst (IsTold (all ++ line ∷ [])) (sym left) (record {
         wanted_so = whole.wanted_so;
-        known = one_more all line out [] s now now some (omega (is, h.known, h.was.starts.reopens.most)) (IsKnown is written refl refl) refl h.was.settled h;
+        known = one_more all line out [] s now now some (omega (is, h.known, h.was.starts.reopens.most)) (IsKnown is written refl refl) refl h.was.settled (Nothing refl refl) h;
         first = λ e. absurd (cc e);
       })
   behind_setup all now s line turn out t some on (answers.WasBeyond is refused written left) whole h =
@@ -221,7 +248,7 @@ module _ {K : Type 0} (keeper : Keeper K) (source : Source K) (wanted : Option (
   behind_setup all now s line turn out t some on (answers.GoesOn new few next is left) whole h =
       subst (IsTold (all ++ line ∷ [])) (sym left) (record {
         wanted_so = whole.wanted_so;
-        known = one_more all line out is.did s now next some few (IsRead new turn is.answers) is.party (settled_by keeper (Some (suc s.number)) is.did now.node.keep next.node.keep is.commits h.was.settled) h;
+        known = one_more all line out is.did s now next some few (IsRead new turn is.answers) is.party (settled_by keeper (Some (suc s.number)) is.did now.node.keep next.node.keep is.commits h.was.settled) is.commits h;
         first = λ e. absurd (cc e);
       })
   behind_setup all now s line turn out t some on (answers.Ends stop keep loses stored number ended written left) whole h = absurd (on ended)
@@ -259,6 +286,10 @@ module _ {K : Type 0} (keeper : Keeper K) (source : Source K) (wanted : Option (
           number = omega refl;
           beyond = λ more. absurd (more refl);
           known = refl;
+          changed = [];
+          last_change = o.last;
+          changes = none_changed;
+          marked = λ honest. ap line_of (o.begins.starts.reopens.keeps.same honest) ∙ o.begins.starts.reopens.told honest;
         };
         first = λ e. absurd (cc e);
       }
