@@ -255,3 +255,10 @@ entries_without c =
     get-remove text_pair_total c line_place q ∙ ap (λ (b : Bool). cond b None (get c q)) (line_test q) ∙ ap (cond (is_line_place q) None) (get-entries c q)
     ∙ sym (find_others q (entries c)) ∙ sym (get-from_sorted text_pair_cmp es q sorted)))
     ∙ entries-from_sorted text_pair_cmp es sorted
+
+-- what is read of entries is what is kept
+pub loaded_rows : (c : Content) (es : List Entry) → entries c ≡ es → rows_of c ≡ rows_after [] (others es)
+loaded_rows c es same = ap (rows_after []) (entries_without c ∙ ap others same)
+
+pub loaded_line : (c : Content) (es : List Entry) → entries c ≡ es → line_of c ≡ number_kept (find text_pair_cmp line_place es)
+loaded_line c es same = ap number_kept (get-entries c line_place ∙ ap (find text_pair_cmp line_place) same)
