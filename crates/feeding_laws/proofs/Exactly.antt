@@ -113,7 +113,7 @@ module _ (alike : RestartsAreHeld) (classes : AreClasses) where
         where
           inverted : (xs : List Numbered) (changed : List ℕ) (last : ℕ) → xs ≡ [] → Changed found.line xs changed last → (changed ≡ []) × (last ≡ found.line)
           inverted xs changed last none none_changed = (refl, refl)
-          inverted xs changed last none (one_quiet {xs = ys} {number = number} {did = did} before quiet) = absurd (no_end ys (number, did) none)
+          inverted xs changed last none (one_quiet {xs = ys} {did = did} number before quiet) = absurd (no_end ys (number, did) none)
           inverted xs changed last none (one_changed {xs = ys} {number = number} {did = did} before some) = absurd (no_end ys (number, did) none)
 
       record OneMore (xs : List Numbered) (number : ℕ) (did : List Deed) (changed : List ℕ) (last : ℕ) : Type 0 where
@@ -127,7 +127,7 @@ module _ (alike : RestartsAreHeld) (classes : AreClasses) where
         where
           inverted : (zs : List Numbered) (changed : List ℕ) (last : ℕ) → zs ≡ xs ++ (number, did) ∷ [] → Changed found.line zs changed last → OneMore xs number did changed last
           inverted zs changed last same none_changed = absurd (no_end xs (number, did) (sym same))
-          inverted zs changed last same (one_quiet {xs = ys} {number = n} {did = d} before quiet) =
+          inverted zs changed last same (one_quiet {xs = ys} {did = d} n before quiet) =
               let e = ends_alike ys xs (n, d) (number, did) same in
               record {
                 earlier = changed;

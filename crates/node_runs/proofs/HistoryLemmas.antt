@@ -193,7 +193,7 @@ module _ {K : Type 0} (keeper : Keeper K) (source : Source K) (wanted : Option (
           (changed : List ℕ) × (last : ℕ) × Changed h.was.last (h.did ++ (suc (number_from h.base h.was.last + length h.numbered), did) ∷ []) changed last
           × (keeper.is_honest next.node.keep → line_of (keeper.content next.node.keep) ≡ Some last)
       mark (Nothing none same) =
-          (h.changed, h.last_change, one_quiet h.changes none, λ honest. ap (λ (k : K). line_of (keeper.content k)) same ∙ h.marked (subst keeper.is_honest same honest))
+          (h.changed, h.last_change, one_quiet (suc (number_from h.base h.was.last + length h.numbered)) h.changes none, λ honest. ap (λ (k : K). line_of (keeper.content k)) same ∙ h.marked (subst keeper.is_honest same honest))
       mark (TakenBy some takes) =
           let number = suc (number_from h.base h.was.last + length h.numbered) in (
             h.changed ++ number ∷ [],
