@@ -1,5 +1,5 @@
 -- Each line that is fed by its number takes hold once, and in order.
-use Rattle.std.proofs.Common.{◌≡◌, ◌≢◌, ◌⊎◌, ◌++◌, ◌∙◌, ◌+◌, ◌<◌, ◌≤◌, ℕ, suc, List, [], ◌∷◌, Some, refl, sym, ap, subst, inl, inr, arith, length, length-append, append_assoc, append-nil}
+use Rattle.std.proofs.Common.{◌≡◌, ◌≢◌, ◌⊎◌, ◌++◌, ◌∙◌, ◌+◌, ◌<◌, ◌≤◌, ℕ, zero, suc, List, [], ◌∷◌, Some, refl, sym, ap, subst, inl, inr, arith, length, length-append, append_assoc, append-nil}
 use Rattle.std.specs.Prelude.{slice_get}
 use Rattle.line_runs.specs.declared.run.Turn.{Turn}
 use Rattle.node_rows.specs.Laws.{AreClasses, RestartsAreHeld}
@@ -16,25 +16,25 @@ use Rattle.feeding_laws.specs.Feeding.{AreBehind, AreRuns, Behind, CameOnce, Fee
 -- ---- numbers and lists
 
 le_split : (a b : ℕ) → a ≤ suc b → (a ≤ b) ⊎ (a ≡ suc b)
-le_split 0 b low = inl (omega arith)
-le_split (suc a) 0 low = inr (omega low)
+le_split zero b low = inl (omega arith)
+le_split (suc a) zero low = inr (omega (arith, low))
 le_split (suc a) (suc b) low =
-    elim (le_split a b (omega low)) [
-      | inl under ↦ inl (omega under)
+    elim (le_split a b (omega (arith, low))) [
+      | inl under ↦ inl (omega (arith, under))
       | inr same ↦ inr (ap suc same)
     ]
 
 le_total : (a b : ℕ) → (a ≤ b) ⊎ (b ≤ a)
-le_total 0 b = inl (omega arith)
-le_total (suc a) 0 = inr (omega arith)
+le_total zero b = inl (omega arith)
+le_total (suc a) zero = inr (omega arith)
 le_total (suc a) (suc b) =
     elim (le_total a b) [
-      | inl low ↦ inl (omega low)
-      | inr high ↦ inr (omega high)
+      | inl low ↦ inl (omega (arith, low))
+      | inr high ↦ inr (omega (arith, high))
     ]
 
 le_same : (a b : ℕ) → a ≤ b → b ≤ a → a ≡ b
-le_same a b low high = omega (low, high)
+le_same a b low high = omega (arith, low, high)
 
 -- two lists that end alike are alike in front
 ends_alike : {X : Type 0} (ys xs : List X) (y x : X) → ys ++ y ∷ [] ≡ xs ++ x ∷ [] → (ys ≡ xs) × (y ≡ x)
@@ -53,7 +53,7 @@ no_end (y ∷ ys) x is = cc is
 
 in_front : {X : Type 0} (xs ys : List X) (i : ℕ) (x : X) → slice_get xs i ≡ Some x → slice_get (xs ++ ys) i ≡ Some x
 in_front [] ys i x is = absurd (cc is)
-in_front (a ∷ xs) ys 0 x is = is
+in_front (a ∷ xs) ys zero x is = is
 in_front (a ∷ xs) ys (suc i) x is = in_front xs ys i x is
 
 at_end : {X : Type 0} (xs : List X) (x : X) → slice_get (xs ++ x ∷ []) (length xs) ≡ Some x
@@ -62,7 +62,7 @@ at_end (a ∷ xs) x = at_end xs x
 
 rise_le : {low high : ℕ} {numbers : List ℕ} → Rise low numbers high → low ≤ high
 rise_le none_rises = omega arith
-rise_le (one_rises before under) = omega (rise_le before, under)
+rise_le (one_rises before under) = omega (arith, rise_le before, under)
 
 rise_join : {low middle high : ℕ} {xs ys : List ℕ} → Rise low xs middle → Rise middle ys high → Rise low (xs ++ ys) high
 rise_join {low = low} {middle = middle} {xs = xs} one none_rises = subst (λ (l : List ℕ). Rise low l middle) (sym (append-nil xs)) one
@@ -113,8 +113,8 @@ module _ (alike : RestartsAreHeld) (classes : AreClasses) where
         where
           inverted : (xs : List Numbered) (changed : List ℕ) (last : ℕ) → xs ≡ [] → Changed found.line xs changed last → (changed ≡ []) × (last ≡ found.line)
           inverted xs changed last none none_changed = (refl, refl)
-          inverted xs changed last none (one_quiet {xs = ys} {did = did} number before quiet) = absurd (no_end ys (number, did) none)
-          inverted xs changed last none (one_changed {xs = ys} {number = number} {did = did} before some) = absurd (no_end ys (number, did) none)
+          inverted xs changed last none (one_quiet {xs = ys} number did before quiet) = absurd (no_end ys (number, did) none)
+          inverted xs changed last none (one_changed {xs = ys} number did before some) = absurd (no_end ys (number, did) none)
 
       record OneMore (xs : List Numbered) (number : ℕ) (did : List Deed) (changed : List ℕ) (last : ℕ) : Type 0 where
         earlier : List ℕ
@@ -127,7 +127,7 @@ module _ (alike : RestartsAreHeld) (classes : AreClasses) where
         where
           inverted : (zs : List Numbered) (changed : List ℕ) (last : ℕ) → zs ≡ xs ++ (number, did) ∷ [] → Changed found.line zs changed last → OneMore xs number did changed last
           inverted zs changed last same none_changed = absurd (no_end xs (number, did) (sym same))
-          inverted zs changed last same (one_quiet {xs = ys} {did = d} n before quiet) =
+          inverted zs changed last same (one_quiet {xs = ys} n d before quiet) =
               let e = ends_alike ys xs (n, d) (number, did) same in
               record {
                 earlier = changed;
@@ -135,7 +135,7 @@ module _ (alike : RestartsAreHeld) (classes : AreClasses) where
                 are = subst (λ (l : List Numbered). Changed found.line l changed last) e.0 before;
                 is = inl (sym (ap (λ (x : Numbered). changes_of_each x.1) e.1) ∙ quiet, refl, refl);
               }
-          inverted zs changed last same (one_changed {xs = ys} {changed = earlier} {last = b} {number = n} {did = d} before some) =
+          inverted zs changed last same (one_changed {xs = ys} {changed = earlier} {last = b} n d before some) =
               let e = ends_alike ys xs (n, d) (number, did) same in
               record {
                 earlier = earlier;
@@ -150,15 +150,15 @@ module _ (alike : RestartsAreHeld) (classes : AreClasses) where
         above = λ high. begins (base + length []) high (inl (omega (within, arith)));
         rows = λ changed last is number above below.
             let e = none_are changed last is in
-            (start, begins number (omega (e.1, above)) (under last number e.1 below), refl);
+            (start, begins number (omega (arith, e.1, above)) (under last number e.1 below), refl);
         rise = λ changed last is.
             let e = none_are changed last is in
-            (subst (λ (l : List ℕ). Rise found.line l last) (sym e.0) (subst (Rise found.line []) (sym e.1) none_rises), inr (omega e.1));
+            (subst (λ (l : List ℕ). Rise found.line l last) (sym e.0) (subst (Rise found.line []) (sym e.1) none_rises), inr (omega (arith, e.1)));
       }
         where
-          under : (last number : ℕ) → last ≡ found.line → (number ≤ base + length []) ⊎ (number ≤ last) → (number ≤ seen) ⊎ (number ≤ found.line)
-          under last number same (inl low) = inl (omega (low, within))
-          under last number same (inr low) = inr (omega (low, same))
+          under : (last number : ℕ) → last ≡ found.line → (number ≤ base + length {A = List ℕ} []) ⊎ (number ≤ last) → (number ≤ seen) ⊎ (number ≤ found.line)
+          under last number same (inl low) = inl (omega (arith, low, within))
+          under last number same (inr low) = inr (omega (arith, low, same))
 
       -- a line more
       module _ (before : List (List ℕ)) (xs : List Numbered) (now next : NodeState) (line out : List ℕ) (did : List Deed) (h : SoFar before xs now)
@@ -170,14 +170,14 @@ module _ (alike : RestartsAreHeld) (classes : AreClasses) where
         long = ap (λ (n : ℕ). base + n) (length-append before (line ∷ [])) ∙ omega arith
 
         low_so : Takes party found.line (suc at) line now out did next → suc at ≤ found.line → next ≡ start
-        low_so (IsKnown known written none same) low = same ∙ h.below (omega low)
-        low_so (IsRead new turn answers) low = absurd (omega (new, low))
+        low_so (IsKnown known written none same) low = same ∙ h.below (omega (arith, low))
+        low_so (IsRead new turn answers) low = absurd (omega (arith, new, low))
 
         high_so : Takes party found.line (suc at) line now out did next → found.line ≤ suc at → CameOnce party lines first (suc at) next
         high_so (IsKnown known written none same) high =
-            subst (CameOnce party lines first (suc at)) (sym (same ∙ h.below (omega known))) (begins (suc at) high (inr known))
+            subst (CameOnce party lines first (suc at)) (sym (same ∙ h.below (omega (arith, known)))) (begins (suc at) high (inr known))
         high_so (IsRead new turn answers) high =
-            next_came (h.above (omega new)) (subst (λ (l : List ℕ). Answers party now (suc at) l turn out did next) is answers)
+            next_came (h.above (omega (arith, new))) (subst (λ (l : List ℕ). Answers party now (suc at) l turn out did next) is answers)
 
         -- a line that changed rows was read
         new_of : Takes party found.line (suc at) line now out did next → changes_of_each did ≢ [] → suc found.line ≤ suc at
@@ -192,39 +192,39 @@ module _ (alike : RestartsAreHeld) (classes : AreClasses) where
         quietly earlier last c quiet number above (inl low) =
             elim (le_split number at low) [
               | inl earlier_one ↦ alike_came number now next (alike_of takes quiet) (h.rows earlier last c number above (inl earlier_one))
-              | inr this ↦ subst (λ (n : ℕ). Came n next) (sym this) (next, high_so takes (omega (above, this, rise_le (h.rise earlier last c).0)), refl)
+              | inr this ↦ subst (λ (n : ℕ). Came n next) (sym this) (next, high_so takes (omega (arith, above, this, rise_le (h.rise earlier last c).0)), refl)
             ]
         quietly earlier last c quiet number above (inr low) = alike_came number now next (alike_of takes quiet) (h.rows earlier last c number above (inr low))
 
         newly : changes_of_each did ≢ [] → (number : ℕ) → suc at ≤ number → number ≤ suc at → Came number next
         newly some number above below =
-            subst (λ (n : ℕ). Came n next) (le_same (suc at) number above below) (next, high_so takes (omega (new_of takes some)), refl)
+            subst (λ (n : ℕ). Came n next) (le_same (suc at) number above below) (next, high_so takes (omega (arith, new_of takes some)), refl)
 
         lower : (number last before_last : ℕ) → last ≡ before_last → (number ≤ base + length (before ++ line ∷ [])) ⊎ (number ≤ last) → (number ≤ suc at) ⊎ (number ≤ before_last)
-        lower number last before_last same (inl low) = inl (omega (low, long))
-        lower number last before_last same (inr low) = inr (omega (low, same))
+        lower number last before_last same (inl low) = inl (omega (arith, low, long))
+        lower number last before_last same (inr low) = inr (omega (arith, low, same))
 
         omega_le : (number last : ℕ) → last ≡ suc at → (number ≤ base + length (before ++ line ∷ [])) ⊎ (number ≤ last) → number ≤ suc at
-        omega_le number last same (inl low) = omega (low, long)
-        omega_le number last same (inr low) = omega (low, same)
+        omega_le number last same (inl low) = omega (arith, low, long)
+        omega_le number last same (inr low) = omega (arith, low, same)
 
         kept_under : (last before_last : ℕ) → last ≡ before_last → (before_last ≤ at) ⊎ (before_last ≤ found.line) → (last ≤ base + length (before ++ line ∷ [])) ⊎ (last ≤ found.line)
-        kept_under last before_last same (inl low) = inl (omega (low, same, long))
-        kept_under last before_last same (inr low) = inr (omega (low, same))
+        kept_under last before_last same (inl low) = inl (omega (arith, low, same, long))
+        kept_under last before_last same (inr low) = inr (omega (arith, low, same))
 
         under_next : suc found.line ≤ suc at → (last : ℕ) → (last ≤ at) ⊎ (last ≤ found.line) → last < suc at
-        under_next new last (inl low) = omega low
-        under_next new last (inr low) = omega (low, new)
+        under_next new last (inl low) = omega (arith, low)
+        under_next new last (inr low) = omega (arith, low, new)
 
         one_so_far : SoFar (before ++ line ∷ []) (xs ++ (suc (base + length before), did) ∷ []) next
         one_so_far = record {
-          below = λ low. low_so takes (omega (low, long));
-          above = λ high. subst (λ (n : ℕ). CameOnce party lines first n next) (omega long) (high_so takes (omega (high, long)));
+          below = λ low. low_so takes (omega (arith, low, long));
+          above = λ high. subst (λ (n : ℕ). CameOnce party lines first n next) (omega (arith, long)) (high_so takes (omega (arith, high, long)));
           rows = λ changed last c number above below.
               let m = one_more xs (suc at) did changed last c in
               elim m.is [
-                | inl quiet ↦ quietly m.earlier m.before m.are quiet.0 number (omega (above, quiet.2)) (lower number last m.before quiet.2 below)
-                | inr some ↦ newly some.0 number (omega (above, some.2)) (omega_le number last some.2 below)
+                | inl quiet ↦ quietly m.earlier m.before m.are quiet.0 number (omega (arith, above, quiet.2)) (lower number last m.before quiet.2 below)
+                | inr some ↦ newly some.0 number (omega (arith, above, some.2)) (omega_le number last some.2 below)
               ];
           rise = λ changed last c.
               let m = one_more xs (suc at) did changed last c in
@@ -236,7 +236,7 @@ module _ (alike : RestartsAreHeld) (classes : AreClasses) where
                     let r = h.rise m.earlier m.before m.are in (
                       subst (λ (l : List ℕ). Rise found.line l last) (sym some.1)
                           (subst (Rise found.line (m.earlier ++ suc at ∷ [])) (sym some.2) (one_rises r.0 (under_next (new_of takes some.0) m.before r.1))),
-                      inl (omega (some.2, long)),
+                      inl (omega (arith, some.2, long)),
                     )
               ];
         }
@@ -261,20 +261,20 @@ module _ (alike : RestartsAreHeld) (classes : AreClasses) where
       }
       left_by read did now changed left h (One_more earlier before c new turn out more after answers some same line_is) =
           let at = base + length read in
-          let came : CameOnce party lines first (suc at) after = next_came (h.above (omega new)) answers in
+          let came : CameOnce party lines first (suc at) after = next_came (h.above (omega (arith, new))) answers in
           let r = h.rise earlier before c in
           record {
-            came = λ number above below. subst (λ (n : ℕ). Came n left.state) (le_same (suc at) number (omega (above, line_is)) (only_next at number left.line line_is above below)) (after, came, sym same);
+            came = λ number above below. subst (λ (n : ℕ). Came n left.state) (le_same (suc at) number (omega (arith, above, line_is)) (only_next at number left.line line_is above below)) (after, came, sym same);
             rise = subst (Rise found.line (earlier ++ suc at ∷ [])) (sym line_is) (one_rises r.0 (before_next at before r.1 new));
           }
         where
           only_next : (at number line : ℕ) → line ≡ suc at → line ≤ number → (number ≤ at) ⊎ (number ≤ line) → number ≤ suc at
-          only_next at number line is above (inl low) = omega low
-          only_next at number line is above (inr low) = omega (low, is)
+          only_next at number line is above (inl low) = omega (arith, low)
+          only_next at number line is above (inr low) = omega (arith, low, is)
 
           before_next : (at last : ℕ) → (last ≤ at) ⊎ (last ≤ found.line) → suc found.line ≤ suc at → last < suc at
-          before_next at last (inl low) new = omega low
-          before_next at last (inr low) new = omega (low, new)
+          before_next at last (inl low) new = omega (arith, low)
+          before_next at last (inr low) new = omega (arith, low, new)
 
   -- ---- all runs
 
@@ -284,14 +284,14 @@ module _ (alike : RestartsAreHeld) (classes : AreClasses) where
 
   all_end : {party : List ℕ} {lines : ℕ → List ℕ} {first left : Held} {seen : ℕ} {changed : List ℕ} → first.line ≡ 1 → AreRuns party lines first seen changed left → AllEnd party lines first seen changed left
   all_end {party = party} {lines = lines} {first = first} new none_ran = record {
-    came = λ number above below. subst (λ (n : ℕ). Came party lines first.state n first.state) (le_same 1 number (omega (above, new)) (under_one number below)) (first.state, none_came, refl);
+    came = λ number above below. subst (λ (n : ℕ). Came party lines first.state n first.state) (le_same 1 number (omega (arith, above, new)) (under_one number below)) (first.state, none_came, refl);
     rise = subst (Rise 1 []) (sym new) none_rises;
   }
     where
       under_one : (number : ℕ) → (number ≤ 1) ⊎ (number ≤ first.line) → number ≤ 1
       under_one number (inl low) = low
-      under_one number (inr low) = omega (low, new)
-  all_end {party = party} {lines = lines} {first = first} new (one_ran {seen = seen} {base = base} {found = found} {left = left} {read = read} {changed = changed} runs some within ran) =
+      under_one number (inr low) = omega (arith, low, new)
+  all_end {party = party} {lines = lines} {first = first} new (one_ran {seen = seen} {base = base} {changed = changed} {found = found} {left = left} {read = read} runs some within ran) =
       let h = all_end new runs in
       let so_far = all_so_far party lines first.state found base seen within h.came read ran.did ran.now ran.carries ran.are in
       let e = left_by party lines first.state found base seen within h.came read ran.did ran.now changed left so_far ran.leaves in

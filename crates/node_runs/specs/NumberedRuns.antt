@@ -33,7 +33,7 @@ pub data Carries (party : List ℕ) (known base : ℕ) (first : NodeState) : Lis
 -- The numbers of those for which rows were changed, in order, and the last of them, or `known` where there are none.
 pub data Changed (known : ℕ) : List Numbered → List ℕ → ℕ → Type 0 where
   none_changed : Changed known [] [] known
-  one_quiet : {xs : List Numbered} {changed : List ℕ} {last : ℕ} {did : List Deed} (number : ℕ) → Changed known xs changed last → changes_of_each did ≡ []
+  one_quiet : {xs : List Numbered} {changed : List ℕ} {last : ℕ} (number : ℕ) (did : List Deed) → Changed known xs changed last → changes_of_each did ≡ []
       → Changed known (xs ++ (number, did) ∷ []) changed last
-  one_changed : {xs : List Numbered} {changed : List ℕ} {last number : ℕ} {did : List Deed} → Changed known xs changed last → changes_of_each did ≢ []
+  one_changed : {xs : List Numbered} {changed : List ℕ} {last : ℕ} (number : ℕ) (did : List Deed) → Changed known xs changed last → changes_of_each did ≢ []
       → Changed known (xs ++ (number, did) ∷ []) (changed ++ number ∷ []) number
