@@ -147,7 +147,7 @@ module _ (alike : RestartsAreHeld) (classes : AreClasses) where
       none_so_far : SoFar [] [] start
       none_so_far = record {
         below = λ low. refl;
-        above = λ high. begins (base + length []) high (inl (omega (within, arith)));
+        above = λ high. begins (base + length {A = List ℕ} []) high (inl (omega (within, arith)));
         rows = λ changed last is number above below.
             let e = none_are changed last is in
             (start, begins number (omega (arith, e.1, above)) (under last number e.1 below), refl);

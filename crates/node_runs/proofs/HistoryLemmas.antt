@@ -282,7 +282,7 @@ module _ {K : Type 0} (keeper : Keeper K) (source : Source K) (wanted : Option (
           others = [];
           carries = none_carried;
           are = lines_on all line ∙ ap (λ (l : List (List ℕ)). l ++ kept_line line) none ∙ one_kept line some;
-          number = omega (arith, refl);
+          number = omega arith;
           beyond = λ more. absurd (more refl);
           known = refl;
           changed = [];

@@ -26,6 +26,9 @@ use Rattle.stored_nodes.specs.declared.stored_node.Applied.TheVariants.{Skipped,
 use Rattle.world_steps.specs.Steps.{NodeEvent as Deed, changes_of, packets_of}
 use Rattle.world_steps.specs.World.{NodeState}
 use Rattle.program_lines.specs.Writing.{packet_lines}
+use Rattle.node_runs.specs.Afters.{IsAnswered, IsFaultTold, IsToldAs}
+use Rattle.node_runs.specs.declared.event_lines.Answered.{Answered}
+use Rattle.stored_nodes.specs.declared.fault.ApplyFault.{ApplyFault}
 use Rattle.node_runs.specs.DoneLines.{idle_line, malformed_line, refused_line, skipped_line}
 use Rattle.node_runs.specs.LineAnswers.{IsOwn, OneEvent, PlacedTurn, applied_lines, step_line}
 use Rattle.node_runs.specs.LineAnswers as lines
@@ -110,3 +113,34 @@ module _ {K : Type 0} (keeper : Keeper K) (now : Running K) (number : ℕ) (text
           lines.WasDone x own l.event l.brings l.step true (λ is. l.some, λ is. refl) refl refl refl in
           WasDeclined Taken out (l.event ∷ []) l.after (OneEvent (Ok x) read turns) some fault fails.0
           (subst (λ (cs : List Change). Declines keeper (Some number) cs (counted_fault fault) now.node.keep node.keep) (sym (changes_of_one l.event)) l.declines) refl
+
+-- ---- what is answered of an event
+
+told_line : {K : Type 0} (keeper : Keeper K) (now next : Running K) (number : ℕ) (text : List ℕ) (turn : Turn) (out before after : List ℕ) (a : Answered) → IsToldAs turn out before after a
+    → LineTurn keeper now number text turn out next → IsAnswered keeper now number text before after a next
+told_line keeper now next number text turn out before after a (inl untold) is =
+    subst (λ (b : Answered). IsAnswered keeper now number text before after b next) (sym untold) (turn, out, is)
+told_line keeper now next number text turn out before after a (inr told) is =
+    subst (λ (b : Answered). IsAnswered keeper now number text before after b next) (sym told.0) (out, told.1, is)
+
+module _ {K : Type 0} (keeper : Keeper K) (now : Running K) (number : ℕ) (text : List ℕ) (x : NodeEvent) (read : node_line_in text ≡ Ok (One x)) (before after : List ℕ) (a : Answered) where
+  pub answered_elsewhere : key x.node ≢ key now.party → IsToldAs Taken (skipped_line number None) before after a → IsAnswered keeper now number text before after a now
+  answered_elsewhere other told = told_line keeper now now number text Taken (skipped_line number None) before after a told (elsewhere keeper now number text x read other)
+
+  module _ (same : key x.node ≡ key now.party) (node : Stored K) where
+    abbrev Behind : Running K
+    Behind = record { party = now.party; node = node }
+
+    pub answered_applied : (did : Applied) → Applies keeper (Some number) now.node x.kind did node → IsToldAs Taken (applied_lines number None did) before after a
+        → IsAnswered keeper now number text before after a Behind
+    answered_applied did applies told =
+        told_line keeper now Behind number text Taken (applied_lines number None did) before after a told (applied keeper now number text x read same node did applies)
+
+    pub answered_fault : (fault : ApplyFault) → FailsToApply keeper (Some number) now.node x.kind fault node → IsFaultTold number fault before after a
+        → IsAnswered keeper now number text before after a Behind
+    answered_fault (apply.Store fault) fails told =
+        subst (λ (b : Answered). IsAnswered keeper now number text before after b Behind) (sym told) (declined keeper now number text x read same node fault fails)
+    answered_fault (apply.Core fault) fails told =
+        told_line keeper now Behind number text Refused (refused_line number None fault) before after a told (refused keeper now number text x read same node fault fails)
+    answered_fault apply.Memory fails told =
+        subst (λ (b : Answered). IsAnswered keeper now number text before after b Behind) (sym told) (ap (λ (n : Stored K). record { party = now.party; node = n }) fails)
