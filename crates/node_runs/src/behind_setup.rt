@@ -1,7 +1,8 @@
 //! What comes of the lines behind the setup that are read, each of which is an event, or an array of events.
 
-ghost use Rattle.std.specs.Prelude.{◌≡◌, ◌++◌, List, [], IsOk, Ok, OnErr, OnOk, string_bytes, ℕ};
+ghost use Rattle.std.specs.Prelude.{◌≡◌, ◌↔◌, ◌++◌, List, [], IsOk, IsTrue, Ok, OnErr, OnOk, string_bytes, ℕ};
 ghost use Rattle.json_text.specs.Fault.{Fails as FailsToRead};
+ghost use Rattle.json_text.specs.declared.fault.JsonFault.TheVariants.{Memory};
 ghost use Rattle.stored_nodes.specs.Keepers.{keeper_of};
 ghost use Rattle.node_lines.specs.NodeLines.{node_line_in};
 ghost use Rattle.node_lines.specs.declared.node_line.NodeLine.TheVariants.{One, Several};
@@ -178,6 +179,13 @@ fn answer_several<K: Keep>(
     after
 }
 
+/// Whether memory ran out.
+pub fn is_starved(fault: JsonFault) -> bool
+    ensures { IsTrue result ↔ (fault ≡ Memory) }
+{
+    matches!(fault, JsonFault::Memory)
+}
+
 /// Writes why a line was refused as a text. Where memory ran out, the node ends.
 fn refuse_line<K: Keep>(
     running: Running<K>,
@@ -192,7 +200,7 @@ fn refuse_line<K: Keep>(
         → IsAfter (keeper_of K.content K.is_honest K.refusals K.may_leave) running number line.now (string_bytes output.old) (string_bytes output.new) result }
 {
     running.is_stored();
-    if matches!(fault, JsonFault::Memory) {
+    if is_starved(fault) {
         return lose(running, NodeStop::Memory);
     }
     let written = write_malformed(number.value().value(), None, fault, text);

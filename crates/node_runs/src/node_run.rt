@@ -22,7 +22,7 @@ ghost use Rattle.node_runs.specs.Stages.{GoesOnWith, IsOpenedWith, stopped_stage
 ghost use Rattle.node_runs.specs.Stops.{IfRun, IfStop};
 
 use crate::beginning::{Begun, Running, Unbegun, begin};
-use crate::behind_setup::{add_written, answer_behind_setup, tell_written};
+use crate::behind_setup::{add_written, answer_behind_setup, is_starved, tell_written};
 use crate::done_lines::{write_known, write_malformed, write_opened, write_refused};
 use crate::fault::{NodeRunFault, NodeStop};
 use crate::list_lines::After;
@@ -199,7 +199,7 @@ impl<K: Keep + Drop, S: Keeps<Kept = K>> Program<K, S> {
         ensures { (line : List ℕ) → FailsToRead fault (numbered_setup_in line) → (out : List ℕ) × (string_bytes output.new ≡ string_bytes output.old ++ out)
             × SetupTurn (keeper_of K.content K.is_honest K.refusals K.may_leave) (source_of S.may_refuse S.found) self.old line result out self.new }
     {
-        if matches!(fault, JsonFault::Memory) {
+        if is_starved(fault) {
             return self.starve();
         }
         self.text.clear();
