@@ -23,7 +23,9 @@ returns-in-Ok g c = λ line read.
     let kept = c.answer_all-answered.ensures.keep ∙ ap (λ (q : Pending K). q.keep) begun in
     let all = subst (λ (q : Pending K). DoesAll party q c.args.number events turn [] text p) begun
     (subst (λ (before : List ℕ). DoesAll party c.begin-transaction.result c.args.number events turn before text p) c.requires
-    (subst (λ (after : List ℕ). DoesAll party c.begin-transaction.result c.args.number events turn (string_bytes c.args.lines.now) after p) (sym c.as_str.ensures.value) c.in-Ok.ensures.ok)) in
+    (subst (λ (after : List ℕ). DoesAll party c.begin-transaction.result c.args.number events turn (string_bytes c.args.lines.now) after p) (sym c.as_str.ensures.value)
+    (subst (λ (n : ℕ). DoesAll party c.begin-transaction.result n events turn (string_bytes c.args.lines.now) (string_bytes c.answer_all-answered.new.lines) p) (c.value-2.ensures.value ∙ c.value.ensures.value)
+    c.in-Ok.ensures.ok))) in
     committed keeper now c.args.number line events read c.into_parts-party.ensures.stored (string_bytes c.args.output.now) (string_bytes c.commit_all.new.output)
     party p turn text c.into_parts-party.ensures.party kept all c.commit_all.result c.commit_all.ensures
 
