@@ -21,17 +21,18 @@ ghost use Rattle.node_store.specs.Closed.{IsCopiedIfClean};
 ghost use Rattle.node_store.specs.Contents.{Content};
 ghost use Rattle.node_store.specs.Faults.{IsCommitFault};
 ghost use Rattle.node_store.specs.declared.fault.StoreFault.TheVariants.{BadRow, OldLayout};
-ghost use Rattle.node_keepers.specs.InFiles.{HadRows, IsBlank, IsFoundIn, Tells, WereFoundIfClean};
+ghost use Rattle.node_keepers.specs.InFiles.{HadRows, IsBlank, IsFoundIn, WereFoundIfClean};
 ghost use Rattle.row_table.specs.Kept.{IsClean, MayLeave, texts};
 ghost use Rattle.sqlite.specs.Files.{over_files};
 ghost use Rattle.sqlite.specs.WalFiles.{image_at};
 
 use crate::keeps::Keeps;
+use crate::loading::load_rows;
 use crate::system_files::{
     Identity, LOG_OF_A_PAGE, Locked, Standing, find_file, find_folder, find_or_make_file,
     make_file, remove_empty_log,
 };
-use node_store::{Cause, Keep, Kept, StoreFault, TableKeep, Unopened};
+use node_store::{Cause, Keep, StoreFault, TableKeep, Unopened};
 use ocpi_types::Row;
 use row_table::Past;
 use sqlite::{File, FileFrom, FileStore, Files, Start, Unknown};
@@ -440,23 +441,6 @@ pub struct Found<F> {
     /// The file and its log, which was closed once these were read, so that the file holds all rows alone. Both are
     /// locked until they are dropped. After a refusal the rows are in the file and its log together, as before.
     pub closed: Result<F, StoreFault>,
-}
-
-/// The rows of a keeper.
-fn load_rows<K: Keep>(keep: &mut K) -> Result<Vec<Row>, StoreFault>
-    ensures rows { K.is_honest keep.new → IfOk result (λ v. Tells (K.content keep.old) (Some v.items)) }
-    ensures bad { K.is_honest keep.new → IfErr result (λ e. e ≡ BadRow → Tells (K.content keep.old) None) }
-    ensures layout { IfErr result (λ e. e ≢ OldLayout) }
-    ensures kept { K.is_honest keep.new → K.content keep.new ≡ K.content keep.old }
-    ensures honest { K.is_honest keep.new → K.is_honest keep.old }
-{
-    match keep.load() {
-        Ok(kept) => {
-            let Kept { rows, line: _ } = kept;
-            Ok(rows)
-        }
-        Err(fault) => Err(fault),
-    }
 }
 
 /// The rows of a keeper that was opened, which ends here. It stands for any keeper, since a body that holds one in a

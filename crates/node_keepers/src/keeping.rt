@@ -148,8 +148,9 @@ fn find<K>(kept: &[KeptNode<K>], party: &Party) -> Option<usize>
     None
 }
 
-/// Gives the changes of an event to the keeper of that party's node, where there are any, of no numbered line. A refusal is that of the
-/// keeper, and changes nothing; `NoKeeper` comes where there are changes and no keeper for them.
+/// Gives the changes of an event, which is of no numbered line, to the keeper of that party's node, where there are any.
+/// A refusal is that of the keeper, and changes nothing; `NoKeeper` comes where there are changes and no keeper for
+/// them.
 pub fn commit<K: Keep>(
     kept: &mut Vec<KeptNode<K>>,
     party: &Party,

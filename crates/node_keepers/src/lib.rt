@@ -58,6 +58,7 @@
 mod files;
 mod keeping;
 mod keeps;
+mod loading;
 mod system_files;
 
 pub use files::{FileKeeps, Found, StoreFile, rows_in};

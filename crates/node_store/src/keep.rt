@@ -34,8 +34,8 @@ pub trait Keep {
     /// What is kept where a stop comes now.
     ghost may_leave: { Self → Content → Type 0 };
 
-    /// The rows that are kept, ordered by kind and key, and the number of the last line that took hold. `BadRow` where a
-    /// text is no row of its kind and key, or that of the number is no number from 2.
+    /// The rows that are kept, ordered by kind and key, and the number of the last line that took hold. `BadRow` where
+    /// a text is no row of its kind and key, or that of the number is no number from 2.
     fn load(&mut self) -> Result<Kept, StoreFault>
         ensures rows { Self.is_honest self.new → IfOk result (λ k. rows_of (Self.content self.old) ≡ Some k.rows.items) }
         ensures first { IfOk result (λ k. 1 ≤ k.line) }
