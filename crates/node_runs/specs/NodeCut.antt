@@ -34,7 +34,7 @@ answers-cut party now next number line turn out did (answer.OneEvent read is tur
 answers-cut party now next number line turn out did (answer.SeveralEvents events is carries) = answer.SeveralEvents events (sym (line-cut line) ∙ is) carries
 
 module _ {K : Type 0} (keeper : Keeper K) (source : Source K) where
-  opens-cut : (wanted : Option (List ℕ)) (line : List ℕ) → OpensNode keeper source wanted (take KEPT_BYTES line) → OpensNode keeper source wanted line
+  abbrev opens-cut : (wanted : Option (List ℕ)) (line : List ℕ) → OpensNode keeper source wanted (take KEPT_BYTES line) → OpensNode keeper source wanted line
   opens-cut wanted line o = record {
     setup = o.setup;
     base = o.base;
