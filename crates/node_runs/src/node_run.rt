@@ -16,7 +16,8 @@ ghost use Rattle.node_runs.specs.NodeOutputs.{IsKept, NodeBegins, NodeOutputs, N
 ghost use Rattle.node_runs.specs.Afters.{IsAfter, IsTold};
 ghost use Rattle.node_runs.specs.NodeAnswers.{BehindTurn, NodeEndGives, NodeLineGives};
 ghost use Rattle.node_runs.specs.DoneLines.{known_line, refused_line};
-ghost use Rattle.node_runs.specs.NodeTurns.{SetupTurn, keep_in, opening};
+ghost use Rattle.node_runs.specs.NodeTurns.{SetupTurn, keep_in, number_from, opening};
+ghost use Rattle.node_runs.specs.declared.list_lines.After.{After as AfterOf};
 ghost use Rattle.node_runs.specs.SetupLines.{numbered_setup_in};
 ghost use Rattle.node_runs.specs.Stages.{GoesOnWith, IsOpenedWith, stopped_stage};
 ghost use Rattle.node_runs.specs.Stops.{IfRun, IfStop};
@@ -82,6 +83,16 @@ impl<K: Keep, S: Keeps<Kept = K>> Model for Program<K, S> {
     } };
 
     ghost invariant = { λ p. IsCounted p.running p.number };
+}
+
+/// The number from which the lines behind a setup are counted on.
+fn number_from(base: Option<Whole>, last: Whole) -> Whole
+    ensures { result ≡ number_from base last }
+{
+    match base {
+        Some(base) => base,
+        None => last,
+    }
 }
 
 /// No line was read.
@@ -238,6 +249,7 @@ impl<K: Keep + Drop, S: Keeps<Kept = K>> Program<K, S> {
 
     /// Goes on with a node that was opened, and says so.
     fn take_begun(&mut self, begun: Begun<K>, base: Option<Whole>, output: &mut String) -> Turn
+        requires { 1 ≤ number_from base begun.line }
         ensures { IsOpenedWith self.old begun base (string_bytes output.old) (string_bytes output.new) result self.new }
     {
         let Begun {
@@ -249,10 +261,7 @@ impl<K: Keep + Drop, S: Keeps<Kept = K>> Program<K, S> {
         let serial = running.node.node().last_serial();
         self.running = Some(running);
         self.known = line;
-        self.number = match base {
-            Some(base) => base,
-            None => line,
-        };
+        self.number = number_from(base, line);
         self.text.clear();
         let written = write_opened(
             self.alloc,
@@ -276,50 +285,54 @@ impl<K: Keep + Drop, S: Keeps<Kept = K>> Program<K, S> {
             × BehindTurn (keeper_of K.content K.is_honest K.refusals K.may_leave) running self.old line.now result out self.new }
     {
         running.is_stored();
-        let after = match self.number.next() {
-            None => self.refuse_beyond(running, output),
-            Some(number) => {
-                self.number = number;
-                if number.value() <= self.known.value() {
-                    self.tell_known(running, output)
-                } else {
-                    self.answer_new(running, line, output)
-                }
-            }
+        let Some(number) = self.number.next() else {
+            return self.refuse_beyond(running, output);
         };
-        self.take_after(after)
+        self.number = number;
+        if number.value() <= self.known.value() {
+            return self.tell_known(running, output);
+        }
+        self.answer_new(running, line, output)
     }
 
     /// Says that there is no number for the line.
-    fn refuse_beyond(&mut self, running: Running<K>, output: &mut String) -> After<K>
-        ensures told { IsTold running Refused (refused_line max_whole None NumbersUsedUp) (string_bytes output.old) (string_bytes output.new) result }
-        ensures stage { self.new ≡ self.old }
+    fn refuse_beyond(&mut self, running: Running<K>, output: &mut String) -> Turn
+        requires none { self.old.running ≡ None }
+        requires counted { 1 ≤ self.old.number }
+        ensures { (after : AfterOf K) × IsTold running Refused (refused_line max_whole None NumbersUsedUp) (string_bytes output.old) (string_bytes output.new) after
+            × GoesOnWith self.old after result self.new }
     {
         self.text.clear();
         let written = write_refused(Whole::MAX, None, NodeFault::NumbersUsedUp, &mut self.text);
-        tell_written(running, written, Turn::Refused, self.text.as_str(), output)
+        let after = tell_written(running, written, Turn::Refused, self.text.as_str(), output);
+        self.take_after(after)
     }
 
     /// Says that the line of the last number had taken hold before the run.
-    fn tell_known(&mut self, running: Running<K>, output: &mut String) -> After<K>
-        ensures told { IsTold running Taken (known_line self.old.number) (string_bytes output.old) (string_bytes output.new) result }
-        ensures stage { self.new ≡ self.old }
+    fn tell_known(&mut self, running: Running<K>, output: &mut String) -> Turn
+        requires none { self.old.running ≡ None }
+        requires counted { 1 ≤ self.old.number }
+        ensures { (after : AfterOf K) × IsTold running Taken (known_line self.old.number) (string_bytes output.old) (string_bytes output.new) after
+            × GoesOnWith self.old after result self.new }
     {
         self.text.clear();
         let written = write_known(self.number.value(), &mut self.text);
-        tell_written(running, written, Turn::Taken, self.text.as_str(), output)
+        let after = tell_written(running, written, Turn::Taken, self.text.as_str(), output);
+        self.take_after(after)
     }
 
     /// Reads the line of the last number, and lets happen what it asks for.
-    fn answer_new(&mut self, running: Running<K>, line: &[u8], output: &mut String) -> After<K>
-        requires { 2 ≤ self.old.number }
-        ensures after { IsAfter (keeper_of K.content K.is_honest K.refusals K.may_leave) running self.old.number line.now (string_bytes output.old) (string_bytes output.new) result }
-        ensures stage { self.new ≡ self.old }
+    fn answer_new(&mut self, running: Running<K>, line: &[u8], output: &mut String) -> Turn
+        requires none { self.old.running ≡ None }
+        requires counted { 2 ≤ self.old.number }
+        ensures { (after : AfterOf K)
+            × IsAfter (keeper_of K.content K.is_honest K.refusals K.may_leave) running self.old.number line.now (string_bytes output.old) (string_bytes output.new) after
+            × GoesOnWith self.old after result self.new }
     {
         let Some(number) = LineNumber::new(self.number) else {
             unreachable!()
         };
-        answer_behind_setup(
+        let after = answer_behind_setup(
             self.alloc,
             &mut self.scratch,
             running,
@@ -327,7 +340,8 @@ impl<K: Keep + Drop, S: Keeps<Kept = K>> Program<K, S> {
             line,
             &mut self.text,
             output,
-        )
+        );
+        self.take_after(after)
     }
 
     /// Goes on with what a line behind the setup left. Where the node has ended, its keeper is what is left.
@@ -384,10 +398,7 @@ fn write_beginning<W: Write>(writer: &mut W, echo: bool) -> Result<(), RunFault>
     if !echo {
         return Ok(());
     }
-    match write_whole(writer, b"\n\n") {
-        Ok(()) => flush(writer),
-        Err(fault) => Err(fault),
-    }
+    write_flushed(writer, b"\n\n")
 }
 
 /// Runs one node of a setup for as long as lines come. The first line that holds something is the setup, in which

@@ -1,4 +1,18 @@
+use Rattle.std.proofs.Common.{◌≡◌, ◌++◌, [], None, List, ℕ, string_bytes, OnOk, sym, subst}
+use Rattle.line_runs.specs.declared.run.Turn.TheVariants.{Refused}
+use Rattle.node_steps.specs.declared.fault.NodeFault.TheVariants.{NumbersUsedUp}
+use Rattle.ocpi_text.specs.Whole.{max_whole}
+use Rattle.node_runs.specs.DoneLines.{refused_line}
+use Rattle.node_runs.proofs.AfterLemmas.{told_as}
 use Rattle.node_runs.proofs.node_run.Program.refuse_beyond.Goals as goal
 
-pub returns-clause-told : goal.returns-clause-told
-returns-clause-told g c = ?
+pub returns : goal.returns
+returns g c =
+    let out = refused_line max_whole None NumbersUsedUp in
+    let whole = subst (λ (s : List ℕ). OnOk c.write_refused-written.result (c.as_str.result.now ≡ s ++ out)) c.clear.ensures.bytes
+    (subst (λ (s : List ℕ). OnOk c.write_refused-written.result (s ≡ string_bytes c.clear.new.self ++ out)) (sym c.as_str.ensures.value) c.write_refused-written.ensures) in (
+      c.tell_written-after.result,
+      told_as c.args.running Refused c.as_str.result.now out (string_bytes c.args.output.now) (string_bytes c.tell_written-after.new.output) c.write_refused-written.result c.tell_written-after.result
+          c.tell_written-after.ensures.told c.tell_written-after.ensures.written whole,
+      ?,
+    )

@@ -1,4 +1,0 @@
-use Rattle.node_runs.proofs.node_run.Program.answer_next.Goals as goal
-
-pub returns : goal.returns
-returns g c = ?
