@@ -28,9 +28,7 @@ use crate::done_lines::{write_known, write_malformed, write_opened, write_refuse
 use crate::fault::{NodeRunFault, NodeStop};
 use crate::list_lines::After;
 use crate::setup_line::read_numbered_setup;
-use line_runs::{
-    AnswerNumbered, LineReader, Ran, RunFault, Turn, flush, run_numbered, write_whole,
-};
+use line_runs::{AnswerNumbered, LineReader, Ran, RunFault, Turn, run_numbered, write_flushed};
 use node_keepers::Keeps;
 use node_steps::NodeFault;
 use node_store::{Keep, LineNumber};

@@ -170,34 +170,38 @@ number_again n least most = ap (λ (read : Read Row). after_row read number_in) 
 pub line_marked : (c : Content) (n : ℕ) → 2 ≤ n → n ≤ max_whole → line_of (marked (Some n) c) ≡ Some n
 line_marked c n least most = ap number_kept (get_set_same c line_place (Some (line_text n))) ∙ number_again n least most
 
--- no text is read as the number 1
-no_small : (b : Bool) (n : ℕ) → nat_le 2 n ≡ b → (if b then Some n else None) ≡ Some 1 → ⊥
-no_small true n least is = absurd (let le = leb-true 2 n least in let same : n ≡ 1 = same_Some n 1 is in omega (arith, le, same))
-no_small false n least is = absurd (let e = is in cc)
+-- no text is read as a number below 2
+two_or_more : (b : Bool) (m n : ℕ) → nat_le 2 m ≡ b → (if b then Some m else None) ≡ Some n → 2 ≤ n
+two_or_more true m n least is = let le = leb-true 2 m least in let same : m ≡ n = same_Some m n is in omega (arith, le, same)
+two_or_more false m n least is = absurd (let e = is in cc)
 
-no_first : (r : Row) → number_in r ≡ Some 1 → ⊥
-no_first (row.Count counter last) is = no_small (nat_le 2 last) last refl is
-no_first (row.Reply sender number reply) is = absurd (let e = is in cc)
-no_first (row.Token t) is = absurd (let e = is in cc)
-no_first (row.Push number to push) is = absurd (let e = is in cc)
-no_first (row.Service evse_uid) is = absurd (let e = is in cc)
-no_first (row.Spent provider reference) is = absurd (let e = is in cc)
-no_first (row.Mark provider reservation_id number) is = absurd (let e = is in cc)
-no_first (row.Reservation provider reservation_id r) is = absurd (let e = is in cc)
-no_first (row.Pending provider number open_command) is = absurd (let e = is in cc)
-no_first (row.Result provider number result) is = absurd (let e = is in cc)
-no_first (row.Session s) is = absurd (let e = is in cc)
-no_first (row.Cdr c) is = absurd (let e = is in cc)
-no_first (row.Command number command) is = absurd (let e = is in cc)
+in_row : (r : Row) (n : ℕ) → number_in r ≡ Some n → 2 ≤ n
+in_row (row.Count counter last) n is = two_or_more (nat_le 2 last) last n refl is
+in_row (row.Reply sender number reply) n is = absurd (let e = is in cc)
+in_row (row.Token t) n is = absurd (let e = is in cc)
+in_row (row.Push number to push) n is = absurd (let e = is in cc)
+in_row (row.Service evse_uid) n is = absurd (let e = is in cc)
+in_row (row.Spent provider reference) n is = absurd (let e = is in cc)
+in_row (row.Mark provider reservation_id number) n is = absurd (let e = is in cc)
+in_row (row.Reservation provider reservation_id r) n is = absurd (let e = is in cc)
+in_row (row.Pending provider number open_command) n is = absurd (let e = is in cc)
+in_row (row.Result provider number result) n is = absurd (let e = is in cc)
+in_row (row.Session s) n is = absurd (let e = is in cc)
+in_row (row.Cdr c) n is = absurd (let e = is in cc)
+in_row (row.Command number command) n is = absurd (let e = is in cc)
 
-no_first_read : (read : Read Row) → after_row read number_in ≡ Some 1 → ⊥
-no_first_read (Ok r) is = no_first r is
-no_first_read (Err e) is = absurd (let f = is in cc)
+in_read : (read : Read Row) (n : ℕ) → after_row read number_in ≡ Some n → 2 ≤ n
+in_read (Ok r) n is = in_row r n is
+in_read (Err e) n is = absurd (let f = is in cc)
 
--- the number is 1 only where nothing is kept
+-- the number is 1 only where nothing is kept, and else above it
 pub no_first_number : (o : Option (List ℕ)) → number_kept o ≡ Some 1 → o ≡ None
 no_first_number None is = refl
-no_first_number (Some t) is = absurd (no_first_read (row_in (codes "count") (codes "serial") t) is)
+no_first_number (Some t) is = let two = in_read (row_in (codes "count") (codes "serial") t) 1 is in absurd (omega (arith, two))
+
+pub kept_least : (o : Option (List ℕ)) (n : ℕ) → number_kept o ≡ Some n → 1 ≤ n
+kept_least None n is = let same : 1 ≡ n = same_Some 1 n is in omega (arith, same)
+kept_least (Some t) n is = let two = in_read (row_in (codes "count") (codes "serial") t) n is in omega (arith, two)
 
 pub line_of_empty : line_of empty ≡ Some 1
 line_of_empty = ap number_kept (get-empty text_pair_cmp line_place)

@@ -1,6 +1,6 @@
 //! A keeper in memory.
 
-ghost use Rattle.std.specs.Prelude.{◌≡◌, ◌≢◌, ◌⊎◌, All, List, ℕ, [], IfErr, IfOk, IfSome, OnErr, OnOk, IsSome, None, Some};
+ghost use Rattle.std.specs.Prelude.{◌≡◌, ◌≢◌, ◌≤◌, ◌⊎◌, All, List, ℕ, [], IfErr, IfOk, IfSome, OnErr, OnOk, IsSome, None, Some};
 ghost use Rattle.std.specs.FinMap.{empty, entries};
 ghost use Rattle.node_store.specs.Contents.{AnswersNumber, Content, IsLineNumber, IsReadAgain, changed_all, line_of, marked, rows_after, rows_of};
 ghost use Rattle.node_store.specs.Faults.{IsListFault, IsCommitFault, counted};
@@ -110,8 +110,10 @@ fn line_of(alloc: Global, stored: &Table<Place, StoredRow>) -> Result<Whole, Sto
 }
 
 /// All that is kept.
+#[tactic(auto, using(crate::proofs::Numbered::kept_least))]
 fn load(alloc: Global, stored: &Table<Place, StoredRow>) -> Result<Kept, StoreFault>
     ensures rows { IfOk result (λ k. rows_of (kept stored.now) ≡ Some k.rows.items) }
+    ensures first { IfOk result (λ k. 1 ≤ k.line) }
     ensures line { IfOk result (λ k. line_of (kept stored.now) ≡ Some k.line) }
     ensures bad { IfErr result (λ e. e ≡ BadRow → (rows_of (kept stored.now) ≡ None) ⊎ (line_of (kept stored.now) ≡ None)) }
     ensures fault { IfErr result IsListFault }

@@ -3,6 +3,7 @@
 ghost use Rattle.std.specs.Prelude.{
   ◌≡◌,
   ◌≢◌,
+  ◌≤◌,
   ◌⊎◌,
   All,
   List,
@@ -144,8 +145,10 @@ fn line_of(alloc: Global, texts: &[TextRow]) -> Result<Whole, StoreFault>
 }
 
 /// What is kept in texts with their kinds and names.
+#[tactic(auto, using(crate::proofs::Numbered::kept_least))]
 fn kept_in(alloc: Global, texts: &[TextRow]) -> Result<Kept, StoreFault>
     ensures rows { IfOk result (λ k. rows_after [] (others texts.now) ≡ Some k.rows.items) }
+    ensures first { IfOk result (λ k. 1 ≤ k.line) }
     ensures line { IfOk result (λ k. number_kept (find text_pair_cmp line_place texts.now) ≡ Some k.line) }
     ensures bad { IfErr result (λ e. e ≡ BadRow → (rows_after [] (others texts.now) ≡ None) ⊎ (number_kept (find text_pair_cmp line_place texts.now) ≡ None)) }
     ensures fault { IfErr result IsListFault }
@@ -157,6 +160,7 @@ fn kept_in(alloc: Global, texts: &[TextRow]) -> Result<Kept, StoreFault>
 
 fn load<S: Alter>(alloc: Global, table: &mut TextTable<S>) -> Result<Kept, StoreFault>
     ensures rows { IsClean S.Store table.new → IfOk result (λ k. rows_of (texts S.Store table.old) ≡ Some k.rows.items) }
+    ensures first { IfOk result (λ k. 1 ≤ k.line) }
     ensures line { IsClean S.Store table.new → IfOk result (λ k. line_of (texts S.Store table.old) ≡ Some k.line) }
     ensures bad { IsClean S.Store table.new → IfErr result (λ e. e ≡ BadRow → (rows_of (texts S.Store table.old) ≡ None) ⊎ (line_of (texts S.Store table.old) ≡ None)) }
     ensures fault { IfErr result (λ e. e ≢ OldLayout) }
