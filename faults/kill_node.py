@@ -30,8 +30,8 @@ whose `done` was seen. Then
 
 With --old-rule the node is fed ahead all the same, but after a stop by the rule that was right while lines had no
 numbers: of the lines without `done` only the first can have been applied, and it was where it sent something. Then
-only those lines are counted that were seen to do something in more than one run, and the status is 0 where there are
-some. (PROGRAM may be one from before the numbers.)
+only those lines are counted that were seen to send packets in more than one run, and the status is 0 where there are
+some. (PROGRAM may be one from before the numbers: no setup line has one.)
 
 A try of a minute: `--runs 4 --stops 5 --events 200`. Standard error has a line for each run. The last three lines of
 the output tell the stops that passed, how they came, and what they cost. The status is 0 where all passed.
