@@ -89,7 +89,8 @@ Examples, in the folder of the repository:
 /// After the help of `node`.
 pub const NODE: &str =
     r#"Input, on standard input: lines of JSON; docs/PROTOCOL.md has their forms, under "JSON".
-  The first is the setup, as of `play`. PARTY is one of its parties, in any case.
+  The first is the setup, as of `play`. PARTY is one of its parties, in any case. It may have a
+  member `line`, the number of the last line whose `done` you have seen, 1 at first.
   Each other line is an event, as of `play`, but a delivery has the packet itself:
   {"at":"2025-01-01T10:00:00Z","event":"deliver","node":"BE/BEC","packet":{..}}
   Or it is an array of at most 256 such events, which are applied in turn and committed together.
@@ -99,17 +100,22 @@ pub const NODE: &str =
 Output, on standard output:
   Each packet that the node sends, a line of JSON each, and after those of an event one that says
   what became of it. Its first member is `done`:
-    opened     the setup was read: the number of rows that were loaded, and the serial of the last
-               packet that the node sent
+    opened     the setup was read: the number of the last line that took hold, of the rows that were
+               loaded, and of the last packet that the node sent
+    known      the line took hold before this run, and was not read
     stepped    rows were changed or packets sent
     idle       the event was this node's, and did nothing
     skipped    the event is another node's, or of the other role
     malformed  the line was refused as a line; a malformed or absent setup ends the run
     refused    the node refused the event
     all        each event of an array is done: `events` is their number
-  `line` is the number of the line, from 1, empty ones counted. For an event of an array `event` is
-  its place in it, from 0, and `all` stands behind the last. All that a line returns is printed
-  before the next line is applied. With --echo each line is printed before what it returns.
+  `line` is the number of the line. The setup is line 1. Those behind it that are not empty are
+  counted on from its member `line`, or else from the number that `opened` has. A line takes hold
+  where it changes rows, and its number is committed with them. So after a stop begin with that
+  member, and go on with the line behind it: nothing is done twice or left out.
+  For an event of an array `event` is its place in it, from 0, and `all` stands behind the last. All
+  that a line returns is printed before the next line is applied. With --echo two empty lines are
+  printed first, and each line before what it returns.
 
 Explanations, on standard error: with --explain, for each line, or event of one, that was malformed
   or refused: its number, the refusal, the path of the member or the column, what was found, and
@@ -128,8 +134,8 @@ Exit status:
   0  no line, or event of one, was refused
   1  one was refused, or reading or writing failed, which standard error says
   2  the command line is wrong, or the setup has no such party
-  3  the store refused, memory ran out for an array of events, or no such node has just the rows:
-     standard error has `store: N Name`, and then which file or row, why, and what to do. That ends
+  3  the store refused, or no such node has just the rows: standard error has `store: N Name`, and
+     then which file or row, why, and what to do. Or memory ran out: `memory: 4 Memory`. That ends
      the run, and nothing of that line is printed but its echo; where the store could not be closed
      at the end, all is printed
 
