@@ -55,11 +55,13 @@
 //! generic.
 #![tactic(auto)]
 
+mod copies;
 mod files;
 mod keeping;
 mod keeps;
 mod system_files;
 
+pub use copies::kept_in_copy;
 pub use files::{FileKeeps, Found, StoreFile, rows_in};
 pub use keeping::{KeptNode, close_all, commit, open_all};
 pub use keeps::{Keeps, ListKeeps};

@@ -89,7 +89,7 @@ fn answer_own<K: Keep>(
 }
 
 /// Writes the packets that a node sent for an event, and then that it did it, by whether rows were changed.
-fn write_step(
+pub fn write_step(
     alloc: Global,
     packets: &[Packet],
     changed: bool,

@@ -40,7 +40,7 @@ pub use fault::WeaveFault;
 use fault::fault_of;
 use histories::NodeHistory;
 use needs::all_needs;
-pub use needs::is_from;
+pub use needs::{is_from, was_before};
 use ocpi_text::Party;
 use ocpi_types::Event;
 use std::alloc::Global;

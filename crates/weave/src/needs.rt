@@ -92,15 +92,29 @@ fn sender_of(histories: &[NodeHistory<'_>], party: &Party, guess: usize) -> Opti
     number_of(histories, party)
 }
 
-/// The packet of a row at a serial.
-fn packet_at<'a>(row: &[&'a Packet], serial: u64) -> Option<&'a Packet>
-    ensures found { IfSome result (λ r. StandsAt (now_of row.now) serial r.now) }
-    ensures none { IfNone result (IsMissing (now_of row.now) serial) }
+/// The packet of a row at a serial, where the first of it follows that serial.
+fn packet_at<'a>(row: &[&'a Packet], before: u64, serial: u64) -> Option<&'a Packet>
+    ensures found { IfSome result (λ r. StandsAt (now_of row.now) before serial r.now) }
+    ensures none { IfNone result (IsMissing (now_of row.now) before serial) }
 {
-    if serial == 0 || serial > row.len() as u64 {
+    if serial <= before || serial - before > row.len() as u64 {
         return None;
     }
-    Some(row[serial as usize - 1])
+    Some(row[(serial - before) as usize - 1])
+}
+
+/// Whether a packet was sent before the history of its sender begins.
+pub fn was_before(histories: &[NodeHistory<'_>], packet: &Packet) -> bool
+    ensures yes { IsTrue result → WasBefore histories.now packet.now }
+    ensures no { result ≡ false → WasBefore histories.now packet.now → ⊥ }
+{
+    let serial = packet.serial.value();
+    for history in histories {
+        if serial >= 1 && serial <= history.before.value() && history.party.is_same(&packet.from) {
+            return true;
+        }
+    }
+    false
 }
 
 /// That a packet which comes was sent by its sender, whose history has that number.
@@ -119,7 +133,8 @@ fn need_of_sender(
     ensures gap { IfErr result (λ g. BlamesPacket histories.now packet.now g) }
 {
     let serial = packet.serial.value();
-    match packet_at(table[sender].as_slice(), serial) {
+    let before = histories[sender].before.value();
+    match packet_at(table[sender].as_slice(), before, serial) {
         None => Err(Gap::NeverSent),
         Some(given) => {
             if is_equal_packet(given, packet) {
@@ -181,14 +196,14 @@ pub fn delivered(entry: &Entry) -> Option<&Packet>
     }
 }
 
-/// The packet that an entry delivers, where it is from no given party.
-fn asked<'a>(given: &[Party], entry: &'a Entry) -> Option<&'a Packet>
-    ensures found { IfSome result (λ q. Asks given.now entry.now q.now) }
-    ensures none { IfNone result ((q : PacketOf) → Asks given.now entry.now q → ⊥) }
+/// The packet that an entry delivers, where it is from no given party, and was not sent before.
+fn asked<'a>(histories: &[NodeHistory<'_>], given: &[Party], entry: &'a Entry) -> Option<&'a Packet>
+    ensures found { IfSome result (λ q. Asks given.now histories.now entry.now q.now) }
+    ensures none { IfNone result ((q : PacketOf) → Asks given.now histories.now entry.now q → ⊥) }
 {
     match delivered(entry) {
         Some(packet) => {
-            if is_from(given, packet) {
+            if is_from(given, packet) || was_before(histories, packet) {
                 None
             } else {
                 Some(packet)
@@ -214,7 +229,7 @@ fn need_of(
     ensures need { IfOk result (λ n. IsNeed given.now histories.now entry.now n) }
     ensures gap { IfErr result (λ g. Blames given.now histories.now entry.now g) }
 {
-    match asked(given, entry) {
+    match asked(histories, given, entry) {
         Some(packet) => need_of_packet(histories, table, packet, guess),
         None => Ok(Need {
             sender: number,
@@ -250,7 +265,10 @@ fn gap_fault(histories: &[NodeHistory<'_>], came: Turn, gap: Gap) -> TurnFault
             let entries = histories[need.sender].entries;
             let sent_by = Turn {
                 history: need.sender,
-                entry: sending_entry(entries, need.serial as usize - 1),
+                entry: sending_entry(
+                    entries,
+                    (need.serial - histories[need.sender].before.value()) as usize - 1,
+                ),
             };
             TurnFault::Differs(came, sent_by)
         }

@@ -63,7 +63,7 @@ use refusal::MEMORY_LINE;
 use std::alloc::Global;
 use std::io::Write;
 use tables::HashSeed;
-pub use told::TranscriptFile;
+pub use told::{StoreRows, TranscriptFile};
 use weaving::{Refusal, Written, weave_files};
 
 /// Writes all of these bytes, and has the writer pass them on.

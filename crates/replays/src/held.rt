@@ -1,0 +1,61 @@
+//! What a store has: the rows of a node, and the number of the last line that took hold.
+
+use ocpi_text::Whole;
+use ocpi_types::Row;
+use std::alloc::{AllocError, Global};
+
+/// What the store of a file's first run has.
+#[derive(Drop)]
+pub struct Start {
+    pub(crate) held: Held,
+    /// Whether it was told. Else it has no rows.
+    pub(crate) is_given: bool,
+}
+
+impl Start {
+    /// No rows, and no line took hold.
+    pub fn new(alloc: Global) -> Start {
+        Start {
+            held: Held {
+                rows: Vec::new(alloc),
+                line: first_number(),
+            },
+            is_given: false,
+        }
+    }
+
+    /// These rows, and the number of the last line that took hold, which is 1 where none did.
+    pub fn of(rows: Vec<Row>, line: Whole) -> Start {
+        Start {
+            held: Held { rows, line },
+            is_given: true,
+        }
+    }
+}
+
+/// The number where no line took hold.
+fn first_number() -> Whole {
+    match Whole::new(1) {
+        Some(number) => number,
+        None => unreachable!(),
+    }
+}
+
+/// What a store has.
+#[derive(Drop)]
+pub(crate) struct Held {
+    pub rows: Vec<Row>,
+    /// The number of the last line that took hold.
+    pub line: Whole,
+}
+
+impl Held {
+    /// Equal rows. An error is want of memory.
+    pub(crate) fn copy_rows(&self, alloc: Global) -> Result<Vec<Row>, AllocError> {
+        let mut rows = Vec::new(alloc);
+        for row in self.rows.as_slice() {
+            rows.push(row.copy()?)?;
+        }
+        Ok(rows)
+    }
+}

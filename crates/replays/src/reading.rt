@@ -1,0 +1,556 @@
+//! The reading of a file, run by run.
+
+use crate::answering::{Happened, Running};
+use crate::cutting::{EchoedLine, RunText, Runs, feeds_in, split_feed};
+use crate::explaining::{tell_difference, tell_earlier, tell_older, told_opening};
+use crate::fault::ReplayFault;
+use crate::held::{Held, Start};
+use crate::opening::{Opened, Piece, Tried, try_member};
+use crate::transcript::{Opening, Source, Transcript};
+use histories::{Entry, Packets};
+use node_core::nodes_of;
+use node_runs::{NumberedSetup, read_numbered_setup, write_malformed};
+use ocpi_json::{JsonFault, Scratch};
+use ocpi_text::Party;
+use ocpi_types::{NodeEventKind, Setup};
+use std::alloc::{AllocError, Global};
+use tables::HashSeed;
+
+/// What the runs so far tell, and what they left.
+#[derive(Drop)]
+struct Reading<'a, 'b> {
+    alloc: Global,
+    seed: HashSeed,
+    /// Whether the rows were given over which the first run was opened.
+    is_given: bool,
+    /// The parties of other files.
+    earlier: &'b [Party],
+    /// The parties of which the node may be, where anything tells.
+    parties: Option<Vec<Party>>,
+    /// What the store has; before the line in doubt, if there is one.
+    held: Held,
+    /// What it has, where that took hold.
+    behind: Option<Held>,
+    /// How many of the last entries are of that line.
+    doubtful: usize,
+    openings: Vec<Opening<'a>>,
+    entries: Vec<Entry>,
+    sources: Vec<Source<'a>>,
+    /// Room for what the node prints.
+    text: String,
+}
+
+/// What was found of an opening that a stop cut.
+#[derive(Clone, Copy)]
+struct Fits {
+    /// That it fits what the store has before the line in doubt.
+    before: bool,
+    /// And behind it.
+    behind: bool,
+}
+
+/// What stands behind a setup line.
+#[derive(Clone, Copy)]
+struct Behind<'a> {
+    line: EchoedLine<'a>,
+    piece: Piece<'a>,
+    rest: &'a [u8],
+    is_ended: bool,
+}
+
+/// The text behind its first bytes.
+fn text_behind(text: &[u8], length: usize) -> &[u8] {
+    if length > text.len() {
+        return &[];
+    }
+    let (_, behind) = text.split_at(length);
+    behind
+}
+
+impl<'a, 'b> Reading<'a, 'b> {
+    fn new(alloc: Global, seed: HashSeed, start: Start, earlier: &'b [Party]) -> Reading<'a, 'b> {
+        let Start { held, is_given } = start;
+        Reading {
+            alloc,
+            seed,
+            is_given,
+            earlier,
+            parties: None,
+            held,
+            behind: None,
+            doubtful: 0,
+            openings: Vec::new(alloc),
+            entries: Vec::new(alloc),
+            sources: Vec::new(alloc),
+            text: String::new(alloc),
+        }
+    }
+
+    /// What was read of the whole file. A line in doubt is left out.
+    fn finish(mut self) -> Result<Transcript<'a>, ReplayFault> {
+        self.leave_out();
+        let Reading {
+            alloc: _,
+            seed: _,
+            is_given: _,
+            earlier: _,
+            parties,
+            held,
+            behind,
+            doubtful: _,
+            openings,
+            entries,
+            sources,
+            text,
+        } = self;
+        drop(text);
+        drop(held);
+        drop(behind);
+        drop(parties);
+        if openings.is_empty() {
+            drop(openings);
+            drop(entries);
+            drop(sources);
+            return Err(ReplayFault::Wrong(0));
+        }
+        Ok(Transcript {
+            openings,
+            entries,
+            sources,
+        })
+    }
+
+    /// Leaves the line in doubt out: it did not take hold.
+    fn leave_out(&mut self) {
+        while self.doubtful > 0 {
+            self.doubtful -= 1;
+            drop(self.entries.pop());
+            drop(self.sources.pop());
+        }
+        self.behind = None;
+    }
+
+    /// The line in doubt took hold.
+    fn take_in(&mut self) {
+        if let Some(behind) = self.behind.take() {
+            self.held = behind;
+        }
+        self.doubtful = 0;
+    }
+
+    /// Reads what one run printed.
+    fn take_run(
+        &mut self,
+        scratch: &mut Scratch,
+        run: RunText<'a>,
+        words: &mut String,
+    ) -> Result<(), ReplayFault> {
+        let Some((first, rest)) = split_feed(run.bytes) else {
+            return Ok(());
+        };
+        let line = EchoedLine {
+            number: run.number,
+            bytes: first,
+        };
+        match read_numbered_setup(self.alloc, scratch, first) {
+            Ok(numbered) => {
+                let behind = behind_setup(line, rest, run.is_ended);
+                self.take_setup(scratch, numbered, behind, words)
+            }
+            Err(JsonFault::Memory) => Err(ReplayFault::Memory),
+            Err(fault) => self.take_malformed(fault, line, rest, words),
+        }
+    }
+
+    /// Reads what stands behind a first line that is no setup.
+    fn take_malformed(
+        &mut self,
+        fault: JsonFault,
+        line: EchoedLine<'a>,
+        rest: &'a [u8],
+        words: &mut String,
+    ) -> Result<(), ReplayFault> {
+        self.text.clear();
+        if write_malformed(1, None, fault, &mut self.text).is_err() {
+            return Err(ReplayFault::Memory);
+        }
+        let told = self.text.as_bytes();
+        if told.starts_with(rest) {
+            return Ok(());
+        }
+        if self.openings.is_empty() {
+            let passed = if rest.starts_with(told) { 2 } else { 1 };
+            return Err(ReplayFault::Wrong(line.number + passed));
+        }
+        let _ = tell_difference(told, rest, words);
+        Err(ReplayFault::NotARun(line.number))
+    }
+
+    /// Reads what stands behind a setup line.
+    fn take_setup(
+        &mut self,
+        scratch: &mut Scratch,
+        numbered: NumberedSetup,
+        behind: Behind<'a>,
+        words: &mut String,
+    ) -> Result<(), ReplayFault> {
+        match self.open(numbered, behind, words) {
+            Ok(Some(running)) => self.take_lines(scratch, running, behind, words),
+            Ok(None) => Ok(()),
+            Err(fault) => Err(fault),
+        }
+    }
+
+    /// Whether the node may be of that party.
+    fn may_be(&self, party: &Party) -> bool {
+        for other in self.earlier {
+            if other.is_same(party) {
+                return false;
+            }
+        }
+        match &self.parties {
+            None => true,
+            Some(parties) => is_among(parties.as_slice(), party),
+        }
+    }
+
+    /// Finds the node that was opened, if one was.
+    fn open(
+        &mut self,
+        numbered: NumberedSetup,
+        behind: Behind<'a>,
+        words: &mut String,
+    ) -> Result<Option<Running>, ReplayFault> {
+        let NumberedSetup { setup, base } = numbered;
+        let mut parties = Vec::new(self.alloc);
+        let mut fits = Fits {
+            before: false,
+            behind: false,
+        };
+        let mut opened = None;
+        for member in 0..setup.as_slice().len() {
+            if !self.may_be(setup.as_slice()[member].party()) {
+                continue;
+            }
+            let party = *setup.as_slice()[member].party();
+            match self.try_over(&setup, member, behind.piece, false)? {
+                Tried::No => {}
+                Tried::May => {
+                    fits.before = true;
+                    parties.push(party)?;
+                }
+                Tried::Was(found) => opened = Some((found, member, false)),
+            }
+            match self.try_over(&setup, member, behind.piece, true)? {
+                Tried::No => {}
+                Tried::May => {
+                    fits.behind = true;
+                    parties.push(party)?;
+                }
+                Tried::Was(found) => opened = Some((found, member, true)),
+            }
+        }
+        match opened {
+            Some((found, member, took_hold)) => {
+                let running = self.begin(setup, member, found, took_hold, base, behind)?;
+                Ok(Some(running))
+            }
+            None => {
+                if !fits.before && !fits.behind {
+                    return Err(self.explain_opening(&setup, behind, words));
+                }
+                self.parties = Some(parties);
+                self.settle(fits);
+                Ok(None)
+            }
+        }
+    }
+
+    /// Tries one member of a setup over what the store has; with `took_hold`, over that behind the line in doubt.
+    fn try_over(
+        &mut self,
+        setup: &Setup,
+        member: usize,
+        piece: Piece<'a>,
+        took_hold: bool,
+    ) -> Result<Tried, AllocError> {
+        let nodes = nodes_of(setup);
+        if took_hold {
+            return match &self.behind {
+                Some(held) => try_member(
+                    self.alloc,
+                    self.seed,
+                    nodes,
+                    &nodes[member],
+                    held,
+                    piece,
+                    &mut self.text,
+                ),
+                None => Ok(Tried::No),
+            };
+        }
+        try_member(
+            self.alloc,
+            self.seed,
+            nodes,
+            &nodes[member],
+            &self.held,
+            piece,
+            &mut self.text,
+        )
+    }
+
+    /// What an opening that was cut tells of the line in doubt.
+    fn settle(&mut self, fits: Fits) {
+        if fits.before && fits.behind {
+            return;
+        }
+        if fits.behind {
+            self.take_in();
+        } else {
+            self.leave_out();
+        }
+    }
+
+    /// A run was opened.
+    fn begin(
+        &mut self,
+        setup: Setup,
+        member: usize,
+        found: Opened,
+        took_hold: bool,
+        base: Option<ocpi_text::Whole>,
+        behind: Behind<'a>,
+    ) -> Result<Running, AllocError> {
+        self.settle(Fits {
+            before: !took_hold,
+            behind: took_hold,
+        });
+        let party = *setup.as_slice()[member].party();
+        let mut parties = Vec::new(self.alloc);
+        parties.push(party)?;
+        self.parties = Some(parties);
+        let Opened { node, serial } = found;
+        let known = self.held.line;
+        let opening = self.openings.len();
+        self.openings.push(Opening {
+            line: behind.line,
+            setup,
+            member,
+            told: behind.piece.bytes,
+            rows: self.held.rows.len(),
+            serial,
+        })?;
+        if opening > 0 {
+            self.enter_restart(opening)?;
+        }
+        Ok(Running {
+            alloc: self.alloc,
+            node,
+            party,
+            opening,
+            known,
+            last: known,
+            number: match base {
+                Some(base) => base,
+                None => known,
+            },
+        })
+    }
+
+    /// Enters that the node started again.
+    fn enter_restart(&mut self, opening: usize) -> Result<(), AllocError> {
+        self.entries.push(Entry {
+            event: NodeEventKind::Restart,
+            packets: Packets::new(Vec::new(self.alloc)),
+        })?;
+        self.sources.push(Source::Restarted { opening })?;
+        Ok(())
+    }
+
+    /// Why no node was opened so.
+    fn explain_opening(
+        &self,
+        setup: &Setup,
+        behind: Behind<'a>,
+        words: &mut String,
+    ) -> ReplayFault {
+        let line = behind.line.number;
+        let mut told = None;
+        for node in setup.as_slice() {
+            if !self.may_be(node.party()) {
+                continue;
+            }
+            match told_opening(self.alloc, behind.piece, node.party()) {
+                Ok(Some(found)) => told = Some(found),
+                Ok(None) => {}
+                Err(_) => return ReplayFault::Memory,
+            }
+        }
+        if self.openings.is_empty() {
+            if told.is_some() && !self.is_given {
+                return ReplayFault::BegunLater(line);
+            }
+            return ReplayFault::Wrong(line + 1);
+        }
+        let last = match &self.behind {
+            Some(held) => held.line.value(),
+            None => self.held.line.value(),
+        };
+        if let Some(found) = told
+            && let Some(number) = found.line
+        {
+            if number > last {
+                return ReplayFault::LinesMissing(line);
+            }
+            if number < self.held.line.value() && behind.piece.is_closed {
+                let _ = tell_older(number, self.held.line.value(), words);
+            }
+        }
+        ReplayFault::NotARun(line)
+    }
+
+    /// Reads the lines behind an opening.
+    fn take_lines(
+        &mut self,
+        scratch: &mut Scratch,
+        running: Running,
+        behind: Behind<'a>,
+        words: &mut String,
+    ) -> Result<(), ReplayFault> {
+        let mut running = running;
+        let mut rest = behind.rest;
+        let mut number = behind.line.number + 2;
+        loop {
+            let Some((bytes, more)) = split_feed(rest) else {
+                let line = EchoedLine {
+                    number,
+                    bytes: rest,
+                };
+                let is_in_doubt = behind.is_ended && !rest.is_empty();
+                return self.end_run(scratch, running, line, is_in_doubt);
+            };
+            let line = EchoedLine { number, bytes };
+            self.answer(scratch, &mut running, line)?;
+            let told = self.text.as_bytes();
+            if more.starts_with(told) {
+                rest = text_behind(more, told.len());
+                number = number + 1 + feeds_in(told);
+            } else if told.starts_with(more) {
+                let nothing = EchoedLine { number, bytes: &[] };
+                return self.end_run(scratch, running, nothing, false);
+            } else {
+                let _ = tell_difference(told, more, words);
+                let _ = tell_earlier(self.alloc, scratch, rest, words);
+                return Err(ReplayFault::NotARun(number));
+            }
+        }
+    }
+
+    /// Carries out a line, and writes what the node prints for it.
+    fn answer(
+        &mut self,
+        scratch: &mut Scratch,
+        running: &mut Running,
+        line: EchoedLine<'a>,
+    ) -> Result<(), AllocError> {
+        let mut happened = Happened {
+            entries: &mut self.entries,
+            sources: &mut self.sources,
+        };
+        running.answer(scratch, line, &mut happened, &mut self.text)
+    }
+
+    /// A run ended, or was stopped. With `is_in_doubt`, at that line: it was carried out, or was not.
+    fn end_run(
+        &mut self,
+        scratch: &mut Scratch,
+        running: Running,
+        line: EchoedLine<'a>,
+        is_in_doubt: bool,
+    ) -> Result<(), ReplayFault> {
+        let mut running = running;
+        self.held = held_by(&running)?;
+        if !is_in_doubt {
+            drop(running);
+            return Ok(());
+        }
+        let before = self.entries.len();
+        self.answer(scratch, &mut running, line)?;
+        self.doubtful = self.entries.len() - before;
+        if running.last.value() == self.held.line.value() {
+            drop(running);
+            self.leave_out();
+            return Ok(());
+        }
+        let behind = held_by(&running)?;
+        drop(running);
+        self.behind = Some(behind);
+        Ok(())
+    }
+}
+
+/// What a node leaves in its store. An error is want of memory.
+fn held_by(running: &Running) -> Result<Held, AllocError> {
+    Ok(Held {
+        rows: running.node.stored()?,
+        line: running.last,
+    })
+}
+
+/// Whether a party is one of these.
+fn is_among(parties: &[Party], party: &Party) -> bool {
+    for other in parties {
+        if other.is_same(party) {
+            return true;
+        }
+    }
+    false
+}
+
+/// What stands behind a setup line.
+fn behind_setup<'a>(line: EchoedLine<'a>, rest: &'a [u8], is_ended: bool) -> Behind<'a> {
+    match split_feed(rest) {
+        Some((bytes, rest)) => Behind {
+            line,
+            piece: Piece {
+                bytes,
+                is_closed: true,
+            },
+            rest,
+            is_ended,
+        },
+        None => Behind {
+            line,
+            piece: Piece {
+                bytes: rest,
+                is_closed: false,
+            },
+            rest: &[],
+            is_ended,
+        },
+    }
+}
+
+/// Reads what a node printed with an echo, run behind run, over one store, from where that had what `start` says. The
+/// node is none of the parties of `earlier`. Where the file is refused for what the node would have printed,
+/// `words` gets that. `scratch` is memory for reading, whatever it holds.
+pub fn read_transcript<'a>(
+    alloc: Global,
+    seed: HashSeed,
+    scratch: &mut Scratch,
+    text: &'a [u8],
+    start: Start,
+    earlier: &[Party],
+    words: &mut String,
+) -> Result<Transcript<'a>, ReplayFault> {
+    let mut reading = Reading::new(alloc, seed, start, earlier);
+    let mut runs = Runs::new(text);
+    while let Some(run) = runs.next() {
+        match reading.take_run(scratch, run, words) {
+            Ok(()) => {}
+            Err(fault) => return Err(fault),
+        }
+    }
+    reading.finish()
+}
