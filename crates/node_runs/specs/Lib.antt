@@ -3,6 +3,7 @@ pub mod Stops
 pub mod SetupLines
 pub mod NodeTurns
 pub mod LineAnswers
+pub mod NumberedRuns
 pub mod NodeAnswers
 pub mod Afters
 pub mod Stages

@@ -133,7 +133,7 @@ pub fn tell_written<K: Keep>(
     text: &str,
     output: &mut String,
 ) -> After<K>
-    ensures { IsTold running turn text.now (string_bytes output.old) (string_bytes output.new) result }
+    ensures told { IsTold running turn text.now (string_bytes output.old) (string_bytes output.new) result }
     ensures written { IfRuns result (IsOk written) }
 {
     match add_written(written, text, output) {

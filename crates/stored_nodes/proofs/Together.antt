@@ -45,11 +45,11 @@ one_more events x = flat_map-append changes_of events (x ∷ []) ∙ ap (λ (l :
 
 -- ---- what events make of what is kept
 
-starts_by_events : NodesCanStartAgain → (n m : NodeState) (events : List NodeEvent) → Run NodeStep n events m → CanStartAgain n → CanStartAgain m
+pub starts_by_events : NodesCanStartAgain → (n m : NodeState) (events : List NodeEvent) → Run NodeStep n events m → CanStartAgain n → CanStartAgain m
 starts_by_events start n m events run can = kept_runs NodeStep CanStartAgain (λ s t x step h. start s t x h step) n m events run can
 
 -- where a content holds the rows of a node, the changes of events in turn make it one that holds those of the node after them
-held_by_events : ChangesAreHeld → NodesCanStartAgain → (c : Content) (n m : NodeState) (events : List NodeEvent) → CanStartAgain n → HoldsRows c n → Run NodeStep n events m →
+pub held_by_events : ChangesAreHeld → NodesCanStartAgain → (c : Content) (n m : NodeState) (events : List NodeEvent) → CanStartAgain n → HoldsRows c n → Run NodeStep n events m →
     All IsReadAgain (changes_of_each events) → HoldsRows (changed_all c (changes_of_each events)) m
 held_by_events held start c n m [] can holds run again = subst (HoldsRows c) (sym run) holds
 held_by_events held start c n m (x ∷ events) can holds (u, step, rest) again =
@@ -58,7 +58,7 @@ held_by_events held start c n m (x ∷ events) can holds (u, step, rest) again =
     (held_by_events held start (changed_all c (changes_of x)) u m events (start n u x can step) (held c n u x can.sound holds step parts.0) rest parts.1)
 
 -- events without changes leave a node that stores alike
-alike_by_events : RestartsAreHeld → AreClasses → (n m : NodeState) (events : List NodeEvent) → Run NodeStep n events m → changes_of_each events ≡ [] → StoresAlike n m
+pub alike_by_events : RestartsAreHeld → AreClasses → (n m : NodeState) (events : List NodeEvent) → Run NodeStep n events m → changes_of_each events ≡ [] → StoresAlike n m
 alike_by_events alike classes n m [] run none = subst (StoresAlike n) (sym run) (classes.same n)
 alike_by_events alike classes n m (x ∷ events) (u, step, rest) none =
     let parts = none_of (changes_of x) (changes_of_each events) none in

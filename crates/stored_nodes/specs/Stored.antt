@@ -1,5 +1,6 @@
 -- A node whose rows a keeper keeps: what holds of it at any time, and what an event makes of it.
 use Rattle.std.specs.Prelude.{◌≡◌, ◌≢◌, ◌≤◌, ◌⊎◌, ◌↔◌, ℕ, List, [], Bool, true, false, IsTrue, Option, None, Some, IsSome, length}
+use Rattle.ocpi_text.specs.Whole.{max_whole}
 use Rattle.ocpi_types.specs.declared.node_events.NodeEventKind.{NodeEventKind}
 use Rattle.ocpi_types.specs.declared.node_events.NodeEventKind.TheVariants as event
 use Rattle.ocpi_types.specs.declared.packet.Packet.{Packet}
@@ -148,6 +149,7 @@ pub record Reopens {K : Type 0} (keeper : Keeper K) (setup : List SetupNode) (me
   pub reads : keeper.is_honest new.keep → rows_of (keeper.content before) ≡ Some list
   pub counts : rows ≡ length list
   pub first : 1 ≤ line
+  pub most : line ≤ max_whole
   pub told : keeper.is_honest new.keep → line_of (keeper.content before) ≡ Some line
   pub made : IsMadeOfRows setup member list new.state
   pub keeps : KeepsOn keeper before new.keep
