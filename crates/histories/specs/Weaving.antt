@@ -71,6 +71,6 @@ IsInterleaving hs events = (xs : List Woven) × Interleaves hs xs × (events ≡
 abbrev pub AreApart : List NodeHistory → Type 0
 AreApart hs = (i j : ℕ) (h g : NodeHistory) → slice_get hs i ≡ Some h → slice_get hs j ≡ Some g → key h.party ≡ key g.party → i ≡ j
 
--- each node numbers its packets from 1
+-- each node numbers its packets behind that of the last one that it had sent before
 abbrev pub AreNumbered : List NodeHistory → Type 0
-AreNumbered hs = (h : NodeHistory) → Contains hs h → IsNumbered h.party (sent h.entries.now)
+AreNumbered hs = (h : NodeHistory) → Contains hs h → IsNumbered h.party h.before (sent h.entries.now)

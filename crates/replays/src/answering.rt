@@ -32,6 +32,7 @@ pub(crate) struct Running {
 }
 
 /// What happened at a node, and where it stands.
+#[derive(Drop)]
 pub(crate) struct Happened<'a, 'b> {
     pub entries: &'b mut Vec<Entry>,
     pub sources: &'b mut Vec<Source<'a>>,

@@ -1,5 +1,8 @@
 //! A file, cut at its empty lines: what stands between is the text of one run.
 
+ghost use Rattle.std.specs.Prelude.{◌≡◌, ◌≢◌, ◌++◌, ◌∷◌, All, IfNone, IfSome, ℕ};
+ghost use Rattle.replays.specs.Cutting.{IsNextRun, feeds};
+
 use memchr::memchr;
 
 /// An echoed line of a file.
@@ -31,7 +34,11 @@ pub(crate) struct Runs<'a> {
 }
 
 /// What stands before the first line feed of a text, and what stands behind it.
-pub(crate) fn split_feed(text: &[u8]) -> Option<(&[u8], &[u8])> {
+pub(crate) fn split_feed(text: &[u8]) -> Option<(&[u8], &[u8])>
+    ensures is { IfSome result (λ x. text.now ≡ x.0.now ++ 10 ∷ x.1.now) }
+    ensures plain { IfSome result (λ x. All (λ b. b ≢ 10) x.0.now) }
+    ensures none { IfNone result (All (λ b. b ≢ 10) text.now) }
+{
     let end = memchr(b'\n', text)?;
     let (front, _) = text.split_at(end);
     let (_, behind) = text.split_at(end + 1);
@@ -84,7 +91,9 @@ fn length_of_run(text: &[u8]) -> usize {
 
 impl<'a> Runs<'a> {
     /// A whole file.
-    pub(crate) fn new(text: &'a [u8]) -> Runs<'a> {
+    pub(crate) fn new(text: &'a [u8]) -> Runs<'a>
+        ensures { result.rest.now ≡ text.now }
+    {
         Runs {
             rest: text,
             number: 1,
@@ -92,7 +101,10 @@ impl<'a> Runs<'a> {
     }
 
     /// The text of the next run that has some.
-    pub(crate) fn next(&mut self) -> Option<RunText<'a>> {
+    pub(crate) fn next(&mut self) -> Option<RunText<'a>>
+        ensures some { IfSome result (λ r. IsNextRun self.old.rest.now r self.new.rest.now) }
+        ensures none { IfNone result ((count : ℕ) × (self.old.rest.now ≡ feeds count)) }
+    {
         let front = feeds_in_front(self.rest);
         let (_, text) = self.rest.split_at(front);
         if text.is_empty() {

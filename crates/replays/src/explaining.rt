@@ -8,6 +8,7 @@ use ocpi_text::{Party, Whole};
 use std::alloc::{AllocError, Global};
 
 /// What is left of a line that may be the one of an opening, or a beginning of it.
+#[derive(Drop)]
 struct Left<'a> {
     rest: &'a [u8],
     /// Whether the line came to its end.

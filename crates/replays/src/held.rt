@@ -1,8 +1,12 @@
 //! What a store has: the rows of a node, and the number of the last line that took hold.
 
+ghost use Rattle.std.specs.Prelude.{◌≡◌, IfOk, false, true};
+ghost use Rattle.replays.specs.LineTurns.{nothing_held};
+
 use ocpi_text::Whole;
 use ocpi_types::Row;
 use std::alloc::{AllocError, Global};
+use std::marker::Model;
 
 /// What the store of a file's first run has.
 #[derive(Drop)]
@@ -14,7 +18,10 @@ pub struct Start {
 
 impl Start {
     /// No rows, and no line took hold.
-    pub fn new(alloc: Global) -> Start {
+    pub fn new(alloc: Global) -> Start
+        ensures held { result.held ≡ nothing_held }
+        ensures given { result.is_given ≡ false }
+    {
         Start {
             held: Held {
                 rows: Vec::new(alloc),
@@ -25,7 +32,10 @@ impl Start {
     }
 
     /// These rows, and the number of the last line that took hold, which is 1 where none did.
-    pub fn of(rows: Vec<Row>, line: Whole) -> Start {
+    pub fn of(rows: Vec<Row>, line: Whole) -> Start
+        ensures held { result.held ≡ record { rows = rows.items; line = line } }
+        ensures given { result.is_given ≡ true }
+    {
         Start {
             held: Held { rows, line },
             is_given: true,
@@ -34,7 +44,9 @@ impl Start {
 }
 
 /// The number where no line took hold.
-fn first_number() -> Whole {
+fn first_number() -> Whole
+    ensures { result ≡ 1 }
+{
     match Whole::new(1) {
         Some(number) => number,
         None => unreachable!(),
@@ -49,9 +61,23 @@ pub(crate) struct Held {
     pub line: Whole,
 }
 
+impl Model for Held {
+    ghost use Rattle.std.specs.Coded.{codes};
+    ghost use Rattle.std.specs.FinMap as map;
+    ghost use Rattle.replays.specs.LineTurns.{Held};
+
+    ghost Value = { Held };
+
+    ghost coded = { Prim.hlevel (codes, map.code) };
+
+    ghost view = { λ h. record { rows = h.rows.items; line = h.line } };
+}
+
 impl Held {
     /// Equal rows. An error is want of memory.
-    pub(crate) fn copy_rows(&self, alloc: Global) -> Result<Vec<Row>, AllocError> {
+    pub(crate) fn copy_rows(&self, alloc: Global) -> Result<Vec<Row>, AllocError>
+        ensures { IfOk result (λ rows. rows.items ≡ self.now.rows) }
+    {
         let mut rows = Vec::new(alloc);
         for row in self.rows.as_slice() {
             rows.push(row.copy()?)?;

@@ -1,5 +1,8 @@
 //! The reading of a file, run by run.
 
+ghost use Rattle.std.specs.Prelude.{IfErr, IfOk};
+ghost use Rattle.replays.specs.Transcripts.{AccusesRightly, BlamesNoLineBefore, IsTranscriptOf};
+
 use crate::answering::{Happened, Running};
 use crate::cutting::{EchoedLine, RunText, Runs, feeds_in, split_feed};
 use crate::explaining::{tell_difference, tell_earlier, tell_older, told_opening};
@@ -543,7 +546,11 @@ pub fn read_transcript<'a>(
     start: Start,
     earlier: &[Party],
     words: &mut String,
-) -> Result<Transcript<'a>, ReplayFault> {
+) -> Result<Transcript<'a>, ReplayFault>
+    ensures read { IfOk result (IsTranscriptOf earlier.now start.held text.now) }
+    ensures none { IfErr result (AccusesRightly earlier.now start.held text.now) }
+    ensures line { IfErr result (BlamesNoLineBefore earlier.now start.held text.now) }
+{
     let mut reading = Reading::new(alloc, seed, start, earlier);
     let mut runs = Runs::new(text);
     while let Some(run) = runs.next() {

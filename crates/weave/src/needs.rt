@@ -8,7 +8,7 @@ ghost use Rattle.histories.specs.declared.entry.Entry.{Entry as EntryOf};
 ghost use Rattle.histories.specs.declared.history.NodeHistory.{NodeHistory as HistoryOf};
 ghost use Rattle.histories.specs.Entries.{Delivers, sent};
 ghost use Rattle.histories.specs.Weaving.{AreApart, AreNumbered};
-ghost use Rattle.weave.specs.Given.{Asks, IsFrom};
+ghost use Rattle.weave.specs.Given.{Asks, IsFrom, WasBefore};
 ghost use Rattle.weave.specs.Needs.{AreAllNeeds, AreNeedsAt, IsGivenBy, IsMissing, IsNeed, IsTable, StandsAt, now_of, row_of, sent_in};
 ghost use Rattle.weave.specs.TurnFaults.{Blames, BlamesIn, BlamesPacket, BlamesTurn, ExplainsTurns};
 

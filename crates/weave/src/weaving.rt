@@ -1,8 +1,9 @@
 //! The weaving of histories: entries are placed while some history has one that can be placed.
 
-ghost use Rattle.std.specs.Prelude.{◌≡◌, ◌+◌, ◌<◌, ◌≤◌, ◌-◌, ℕ, IfErr, IfOk, List, OnOk, Some as SomeOf, length, slice_get};
+ghost use Rattle.std.specs.Prelude.{◌≡◌, ◌+◌, ◌<◌, ◌≤◌, ◌-◌, ℕ, IfErr, IfOk, List, OnOk, Some as SomeOf, length, map, slice_get};
 ghost use Rattle.std.specs.Bool.{OnFalse, OnTrue};
 ghost use Rattle.histories.specs.declared.entry.Entry.{Entry as EntryOf};
+ghost use Rattle.histories.specs.declared.history.NodeHistory.{NodeHistory as HistoryOf};
 ghost use Rattle.histories.specs.Causes.{HasMore};
 ghost use Rattle.histories.specs.Weaving.{AreApart, AreNumbered};
 ghost use Rattle.weave.specs.Needs.{AreAllNeeds};
@@ -26,7 +27,7 @@ pub struct Weaving {
     places: Vec<usize>,
     /// For each history, what its next entry waits for, where it has one.
     waits: Vec<Option<Need>>,
-    /// For each history, the serial of the last packet that these sent, or 0.
+    /// For each history, the serial of the last packet that these sent, or that it had sent before.
     newest: Vec<u64>,
     turns: Vec<Turn>,
 }
@@ -53,6 +54,17 @@ fn first_waits(alloc: Global, needs: &[Vec<Need>]) -> Result<Vec<Option<Need>>, 
     Ok(waits)
 }
 
+/// For each history, the serial of the last packet that was sent before it begins.
+fn serials_before(alloc: Global, histories: &[NodeHistory<'_>]) -> Result<Vec<u64>, AllocError>
+    ensures { IfOk result (λ v. v.items ≡ map (λ (h : HistoryOf). h.before) histories.now) }
+{
+    let mut serials = Vec::new(alloc);
+    for history in histories {
+        serials.push(history.before.value())?;
+    }
+    Ok(serials)
+}
+
 /// No entry is placed.
 fn start(
     alloc: Global,
@@ -64,7 +76,7 @@ fn start(
     ensures { IfOk result (λ w. IsUnderWay _given.now histories.now needs.now w) }
 {
     let places = vec![in alloc; 0; histories.len()]?;
-    let newest = vec![in alloc; 0; histories.len()]?;
+    let newest = serials_before(alloc, histories)?;
     let waits = first_waits(alloc, needs)?;
     Ok(Weaving {
         places,

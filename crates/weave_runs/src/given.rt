@@ -1,5 +1,11 @@
 //! The parties whose packets are taken as they came.
 
+ghost use Rattle.std.specs.Prelude.{Contains, IfErr, IfNone, IfOk, IfSome, IsTrue, false, ◌≡◌};
+ghost use Rattle.ocpi_text.specs.Text.{key};
+ghost use Rattle.ocpi_types.specs.Setups.{party_of};
+ghost use Rattle.ocpi_types.specs.declared.setup.Node.{Node as NodeOf};
+ghost use Rattle.weave_runs.specs.Parties.{AreGiven, HasFile, HasNode, IfWrong, IsGiven, IsWrong, NamesNode};
+
 use crate::fault::GivenFault;
 use ocpi_text::Party;
 use ocpi_types::Node;
@@ -14,7 +20,10 @@ pub(crate) enum NotGiven<'a> {
 }
 
 /// The party that a word names, as a setup spells it.
-fn party_named(nodes: &[Node], party: &Party) -> Option<Party> {
+fn party_named(nodes: &[Node], party: &Party) -> Option<Party>
+    ensures some { IfSome result (λ p. (n : NodeOf) × Contains nodes.now n × (key (party_of n) ≡ key party.now) × (p ≡ party_of n)) }
+    ensures none { IfNone result ((n : NodeOf) → Contains nodes.now n → key (party_of n) ≡ key party.now → ⊥) }
+{
     for node in nodes {
         if node.party().is_same(party) {
             return Some(*node.party());
@@ -24,12 +33,15 @@ fn party_named(nodes: &[Node], party: &Party) -> Option<Party> {
 }
 
 /// The party that a word names, as the first of the setups of the runs spells it that has it.
-fn party_of_word(transcripts: &[Transcript<'_>], word: &str) -> Option<Party> {
+fn party_of_word(transcripts: &[Transcript<'_>], word: &str) -> Option<Party>
+    ensures some { IfSome result (λ p. (n : NodeOf) × HasNode transcripts.now n × NamesNode word.now n × (p ≡ party_of n)) }
+    ensures none { IfNone result ((n : NodeOf) → HasNode transcripts.now n → NamesNode word.now n → ⊥) }
+{
     let Ok(party) = Party::read(word) else {
         return None;
     };
     for transcript in transcripts {
-        for opening in transcript.openings.as_slice() {
+        for opening in transcript.openings() {
             if let Some(party) = party_named(opening.nodes(), &party) {
                 return Some(party);
             }
@@ -39,7 +51,10 @@ fn party_of_word(transcripts: &[Transcript<'_>], word: &str) -> Option<Party> {
 }
 
 /// Whether one of the transcripts is of that party.
-fn has_file(transcripts: &[Transcript<'_>], party: &Party) -> bool {
+fn has_file(transcripts: &[Transcript<'_>], party: &Party) -> bool
+    ensures yes { IsTrue result → HasFile transcripts.now party.now }
+    ensures no { result ≡ false → HasFile transcripts.now party.now → ⊥ }
+{
     for transcript in transcripts {
         if transcript.party().is_same(party) {
             return true;
@@ -49,7 +64,10 @@ fn has_file(transcripts: &[Transcript<'_>], party: &Party) -> bool {
 }
 
 /// The party that a word names, as a setup spells it.
-fn given_party<'a>(transcripts: &[Transcript<'_>], word: &'a str) -> Result<Party, GivenFault<'a>> {
+fn given_party<'a>(transcripts: &[Transcript<'_>], word: &'a str) -> Result<Party, GivenFault<'a>>
+    ensures given { IfOk result (λ party. IsGiven transcripts.now word.now party) }
+    ensures wrong { IfErr result (λ fault. IsWrong transcripts.now word.now fault) }
+{
     let Some(party) = party_of_word(transcripts, word) else {
         return Err(GivenFault::Unknown(word));
     };
@@ -65,7 +83,10 @@ pub(crate) fn given_parties<'a>(
     alloc: Global,
     transcripts: &[Transcript<'_>],
     words: &[&'a str],
-) -> Result<Vec<Party>, NotGiven<'a>> {
+) -> Result<Vec<Party>, NotGiven<'a>>
+    ensures given { IfOk result (λ parties. AreGiven transcripts.now words.now parties.items) }
+    ensures wrong { IfErr result (IfWrong transcripts.now words.now) }
+{
     let mut parties = Vec::new(alloc);
     for word in words {
         let party = match given_party(transcripts, *word) {

@@ -1,5 +1,26 @@
 //! Why transcripts are not woven, as a line.
 
+ghost use Rattle.std.specs.Prelude.{◌≡◌, ◌++◌, IfNone, IfOk, IfSome, List, OnOk, length, string_bytes, ℕ};
+ghost use Rattle.ocpi_types.specs.declared.packet.Packet.{Packet as PacketOf};
+ghost use Rattle.weave.specs.declared.turn_fault.TurnFault.TheVariants.{Differs as OfDiffers, NeverSent as OfNeverSent};
+ghost use Rattle.weave_runs.specs.Refusals.{
+  CanTell,
+  DeliversAt,
+  IsLineOf,
+  TellsFault,
+  differs_line,
+  front_line,
+  mark_of,
+  memory_line,
+  never_sent_line,
+  next_number,
+  nodes_at,
+  place_line,
+  place_text,
+  spelled,
+  transcript_line,
+};
+
 use crate::told::TranscriptFile;
 use crate::written::delivered_by;
 use json_text::is_same_party;
@@ -13,7 +34,9 @@ use weave::{Turn, TurnFault};
 pub(crate) const MEMORY_LINE: &str = "refused 4 Memory\n";
 
 /// A party as a setup spells it, where that has it.
-pub(crate) fn spelling<'a>(nodes: &'a [Node], party: &'a Party) -> &'a Party {
+pub(crate) fn spelling<'a>(nodes: &'a [Node], party: &'a Party) -> &'a Party
+    ensures { result.now ≡ spelled nodes.now party.now }
+{
     for node in nodes {
         if is_same_party(node.party(), party) {
             return node.party();
@@ -31,14 +54,18 @@ pub(crate) struct Place<'a> {
 }
 
 /// The line of a refusal that names a line of a file. An error is want of memory.
-fn place_refusal(alloc: Global, what: &str, name: &str, line: usize) -> Result<String, AllocError> {
+fn place_refusal(alloc: Global, what: &str, name: &str, line: usize) -> Result<String, AllocError>
+    ensures { IfOk result (λ s. string_bytes s ≡ place_line what.now name.now line) }
+{
     let mut output = String::new(alloc);
     writeln!(output, "refused {what}({name}:{line})")?;
     Ok(output)
 }
 
 /// The line of a refusal for want of memory. An error is want of memory.
-fn memory_refusal(alloc: Global) -> Result<String, AllocError> {
+fn memory_refusal(alloc: Global) -> Result<String, AllocError>
+    ensures { IfOk result (λ s. string_bytes s ≡ memory_line) }
+{
     String::from_str(alloc, MEMORY_LINE)
 }
 
@@ -47,7 +74,9 @@ pub(crate) fn file_refusal(
     alloc: Global,
     name: &str,
     fault: ReplayFault,
-) -> Result<String, AllocError> {
+) -> Result<String, AllocError>
+    ensures { IfOk result (λ s. string_bytes s ≡ transcript_line name.now fault) }
+{
     match fault {
         ReplayFault::NotARun(line) => place_refusal(alloc, "5 NotARun", name, line),
         ReplayFault::Wrong(line) => place_refusal(alloc, "6 WrongTranscript", name, line),
@@ -58,7 +87,9 @@ pub(crate) fn file_refusal(
 }
 
 /// The number of the line of the entry at a place, where there is one that came as a line.
-fn next_line(transcript: &Transcript<'_>, place: usize) -> Option<usize> {
+fn next_line(transcript: &Transcript<'_>, place: usize) -> Option<usize>
+    ensures { result ≡ next_number transcript.now place }
+{
     match transcript.sources().get(place) {
         Some(source) => match source.line() {
             Some(line) => Some(line.number),
@@ -74,7 +105,9 @@ fn push_place(
     name: &str,
     line: usize,
     output: &mut String,
-) -> Result<(), AllocError> {
+) -> Result<(), AllocError>
+    ensures { OnOk result (string_bytes output.new ≡ string_bytes output.old ++ (mark_of is_first ++ place_text name.now line)) }
+{
     if is_first {
         write!(output, "({name}:{line}")
     } else {
@@ -88,7 +121,11 @@ fn front_refusal(
     files: &[TranscriptFile<'_>],
     transcripts: &[Transcript<'_>],
     front: &[usize],
-) -> Result<String, AllocError> {
+) -> Result<String, AllocError>
+    requires told { length transcripts.now ≡ length files.now }
+    requires front { length front.now ≡ length files.now }
+    ensures { IfOk result (λ s. string_bytes s ≡ front_line files.now transcripts.now front.now) }
+{
     let mut output = String::from_str(alloc, "refused 3 NoOrder")?;
     let mut is_first = true;
     for (i, file) in files.iter().enumerate() {
@@ -105,7 +142,10 @@ fn front_refusal(
 }
 
 /// The packet that the entry of a turn delivers.
-pub(crate) fn packet_at<'a>(transcripts: &'a [Transcript<'_>], turn: Turn) -> Option<&'a Packet> {
+pub(crate) fn packet_at<'a>(transcripts: &'a [Transcript<'_>], turn: Turn) -> Option<&'a Packet>
+    ensures some { IfSome result (λ q. DeliversAt transcripts.now turn q.now) }
+    ensures none { IfNone result ((q : PacketOf) → DeliversAt transcripts.now turn q → ⊥) }
+{
     let Some(transcript) = transcripts.get(turn.history) else {
         return None;
     };
@@ -120,7 +160,10 @@ pub(crate) fn place_of<'a>(
     files: &[TranscriptFile<'a>],
     transcripts: &[Transcript<'_>],
     turn: Turn,
-) -> Option<Place<'a>> {
+) -> Option<Place<'a>>
+    ensures some { IfSome result (λ p. IsLineOf files.now transcripts.now turn p.name.now p.line) }
+    ensures none { IfNone result ((name : List ℕ) (line : ℕ) → IsLineOf files.now transcripts.now turn name line → ⊥) }
+{
     let Some(file) = files.get(turn.history) else {
         return None;
     };
@@ -137,14 +180,16 @@ pub(crate) fn place_of<'a>(
 }
 
 /// The nodes of the setup of the run in which the entry of a turn came.
-pub(crate) fn nodes_at<'a>(transcripts: &'a [Transcript<'_>], turn: Turn) -> &'a [Node] {
+pub(crate) fn nodes_at<'a>(transcripts: &'a [Transcript<'_>], turn: Turn) -> &'a [Node]
+    ensures { result.now ≡ nodes_at transcripts.now turn }
+{
     let Some(transcript) = transcripts.get(turn.history) else {
         return &[];
     };
     let Some(source) = transcript.sources().get(turn.entry) else {
         return &[];
     };
-    match transcript.openings.as_slice().get(source.opening()) {
+    match transcript.openings().get(source.opening()) {
         Some(opening) => opening.nodes(),
         None => &[],
     }
@@ -156,7 +201,9 @@ fn never_sent_line(
     nodes: &[Node],
     packet: &Packet,
     came: Place<'_>,
-) -> Result<String, AllocError> {
+) -> Result<String, AllocError>
+    ensures { IfOk result (λ s. string_bytes s ≡ never_sent_line (spelled nodes.now packet.now.from) packet.now.serial came.entry.name.now came.entry.line) }
+{
     let mut output = String::new(alloc);
     let party = spelling(nodes, &packet.from);
     writeln!(
@@ -177,7 +224,10 @@ fn differs_line(
     packet: &Packet,
     sent: Place<'_>,
     came: Place<'_>,
-) -> Result<String, AllocError> {
+) -> Result<String, AllocError>
+    ensures { IfOk result (λ s. string_bytes s
+        ≡ differs_line (spelled nodes.now packet.now.from) packet.now.serial sent.entry.name.now sent.entry.line came.entry.name.now came.entry.line) }
+{
     let mut output = String::new(alloc);
     let party = spelling(nodes, &packet.from);
     writeln!(
@@ -199,7 +249,10 @@ fn never_sent_refusal(
     files: &[TranscriptFile<'_>],
     transcripts: &[Transcript<'_>],
     came: Turn,
-) -> Result<String, AllocError> {
+) -> Result<String, AllocError>
+    requires { CanTell files.now transcripts.now (OfNeverSent came) }
+    ensures { IfOk result (λ s. TellsFault files.now transcripts.now (OfNeverSent came) (string_bytes s)) }
+{
     let Some(packet) = packet_at(transcripts, came) else {
         return memory_refusal(alloc);
     };
@@ -217,7 +270,10 @@ fn differs_refusal(
     transcripts: &[Transcript<'_>],
     came: Turn,
     sent: Turn,
-) -> Result<String, AllocError> {
+) -> Result<String, AllocError>
+    requires { CanTell files.now transcripts.now (OfDiffers came sent) }
+    ensures { IfOk result (λ s. TellsFault files.now transcripts.now (OfDiffers came sent) (string_bytes s)) }
+{
     let Some(packet) = packet_at(transcripts, came) else {
         return memory_refusal(alloc);
     };
@@ -237,7 +293,11 @@ pub(crate) fn weave_refusal(
     files: &[TranscriptFile<'_>],
     transcripts: &[Transcript<'_>],
     fault: &TurnFault,
-) -> Result<String, AllocError> {
+) -> Result<String, AllocError>
+    requires told { length transcripts.now ≡ length files.now }
+    requires can { CanTell files.now transcripts.now fault.now }
+    ensures { IfOk result (λ s. TellsFault files.now transcripts.now fault.now (string_bytes s)) }
+{
     match fault {
         TurnFault::NeverSent(came) => never_sent_refusal(alloc, files, transcripts, *came),
         TurnFault::Differs(came, sent) => {

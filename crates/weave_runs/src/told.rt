@@ -1,5 +1,10 @@
 //! The files, read as transcripts.
 
+ghost use Rattle.std.specs.Prelude.{◌≡◌, IfErr, IfOk};
+ghost use Rattle.replays.specs.Transcripts.{AccusesRightly, BlamesNoLineBefore, IsTranscriptOf};
+ghost use Rattle.weave_runs.specs.Accusations.{RefusesFile};
+ghost use Rattle.weave_runs.specs.Histories.{AreTold, AreTranscripts, start_of};
+
 use json_text::Scratch;
 use ocpi_text::{Party, Whole};
 use ocpi_types::Row;
@@ -35,7 +40,10 @@ pub(crate) struct FileFault<'a> {
 
 impl<'a> FileFault<'a> {
     /// The fault of a file.
-    fn of(file: &TranscriptFile<'a>, fault: ReplayFault) -> FileFault<'a> {
+    fn of(file: &TranscriptFile<'a>, fault: ReplayFault) -> FileFault<'a>
+        ensures name { result.name.now ≡ file.now.name.now }
+        ensures fault { result.fault ≡ fault }
+    {
         FileFault {
             name: file.name,
             fault,
@@ -44,7 +52,9 @@ impl<'a> FileFault<'a> {
 }
 
 /// What the store of a file had. An error is want of memory.
-fn start_of(alloc: Global, file: &TranscriptFile<'_>) -> Result<Start, AllocError> {
+fn start_of(alloc: Global, file: &TranscriptFile<'_>) -> Result<Start, AllocError>
+    ensures { IfOk result (λ start. start.held ≡ start_of file.now.store) }
+{
     let Some(store) = file.store else {
         return Ok(Start::new(alloc));
     };
@@ -63,7 +73,11 @@ fn read_file<'a>(
     file: &TranscriptFile<'a>,
     earlier: &[Party],
     words: &mut String,
-) -> Result<Transcript<'a>, ReplayFault> {
+) -> Result<Transcript<'a>, ReplayFault>
+    ensures read { IfOk result (IsTranscriptOf earlier.now (start_of file.now.store) file.now.text.now) }
+    ensures none { IfErr result (AccusesRightly earlier.now (start_of file.now.store) file.now.text.now) }
+    ensures line { IfErr result (BlamesNoLineBefore earlier.now (start_of file.now.store) file.now.text.now) }
+{
     let start = match start_of(alloc, file) {
         Ok(start) => start,
         Err(_) => return Err(ReplayFault::Memory),
@@ -78,7 +92,11 @@ pub(crate) fn read_files<'a>(
     seed: HashSeed,
     files: &[TranscriptFile<'a>],
     words: &mut String,
-) -> Result<Vec<Transcript<'a>>, FileFault<'a>> {
+) -> Result<Vec<Transcript<'a>>, FileFault<'a>>
+    ensures told { IfOk result (λ ts. AreTold ts.items) }
+    ensures transcripts { IfOk result (λ ts. AreTranscripts files.now ts.items) }
+    ensures err { IfErr result (λ f. RefusesFile files.now f.name.now f.fault) }
+{
     let mut scratch = Scratch::new(alloc);
     let mut transcripts = Vec::new(alloc);
     let mut parties = Vec::new(alloc);

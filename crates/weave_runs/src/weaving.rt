@@ -1,5 +1,10 @@
 //! Files, woven or refused.
 
+ghost use Rattle.std.specs.Prelude.{◌≡◌, ◌<◌, IfOk, IsTrue, false, length, List};
+ghost use Rattle.ocpi_types.specs.declared.setup.Node.{Node as NodeOf};
+ghost use Rattle.weave_runs.specs.Histories.{AreHistories, AreTold, AreTranscripts, lived, lived_told};
+ghost use Rattle.weave_runs.specs.Outputs.{IsLine, IsOfOneWorld, IsWritten, IsWrittenWith};
+
 use crate::fault::GivenFault;
 use crate::given::{NotGiven, given_parties};
 use crate::refusal::{file_refusal, weave_refusal};
@@ -31,16 +36,13 @@ pub(crate) enum Written<'a> {
     Wrong(GivenFault<'a>),
 }
 
-/// The first run of a transcript that was opened.
-fn first_opening<'a>(transcript: &'a Transcript<'_>) -> &'a Opening<'a> {
-    &transcript.openings[0]
-}
-
 /// The history of a transcript.
-fn history_of<'a>(transcript: &'a Transcript<'_>) -> NodeHistory<'a> {
+fn history_of<'a>(transcript: &'a Transcript<'_>) -> NodeHistory<'a>
+    ensures { lived result ≡ lived_told transcript.now }
+{
     NodeHistory {
         party: *transcript.party(),
-        before: first_opening(transcript).serial,
+        before: transcript.first().serial,
         entries: transcript.entries(),
     }
 }
@@ -49,7 +51,9 @@ fn history_of<'a>(transcript: &'a Transcript<'_>) -> NodeHistory<'a> {
 fn histories_of<'a>(
     alloc: Global,
     transcripts: &'a [Transcript<'_>],
-) -> Result<Vec<NodeHistory<'a>>, AllocError> {
+) -> Result<Vec<NodeHistory<'a>>, AllocError>
+    ensures { IfOk result (λ hs. AreHistories hs.items transcripts.now) }
+{
     let mut histories = Vec::new(alloc);
     for transcript in transcripts {
         match histories.push(history_of(transcript)) {
@@ -62,7 +66,7 @@ fn histories_of<'a>(
 
 /// Whether each run of a transcript was opened with the setup of that opening.
 fn has_one_setup(transcript: &Transcript<'_>, first: &Opening<'_>) -> bool {
-    for opening in transcript.openings.as_slice() {
+    for opening in transcript.openings() {
         if !are_equal(&opening.setup, &first.setup) {
             return false;
         }
@@ -71,12 +75,16 @@ fn has_one_setup(transcript: &Transcript<'_>, first: &Opening<'_>) -> bool {
 }
 
 /// Whether a woven run begins with no rows, and is one of a single setup.
-fn is_of_one_world(transcripts: &[Transcript<'_>]) -> bool {
+fn is_of_one_world(transcripts: &[Transcript<'_>]) -> bool
+    requires { 0 < length transcripts.now }
+    ensures yes { IsTrue result → (setup : List NodeOf) × IsOfOneWorld setup transcripts.now }
+    ensures no { result ≡ false → (setup : List NodeOf) → IsOfOneWorld setup transcripts.now → ⊥ }
+{
     for transcript in transcripts {
-        if first_opening(transcript).rows > 0 {
+        if transcript.first().rows > 0 {
             return false;
         }
-        if !has_one_setup(transcript, first_opening(&transcripts[0])) {
+        if !has_one_setup(transcript, transcripts[0].first()) {
             return false;
         }
     }
@@ -103,7 +111,11 @@ fn weave_given<'a>(
     files: &[TranscriptFile<'_>],
     transcripts: &[Transcript<'_>],
     given: &[Party],
-) -> Result<Written<'a>, AllocError> {
+) -> Result<Written<'a>, AllocError>
+    requires told { AreTold transcripts.now }
+    requires transcripts { AreTranscripts files.now transcripts.now }
+    ensures { IfOk result (IsWrittenWith given.now files.now transcripts.now) }
+{
     let histories = histories_of(alloc, transcripts)?;
     match weave_turns_with(alloc, &histories, given) {
         Ok(turns) => Ok(Written::Run(text_of(alloc, transcripts, given, turns.as_slice())?)),
@@ -121,7 +133,11 @@ fn weave_told<'a>(
     files: &[TranscriptFile<'_>],
     transcripts: &[Transcript<'_>],
     words: &[&'a str],
-) -> Result<Written<'a>, AllocError> {
+) -> Result<Written<'a>, AllocError>
+    requires told { AreTold transcripts.now }
+    requires transcripts { AreTranscripts files.now transcripts.now }
+    ensures { IfOk result (IsWritten words.now files.now) }
+{
     match given_parties(alloc, transcripts, words) {
         Ok(given) => weave_given(alloc, files, transcripts, given.as_slice()),
         Err(NotGiven::Wrong(fault)) => Ok(Written::Wrong(fault)),
@@ -135,7 +151,9 @@ pub(crate) fn weave_files<'a>(
     seed: HashSeed,
     files: &[TranscriptFile<'_>],
     words: &[&'a str],
-) -> Result<Written<'a>, AllocError> {
+) -> Result<Written<'a>, AllocError>
+    ensures { IfOk result (IsWritten words.now files.now) }
+{
     if files.is_empty() {
         return Ok(Written::Run(Vec::new(alloc)));
     }

@@ -1,5 +1,10 @@
 //! A woven run: a line for each entry, behind the setup line as input of `play`.
 
+ghost use Rattle.std.specs.Prelude.{◌≡◌, IfNone, IfSome, ℕ};
+ghost use Rattle.histories.specs.Entries.{Delivers};
+ghost use Rattle.ocpi_types.specs.declared.node_events.NodeEventKind.TheVariants.{Deliver};
+ghost use Rattle.ocpi_types.specs.declared.packet.Packet.{Packet as PacketOf};
+
 use crate::refusal::spelling;
 use histories::Entry;
 use ocpi_text::{Moment, Party};
@@ -45,7 +50,10 @@ fn push_restart(alloc: Global, party: &Party, text: &mut Vec<u8>) -> Result<(), 
 }
 
 /// When a packet comes, and which, where that is what happens.
-fn delivery_of(event: &NodeEventKind) -> Option<(Moment, &Packet)> {
+fn delivery_of(event: &NodeEventKind) -> Option<(Moment, &Packet)>
+    ensures some { IfSome result (λ d. event.now ≡ Deliver d.0 d.1.now) }
+    ensures none { IfNone result ((at : ℕ) (q : PacketOf) → event.now ≡ Deliver at q → ⊥) }
+{
     match event {
         NodeEventKind::Deliver { at, packet } => Some((*at, packet)),
         NodeEventKind::Submit { .. } => None,
@@ -60,7 +68,10 @@ fn delivery_of(event: &NodeEventKind) -> Option<(Moment, &Packet)> {
 }
 
 /// The packet that an entry delivers.
-pub(crate) fn delivered_by(entry: &Entry) -> Option<&Packet> {
+pub(crate) fn delivered_by(entry: &Entry) -> Option<&Packet>
+    ensures some { IfSome result (λ q. Delivers entry.now q.now) }
+    ensures none { IfNone result ((q : PacketOf) → Delivers entry.now q → ⊥) }
+{
     match delivery_of(&entry.event) {
         Some(delivery) => Some(delivery.1),
         None => None,
@@ -71,7 +82,7 @@ pub(crate) fn delivered_by(entry: &Entry) -> Option<&Packet> {
 fn was_before(transcripts: &[Transcript<'_>], packet: &Packet) -> bool {
     let serial = packet.serial.value();
     for transcript in transcripts {
-        let before = transcript.openings[0].serial.value();
+        let before = transcript.first().serial.value();
         if serial >= 1 && serial <= before && transcript.party().is_same(&packet.from) {
             return true;
         }
@@ -127,7 +138,7 @@ fn push_turn(
     let transcript = &transcripts[turn.history];
     let entries = transcript.entries();
     let source = &transcript.sources()[turn.entry];
-    let opening = &transcript.openings[source.opening()];
+    let opening = &transcript.openings()[source.opening()];
     push_entry(
         alloc,
         transcripts,
@@ -148,7 +159,7 @@ pub(crate) fn played_text(
     turns: &[Turn],
 ) -> Result<Vec<u8>, AllocError> {
     let mut text = Vec::new(alloc);
-    push_line(&mut text, transcripts[0].openings[0].line.bytes)?;
+    push_line(&mut text, transcripts[0].first().line.bytes)?;
     for turn in turns {
         push_turn(alloc, transcripts, given, *turn, &mut text)?;
     }
@@ -164,14 +175,14 @@ fn push_setup(
 ) -> Result<(), AllocError> {
     let transcript = &transcripts[turn.history];
     if turn.entry == 0 {
-        push_line(text, transcript.openings[0].line.bytes)?;
+        push_line(text, transcript.first().line.bytes)?;
     }
     let opening = match &transcript.sources()[turn.entry] {
         Source::Restarted { opening } => *opening,
         Source::Echoed { .. } => return Ok(()),
     };
-    let before = &transcript.openings[opening.saturating_sub(1)];
-    let now = &transcript.openings[opening];
+    let before = &transcript.openings()[opening.saturating_sub(1)];
+    let now = &transcript.openings()[opening];
     if are_equal(&before.setup, &now.setup) {
         return Ok(());
     }
@@ -188,7 +199,7 @@ pub(crate) fn other_text(
 ) -> Result<Vec<u8>, AllocError> {
     let mut text = Vec::new(alloc);
     for transcript in transcripts {
-        push_line(&mut text, transcript.openings[0].told)?;
+        push_line(&mut text, transcript.first().told)?;
     }
     for turn in turns {
         push_setup(transcripts, *turn, &mut text)?;
