@@ -36,11 +36,15 @@ impl Drop for NodeReplay {
 }
 
 impl Model for NodeReplay {
+    ghost use Rattle.std.specs.Coded.{codes};
+    ghost use Rattle.std.specs.FinMap as map;
     ghost use Rattle.node_core.specs.States.{state_of};
     ghost use Rattle.stored_laws.specs.Nodes.{CanStartAgain};
     ghost use Rattle.world_steps.specs.World.{NodeState};
 
     ghost Value = { NodeState };
+
+    ghost coded = { Prim.hlevel (codes, map.code) };
 
     ghost view = { λ r. state_of r.node };
 
