@@ -138,10 +138,12 @@ impl Running {
         happened: &mut Happened<'a, '_>,
         text: &mut String,
     ) -> Result<(), AllocError> {
-        match elements.read(self.alloc, place) {
+        let number = at.number.value();
+        let read = elements.read(self.alloc, place);
+        match read {
             Ok(event) => self.answer_event(event, at, happened, text),
             Err(JsonFault::Memory) => Err(AllocError),
-            Err(fault) => write_malformed(at.number.value(), at.place, fault, text),
+            Err(fault) => write_malformed(number, Some(place), fault, text),
         }
     }
 
@@ -159,7 +161,8 @@ impl Running {
             drop(kind);
             return write_skipped(number, at.place, text);
         }
-        match self.node.apply(kind, happened.entries) {
+        let applied = self.node.apply(kind, happened.entries);
+        match applied {
             Ok(Replayed::Skipped) => write_skipped(number, at.place, text),
             Ok(Replayed::Stepped { changed }) => self.tell_step(changed, at, happened, text),
             Err(StepFault::Core(fault)) => write_refused(number, at.place, fault, text),
@@ -175,21 +178,20 @@ impl Running {
         happened: &mut Happened<'a, '_>,
         text: &mut String,
     ) -> Result<(), AllocError> {
-        happened.sources.push(Source::Echoed {
+        let number = at.number;
+        let place = at.place;
+        let source = Source::Echoed {
             opening: self.opening,
             line: at.line,
-        })?;
+        };
+        match happened.sources.push(source) {
+            Ok(()) => {}
+            Err(_) => return Err(AllocError),
+        }
         if changed {
-            self.last = at.number;
+            self.last = number;
         }
         let packets = last_packets(happened.entries.as_slice());
-        write_step(
-            self.alloc,
-            packets,
-            changed,
-            at.number.value(),
-            at.place,
-            text,
-        )
+        write_step(self.alloc, packets, changed, number.value(), place, text)
     }
 }

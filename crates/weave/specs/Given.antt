@@ -13,13 +13,17 @@ use Rattle.histories.specs.Weaving.{CanInterleave, Interleaves, Woven, history}
 abbrev pub IsFrom : List (List ℕ) → Packet → Type 0
 IsFrom given q = (party : List ℕ) × Contains given party × (key party ≡ key q.from)
 
--- the packet's sender had sent it before its history begins
+-- the node of a history had sent the packet before that begins
+pub record IsBefore (h : NodeHistory) (q : Packet) : Type 0 where
+  pub same : key h.party ≡ key q.from
+  pub first : 1 ≤ q.serial
+  pub last : q.serial ≤ h.before
+
+-- one of them had
 pub record WasBefore (hs : List NodeHistory) (q : Packet) : Type 0 where
   pub sender : NodeHistory
   pub among : Contains hs sender
-  pub same : key sender.party ≡ key q.from
-  pub first : 1 ≤ q.serial
-  pub last : q.serial ≤ sender.before
+  pub is : IsBefore sender q
 
 -- the entry delivers the packet, which is from no given party, and was not sent before
 pub record Asks (given : List (List ℕ)) (hs : List NodeHistory) (e : Entry) (q : Packet) : Type 0 where

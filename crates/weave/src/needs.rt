@@ -7,8 +7,8 @@ ghost use Rattle.ocpi_types.specs.declared.packet.Packet.{Packet as PacketOf};
 ghost use Rattle.histories.specs.declared.entry.Entry.{Entry as EntryOf};
 ghost use Rattle.histories.specs.declared.history.NodeHistory.{NodeHistory as HistoryOf};
 ghost use Rattle.histories.specs.Entries.{Delivers, sent};
-ghost use Rattle.histories.specs.Weaving.{AreApart, AreNumbered};
-ghost use Rattle.weave.specs.Given.{Asks, IsFrom, WasBefore};
+ghost use Rattle.histories.specs.Weaving.{AreApart, AreNumberedBehind};
+ghost use Rattle.weave.specs.Given.{Asks, IsBefore, IsFrom, WasBefore};
 ghost use Rattle.weave.specs.Needs.{AreAllNeeds, AreNeedsAt, IsGivenBy, IsMissing, IsNeed, IsTable, StandsAt, now_of, row_of, sent_in};
 ghost use Rattle.weave.specs.TurnFaults.{Blames, BlamesIn, BlamesPacket, BlamesTurn, ExplainsTurns};
 
@@ -103,14 +103,22 @@ fn packet_at<'a>(row: &[&'a Packet], before: u64, serial: u64) -> Option<&'a Pac
     Some(row[(serial - before) as usize - 1])
 }
 
+/// Whether the node of a history had sent a packet before that begins.
+fn is_before(history: &NodeHistory<'_>, packet: &Packet) -> bool
+    ensures yes { IsTrue result → IsBefore history.now packet.now }
+    ensures no { result ≡ false → IsBefore history.now packet.now → ⊥ }
+{
+    let serial = packet.serial.value();
+    serial >= 1 && serial <= history.before.value() && history.party.is_same(&packet.from)
+}
+
 /// Whether a packet was sent before the history of its sender begins.
 pub fn was_before(histories: &[NodeHistory<'_>], packet: &Packet) -> bool
     ensures yes { IsTrue result → WasBefore histories.now packet.now }
     ensures no { result ≡ false → WasBefore histories.now packet.now → ⊥ }
 {
-    let serial = packet.serial.value();
     for history in histories {
-        if serial >= 1 && serial <= history.before.value() && history.party.is_same(&packet.from) {
+        if is_before(history, packet) {
             return true;
         }
     }
@@ -126,7 +134,7 @@ fn need_of_sender(
 ) -> Result<Need, Gap>
     requires table { IsTable histories.now table.now }
     requires apart { AreApart histories.now }
-    requires numbered { AreNumbered histories.now }
+    requires numbered { AreNumberedBehind histories.now }
     requires in_range { sender < length table.now }
     requires sender { (h : HistoryOf) × (slice_get histories.now sender ≡ SomeOf h) × (key h.party ≡ key packet.now.from) }
     ensures need { IfOk result (λ n. IsGivenBy histories.now n packet.now) }
@@ -155,7 +163,7 @@ fn need_of_packet(
 ) -> Result<Need, Gap>
     requires table { IsTable histories.now table.now }
     requires apart { AreApart histories.now }
-    requires numbered { AreNumbered histories.now }
+    requires numbered { AreNumberedBehind histories.now }
     ensures need { IfOk result (λ n. IsGivenBy histories.now n packet.now) }
     ensures gap { IfErr result (λ g. BlamesPacket histories.now packet.now g) }
 {
@@ -224,7 +232,7 @@ fn need_of(
 ) -> Result<Need, Gap>
     requires table { IsTable histories.now table.now }
     requires apart { AreApart histories.now }
-    requires numbered { AreNumbered histories.now }
+    requires numbered { AreNumberedBehind histories.now }
     requires in_range { number < length histories.now }
     ensures need { IfOk result (λ n. IsNeed given.now histories.now entry.now n) }
     ensures gap { IfErr result (λ g. Blames given.now histories.now entry.now g) }
@@ -286,7 +294,7 @@ fn needs_of(
 ) -> Result<Vec<Need>, TurnFault>
     requires table { IsTable histories.now table.now }
     requires apart { AreApart histories.now }
-    requires numbered { AreNumbered histories.now }
+    requires numbered { AreNumberedBehind histories.now }
     requires in_range { number < length histories.now }
     requires entries { (h : HistoryOf) × (slice_get histories.now number ≡ SomeOf h) × (h.entries.now ≡ entries.now) }
     ensures needs { IfOk result (λ v. AreNeedsAt given.now histories.now number v) }
@@ -322,7 +330,7 @@ fn needs_over(
 ) -> Result<Vec<Vec<Need>>, TurnFault>
     requires table { IsTable histories.now table.now }
     requires apart { AreApart histories.now }
-    requires numbered { AreNumbered histories.now }
+    requires numbered { AreNumberedBehind histories.now }
     ensures needs { IfOk result (λ rows. AreAllNeeds given.now histories.now (length histories.now) rows.items) }
     ensures fault { IfErr result (λ f. ExplainsTurns given.now histories.now f) }
 {
@@ -343,7 +351,7 @@ pub fn all_needs(
     given: &[Party],
 ) -> Result<Vec<Vec<Need>>, TurnFault>
     requires apart { AreApart histories.now }
-    requires numbered { AreNumbered histories.now }
+    requires numbered { AreNumberedBehind histories.now }
     ensures needs { IfOk result (λ rows. AreAllNeeds given.now histories.now (length histories.now) rows.items) }
     ensures fault { IfErr result (λ f. ExplainsTurns given.now histories.now f) }
 {

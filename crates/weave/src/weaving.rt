@@ -5,7 +5,7 @@ ghost use Rattle.std.specs.Bool.{OnFalse, OnTrue};
 ghost use Rattle.histories.specs.declared.entry.Entry.{Entry as EntryOf};
 ghost use Rattle.histories.specs.declared.history.NodeHistory.{NodeHistory as HistoryOf};
 ghost use Rattle.histories.specs.Causes.{HasMore};
-ghost use Rattle.histories.specs.Weaving.{AreApart, AreNumbered};
+ghost use Rattle.histories.specs.Weaving.{AreApart, AreNumberedBehind};
 ghost use Rattle.weave.specs.Needs.{AreAllNeeds};
 ghost use Rattle.weave.specs.Progress.{AllStuck, AreDone, AreFirst, IsReached, IsStuckAt, IsUnderWay};
 ghost use Rattle.weave.specs.Reached.{serial_in};
@@ -114,7 +114,7 @@ fn take_entry(
 ) -> Result<bool, AllocError>
     requires in_range { i < length histories.now }
     requires apart { AreApart histories.now }
-    requires numbered { AreNumbered histories.now }
+    requires numbered { AreNumberedBehind histories.now }
     requires needs { AreAllNeeds _given.now histories.now (length histories.now) needs.now }
     requires under_way { IsUnderWay _given.now histories.now needs.now weaving.old }
     ensures under_way { OnOk result (IsUnderWay _given.now histories.now needs.now weaving.new) }
@@ -148,7 +148,7 @@ fn sweep(
     weaving: &mut Weaving,
 ) -> Result<bool, AllocError>
     requires apart { AreApart histories.now }
-    requires numbered { AreNumbered histories.now }
+    requires numbered { AreNumberedBehind histories.now }
     requires needs { AreAllNeeds given.now histories.now (length histories.now) needs.now }
     requires under_way { IsUnderWay given.now histories.now needs.now weaving.old }
     ensures under_way { OnOk result (IsUnderWay given.now histories.now needs.now weaving.new) }
@@ -186,7 +186,7 @@ pub fn order(
     needs: &[Vec<Need>],
 ) -> Result<Vec<Turn>, TurnFault>
     requires apart { AreApart histories.now }
-    requires numbered { AreNumbered histories.now }
+    requires numbered { AreNumberedBehind histories.now }
     requires needs { AreAllNeeds given.now histories.now (length histories.now) needs.now }
     ensures order { IfOk result (λ turns. IsOrderWith given.now histories.now turns.items) }
     ensures fault { IfErr result (λ f. ExplainsTurns given.now histories.now f) }
