@@ -13,7 +13,7 @@ returns-in-None-clause-gap c =
     let at = got_by c.args.table.now c.args.sender c.index-table-sender.result (omega arith) c.index-table-sender.is in
     let row = row_is c.args.histories.now c.args.table.now c.requires.table c.args.sender h c.index-table-sender.result here at in
     let own = got_by c.args.histories.now c.args.sender c.index-histories-sender.result (got_within c.args.histories.now c.args.sender h here) c.index-histories-sender.is in
-    let before : c.value-before.result ≡ h.before = c.value-before.ensures.value ∙ ap (λ (z : NodeHistory). z.before) (some_same c.index-histories-sender.result h (sym own ∙ here)) in
+    let before : c.value-before.result ≡ h.before = c.value-before.ensures.value ∙ ap (λ (z : NodeHistory). z.before) (sym c.index-histories-sender.is ∙ some_same c.index-histories-sender.result h (sym own ∙ here)) in
     let is : now_of c.as_slice.result.now ≡ sent_in h = ap now_of c.as_slice.ensures.value ∙ row in
     unsent c.args.histories.now c.requires.apart c.requires.numbered c.args.packet.now c.args.sender h here same
     (subst (λ l. IsMissing l h.before c.args.packet.now.serial) is (subst (λ n. IsMissing (now_of c.as_slice.result.now) h.before n) c.value-serial.ensures.value (subst (λ n. IsMissing (now_of c.as_slice.result.now) n c.value-serial.result) before c.in-None.ensures.none)))
@@ -24,7 +24,7 @@ returns-then-is_equal_packet-clause-need c =
     let at = got_by c.args.table.now c.args.sender c.index-table-sender.result (omega arith) c.index-table-sender.is in
     let row = row_is c.args.histories.now c.args.table.now c.requires.table c.args.sender h c.index-table-sender.result here at in
     let own = got_by c.args.histories.now c.args.sender c.index-histories-sender.result (got_within c.args.histories.now c.args.sender h here) c.index-histories-sender.is in
-    let before : c.value-before.result ≡ h.before = c.value-before.ensures.value ∙ ap (λ (z : NodeHistory). z.before) (some_same c.index-histories-sender.result h (sym own ∙ here)) in
+    let before : c.value-before.result ≡ h.before = c.value-before.ensures.value ∙ ap (λ (z : NodeHistory). z.before) (sym c.index-histories-sender.is ∙ some_same c.index-histories-sender.result h (sym own ∙ here)) in
     let is : now_of c.as_slice.result.now ≡ sent_in h = ap now_of c.as_slice.ensures.value ∙ row in
     let found = subst (λ l. StandsAt l h.before c.args.packet.now.serial c.in-Some.given.now) is (subst (λ n. StandsAt (now_of c.as_slice.result.now) h.before n c.in-Some.given.now) c.value-serial.ensures.value
     (subst (λ n. StandsAt (now_of c.as_slice.result.now) n c.value-serial.result c.in-Some.given.now) before c.in-Some.ensures.found)) in
@@ -42,7 +42,7 @@ returns-else-is_equal_packet-clause-gap c =
     let at = got_by c.args.table.now c.args.sender c.index-table-sender.result (omega arith) c.index-table-sender.is in
     let row = row_is c.args.histories.now c.args.table.now c.requires.table c.args.sender h c.index-table-sender.result here at in
     let own = got_by c.args.histories.now c.args.sender c.index-histories-sender.result (got_within c.args.histories.now c.args.sender h here) c.index-histories-sender.is in
-    let before : c.value-before.result ≡ h.before = c.value-before.ensures.value ∙ ap (λ (z : NodeHistory). z.before) (some_same c.index-histories-sender.result h (sym own ∙ here)) in
+    let before : c.value-before.result ≡ h.before = c.value-before.ensures.value ∙ ap (λ (z : NodeHistory). z.before) (sym c.index-histories-sender.is ∙ some_same c.index-histories-sender.result h (sym own ∙ here)) in
     let is : now_of c.as_slice.result.now ≡ sent_in h = ap now_of c.as_slice.ensures.value ∙ row in
     let found = subst (λ l. StandsAt l h.before c.args.packet.now.serial c.in-Some.given.now) is (subst (λ n. StandsAt (now_of c.as_slice.result.now) h.before n c.in-Some.given.now) c.value-serial.ensures.value
     (subst (λ n. StandsAt (now_of c.as_slice.result.now) n c.value-serial.result c.in-Some.given.now) before c.in-Some.ensures.found)) in
