@@ -4,3 +4,4 @@ pub mod Openings
 pub mod Printed
 pub mod Transcripts
 pub mod Cutting
+pub mod Laws

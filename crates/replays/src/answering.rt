@@ -31,15 +31,14 @@ pub(crate) struct Running {
     pub number: Whole,
 }
 
-/// What happened at a node, and where it stands.
+/// What happened at a node, and where each entry comes from.
 #[derive(Drop)]
-pub(crate) struct Happened<'a, 'b> {
-    pub entries: &'b mut Vec<Entry>,
-    pub sources: &'b mut Vec<Source<'a>>,
+pub(crate) struct Happened<'a> {
+    pub entries: Vec<Entry>,
+    pub sources: Vec<Source<'a>>,
 }
 
-/// What the node printed for an event, which is one of a line of that number, at that place of it where the line is an
-/// array.
+/// Where an event stands: in a line of that number, at that place of it where the line is an array.
 #[derive(Clone, Copy)]
 struct At<'a> {
     number: Whole,
@@ -61,7 +60,7 @@ impl Running {
         &mut self,
         scratch: &mut Scratch,
         line: EchoedLine<'a>,
-        happened: &mut Happened<'a, '_>,
+        happened: &mut Happened<'a>,
         text: &mut String,
     ) -> Result<(), AllocError> {
         text.clear();
@@ -81,7 +80,7 @@ impl Running {
         scratch: &mut Scratch,
         number: Whole,
         line: EchoedLine<'a>,
-        happened: &mut Happened<'a, '_>,
+        happened: &mut Happened<'a>,
         text: &mut String,
     ) -> Result<(), AllocError> {
         let at = At {
@@ -106,7 +105,7 @@ impl Running {
         &mut self,
         elements: &Elements<'_>,
         at: At<'a>,
-        happened: &mut Happened<'a, '_>,
+        happened: &mut Happened<'a>,
         text: &mut String,
     ) -> Result<(), AllocError> {
         let texts = element_texts(self.alloc, at.line.bytes)?;
@@ -135,7 +134,7 @@ impl Running {
         elements: &Elements<'_>,
         place: usize,
         at: At<'a>,
-        happened: &mut Happened<'a, '_>,
+        happened: &mut Happened<'a>,
         text: &mut String,
     ) -> Result<(), AllocError> {
         let number = at.number.value();
@@ -152,7 +151,7 @@ impl Running {
         &mut self,
         event: NodeEvent,
         at: At<'a>,
-        happened: &mut Happened<'a, '_>,
+        happened: &mut Happened<'a>,
         text: &mut String,
     ) -> Result<(), AllocError> {
         let number = at.number.value();
@@ -161,7 +160,7 @@ impl Running {
             drop(kind);
             return write_skipped(number, at.place, text);
         }
-        let applied = self.node.apply(kind, happened.entries);
+        let applied = self.node.apply(kind, &mut happened.entries);
         match applied {
             Ok(Replayed::Skipped) => write_skipped(number, at.place, text),
             Ok(Replayed::Stepped { changed }) => self.tell_step(changed, at, happened, text),
@@ -175,7 +174,7 @@ impl Running {
         &mut self,
         changed: bool,
         at: At<'a>,
-        happened: &mut Happened<'a, '_>,
+        happened: &mut Happened<'a>,
         text: &mut String,
     ) -> Result<(), AllocError> {
         let number = at.number;

@@ -12,6 +12,8 @@ mod cutting;
 mod explaining;
 mod fault;
 mod held;
+mod history;
+pub mod laws;
 mod opening;
 mod reading;
 mod transcript;

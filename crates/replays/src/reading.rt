@@ -3,19 +3,19 @@
 ghost use Rattle.std.specs.Prelude.{IfErr, IfOk};
 ghost use Rattle.replays.specs.Transcripts.{AccusesRightly, BlamesNoLineBefore, IsTranscriptOf};
 
-use crate::answering::{Happened, Running};
+use crate::answering::Running;
 use crate::cutting::{EchoedLine, RunText, Runs, feeds_in, split_feed};
 use crate::explaining::{tell_difference, tell_earlier, tell_older, told_opening};
 use crate::fault::ReplayFault;
-use crate::held::{Held, Start};
+use crate::held::Start;
+use crate::history::{Fits, History};
 use crate::opening::{Opened, Piece, Tried, try_member};
-use crate::transcript::{Opening, Source, Transcript};
-use histories::{Entry, Packets};
+use crate::transcript::{Opening, Transcript};
 use node_core::nodes_of;
 use node_runs::{NumberedSetup, read_numbered_setup, write_malformed};
 use ocpi_json::{JsonFault, Scratch};
-use ocpi_text::Party;
-use ocpi_types::{NodeEventKind, Setup};
+use ocpi_text::{Party, Whole};
+use ocpi_types::Setup;
 use std::alloc::{AllocError, Global};
 use tables::HashSeed;
 
@@ -30,26 +30,9 @@ struct Reading<'a, 'b> {
     earlier: &'b [Party],
     /// The parties of which the node may be, where anything tells.
     parties: Option<Vec<Party>>,
-    /// What the store has; before the line in doubt, if there is one.
-    held: Held,
-    /// What it has, where that took hold.
-    behind: Option<Held>,
-    /// How many of the last entries are of that line.
-    doubtful: usize,
-    openings: Vec<Opening<'a>>,
-    entries: Vec<Entry>,
-    sources: Vec<Source<'a>>,
+    history: History<'a>,
     /// Room for what the node prints.
     text: String,
-}
-
-/// What was found of an opening that a stop cut.
-#[derive(Clone, Copy)]
-struct Fits {
-    /// That it fits what the store has before the line in doubt.
-    before: bool,
-    /// And behind it.
-    behind: bool,
 }
 
 /// What stands behind a setup line.
@@ -79,66 +62,25 @@ impl<'a, 'b> Reading<'a, 'b> {
             is_given,
             earlier,
             parties: None,
-            held,
-            behind: None,
-            doubtful: 0,
-            openings: Vec::new(alloc),
-            entries: Vec::new(alloc),
-            sources: Vec::new(alloc),
+            history: History::new(alloc, held),
             text: String::new(alloc),
         }
     }
 
-    /// What was read of the whole file. A line in doubt is left out.
-    fn finish(mut self) -> Result<Transcript<'a>, ReplayFault> {
-        self.leave_out();
+    /// What was read of the whole file.
+    fn finish(self) -> Result<Transcript<'a>, ReplayFault> {
         let Reading {
             alloc: _,
             seed: _,
             is_given: _,
             earlier: _,
             parties,
-            held,
-            behind,
-            doubtful: _,
-            openings,
-            entries,
-            sources,
+            history,
             text,
         } = self;
         drop(text);
-        drop(held);
-        drop(behind);
         drop(parties);
-        if openings.is_empty() {
-            drop(openings);
-            drop(entries);
-            drop(sources);
-            return Err(ReplayFault::Wrong(0));
-        }
-        Ok(Transcript {
-            openings,
-            entries,
-            sources,
-        })
-    }
-
-    /// Leaves the line in doubt out: it did not take hold.
-    fn leave_out(&mut self) {
-        while self.doubtful > 0 {
-            self.doubtful -= 1;
-            drop(self.entries.pop());
-            drop(self.sources.pop());
-        }
-        self.behind = None;
-    }
-
-    /// The line in doubt took hold.
-    fn take_in(&mut self) {
-        if let Some(behind) = self.behind.take() {
-            self.held = behind;
-        }
-        self.doubtful = 0;
+        history.into_transcript()
     }
 
     /// Reads what one run printed.
@@ -181,7 +123,7 @@ impl<'a, 'b> Reading<'a, 'b> {
         if told.starts_with(rest) {
             return Ok(());
         }
-        if self.openings.is_empty() {
+        if self.history.is_empty() {
             let passed = if rest.starts_with(told) { 2 } else { 1 };
             return Err(ReplayFault::Wrong(line.number + passed));
         }
@@ -263,7 +205,7 @@ impl<'a, 'b> Reading<'a, 'b> {
                     return Err(self.explain_opening(&setup, behind, words));
                 }
                 self.parties = Some(parties);
-                self.settle(fits);
+                self.history.settle(fits);
                 Ok(None)
             }
         }
@@ -279,7 +221,7 @@ impl<'a, 'b> Reading<'a, 'b> {
     ) -> Result<Tried, AllocError> {
         let nodes = nodes_of(setup);
         if took_hold {
-            return match &self.behind {
+            return match self.history.behind() {
                 Some(held) => try_member(
                     self.alloc,
                     self.seed,
@@ -297,22 +239,10 @@ impl<'a, 'b> Reading<'a, 'b> {
             self.seed,
             nodes,
             &nodes[member],
-            &self.held,
+            self.history.held(),
             piece,
             &mut self.text,
         )
-    }
-
-    /// What an opening that was cut tells of the line in doubt.
-    fn settle(&mut self, fits: Fits) {
-        if fits.before && fits.behind {
-            return;
-        }
-        if fits.behind {
-            self.take_in();
-        } else {
-            self.leave_out();
-        }
     }
 
     /// A run was opened.
@@ -322,10 +252,10 @@ impl<'a, 'b> Reading<'a, 'b> {
         member: usize,
         found: Opened,
         took_hold: bool,
-        base: Option<ocpi_text::Whole>,
+        base: Option<Whole>,
         behind: Behind<'a>,
     ) -> Result<Running, AllocError> {
-        self.settle(Fits {
+        self.history.settle(Fits {
             before: !took_hold,
             behind: took_hold,
         });
@@ -334,19 +264,15 @@ impl<'a, 'b> Reading<'a, 'b> {
         parties.push(party)?;
         self.parties = Some(parties);
         let Opened { node, serial } = found;
-        let known = self.held.line;
-        let opening = self.openings.len();
-        self.openings.push(Opening {
+        let known = self.history.held().line;
+        let opening = self.history.open(Opening {
             line: behind.line,
             setup,
             member,
             told: behind.piece.bytes,
-            rows: self.held.rows.len(),
+            rows: self.history.held().rows.len(),
             serial,
         })?;
-        if opening > 0 {
-            self.enter_restart(opening)?;
-        }
         Ok(Running {
             alloc: self.alloc,
             node,
@@ -359,16 +285,6 @@ impl<'a, 'b> Reading<'a, 'b> {
                 None => known,
             },
         })
-    }
-
-    /// Enters that the node started again.
-    fn enter_restart(&mut self, opening: usize) -> Result<(), AllocError> {
-        self.entries.push(Entry {
-            event: NodeEventKind::Restart,
-            packets: Packets::new(Vec::new(self.alloc)),
-        })?;
-        self.sources.push(Source::Restarted { opening })?;
-        Ok(())
     }
 
     /// Why no node was opened so.
@@ -390,15 +306,16 @@ impl<'a, 'b> Reading<'a, 'b> {
                 Err(_) => return ReplayFault::Memory,
             }
         }
-        if self.openings.is_empty() {
+        if self.history.is_empty() {
             if told.is_some() && !self.is_given {
                 return ReplayFault::BegunLater(line);
             }
             return ReplayFault::Wrong(line + 1);
         }
-        let last = match &self.behind {
+        let before = self.history.held().line.value();
+        let last = match self.history.behind() {
             Some(held) => held.line.value(),
-            None => self.held.line.value(),
+            None => before,
         };
         if let Some(found) = told
             && let Some(number) = found.line
@@ -406,8 +323,8 @@ impl<'a, 'b> Reading<'a, 'b> {
             if number > last {
                 return ReplayFault::LinesMissing(line);
             }
-            if number < self.held.line.value() && behind.piece.is_closed {
-                let _ = tell_older(number, self.held.line.value(), words);
+            if number < before && behind.piece.is_closed {
+                let _ = tell_older(number, before, words);
             }
         }
         ReplayFault::NotARun(line)
@@ -457,11 +374,7 @@ impl<'a, 'b> Reading<'a, 'b> {
         running: &mut Running,
         line: EchoedLine<'a>,
     ) -> Result<(), AllocError> {
-        let mut happened = Happened {
-            entries: &mut self.entries,
-            sources: &mut self.sources,
-        };
-        running.answer(scratch, line, &mut happened, &mut self.text)
+        self.history.answer(scratch, running, line, &mut self.text)
     }
 
     /// A run ended, or was stopped. With `is_in_doubt`, at that line: it was carried out, or was not.
@@ -473,32 +386,14 @@ impl<'a, 'b> Reading<'a, 'b> {
         is_in_doubt: bool,
     ) -> Result<(), ReplayFault> {
         let mut running = running;
-        self.held = held_by(&running)?;
-        if !is_in_doubt {
-            drop(running);
-            return Ok(());
+        self.history.leave(&running)?;
+        if is_in_doubt {
+            self.history
+                .doubt(scratch, &mut running, line, &mut self.text)?;
         }
-        let before = self.entries.len();
-        self.answer(scratch, &mut running, line)?;
-        self.doubtful = self.entries.len() - before;
-        if running.last.value() == self.held.line.value() {
-            drop(running);
-            self.leave_out();
-            return Ok(());
-        }
-        let behind = held_by(&running)?;
         drop(running);
-        self.behind = Some(behind);
         Ok(())
     }
-}
-
-/// What a node leaves in its store. An error is want of memory.
-fn held_by(running: &Running) -> Result<Held, AllocError> {
-    Ok(Held {
-        rows: running.node.stored()?,
-        line: running.last,
-    })
 }
 
 /// Whether a party is one of these.
