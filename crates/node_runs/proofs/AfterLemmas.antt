@@ -1,5 +1,5 @@
 -- What a line behind the setup left, from what its parts give, and how the program goes on with it.
-use Rattle.std.proofs.Common.{◌≡◌, ◌≢◌, ◌⊎◌, ◌++◌, ◌∙◌, ◌≤◌, ℕ, suc, List, [], Option, Some, None, Ok, refl, sym, ap, subst, inl, inr}
+use Rattle.std.proofs.Common.{◌≡◌, ◌≢◌, ◌⊎◌, ◌++◌, ◌∙◌, ◌≤◌, ℕ, suc, Bool, true, false, List, [], Option, Some, None, Result, Ok, Err, OnOk, refl, sym, ap, subst, inl, inr}
 use Rattle.std.proofs.lemmas.List.{append-nil}
 use Rattle.ocpi_text.specs.Whole.{max_whole}
 use Rattle.ocpi_types.specs.declared.node_events.NodeEvent.{NodeEvent}
@@ -21,7 +21,10 @@ use Rattle.stored_nodes.specs.declared.stored_node.Applied.TheVariants.{Skipped,
 use Rattle.node_steps.specs.declared.fault.NodeFault.TheVariants.{NumbersUsedUp}
 use Rattle.node_store.specs.Faults.{counted_fault}
 use Rattle.node_store.specs.declared.fault.StoreFault.{StoreFault}
-use Rattle.node_runs.specs.Afters.{CommitsAll, CommitsNone, DoesAll, IsAfter, IsCommitted, IsDeclinedFor, IsTold}
+use Rattle.node_runs.specs.Afters.{CommitsAll, CommitsNone, DoesAll, IfRuns, IsAfter, IsAnswered, IsCommitted, IsDeclinedFor, IsTold}
+use Rattle.node_runs.specs.declared.event_lines.Answered.TheVariants.{Declined, Starved, Told, Untold}
+use Rattle.std.specs.declared.alloc.AllocError.{AllocError}
+use Rattle.std.specs.Prelude.{IsOk}
 use Rattle.node_runs.specs.DoneLines.{known_line, refused_line}
 use Rattle.node_runs.specs.LineAnswers.{Answers, CarriesOut, SeveralEvents}
 use Rattle.node_runs.specs.NodeAnswers.{BehindTurn, LineTurn, LosesLine}
@@ -29,7 +32,7 @@ use Rattle.node_runs.specs.NodeAnswers as answers
 use Rattle.node_runs.specs.NodeTurns.{Running, Stage}
 use Rattle.node_runs.specs.Stages.{GoesOnWith}
 use Rattle.node_runs.specs.declared.fault.NodeStop.{NodeStop}
-use Rattle.node_runs.specs.declared.fault.NodeStop.TheVariants.{Memory}
+use Rattle.node_runs.specs.declared.fault.NodeStop.TheVariants.{Memory, Store}
 use Rattle.node_runs.specs.declared.list_lines.After.{After}
 use Rattle.node_runs.specs.declared.list_lines.After.TheVariants.{Lost, Runs}
 
@@ -53,6 +56,29 @@ told_after {K} keeper now next number line turn text before after (Runs other an
     (text, told.2, subst (λ (n : Running K). LineTurn keeper now number line answered text n) (sym told.0) (subst (λ (t : Turn). LineTurn keeper now number line t text next) (sym told.1) is))
 told_after keeper now next number line turn text before after (Lost keep stop) is stored later told =
     (answers.WasUntold turn text next is later told.1 told.0, stored, told.2)
+
+-- what was to be told is what was written, where that was written whole
+pub told_as : {K : Type 0} (now : Running K) (turn : Turn) (text out before after : List ℕ) (written : Result (Unit {0}) AllocError) (a : After K) → IsTold now turn text before after a
+    → IfRuns a (IsOk written) → OnOk written (text ≡ [] ++ out) → IsTold now turn out before after a
+told_as now turn text out before after (Ok u) (Runs next answered) told whole is = (told.0, told.1, told.2 ∙ ap (λ (s : List ℕ). before ++ s) is)
+told_as now turn text out before after (Err e) (Runs next answered) told whole is = absurd (let bad : false ≡ true = whole in cc bad)
+told_as now turn text out before after written (Lost keep stop) told whole is = told
+
+-- ---- a line of one event
+
+module _ {K : Type 0} (keeper : Keeper K) (now next : Running K) (number : ℕ) (line text : List ℕ) (stored : IsStored keeper now.node) (later : IsStored keeper next.node) (before after : List ℕ) where
+  pub one_told : (turn : Turn) (a : After K) → IsAnswered keeper now number line [] text (Told turn) next → IsTold next turn text before after a → IsAfter keeper now number line before after a
+  one_told turn a is told =
+      told_after keeper now next number line turn text before after a (subst (λ (out : List ℕ). LineTurn keeper now number line turn out next) (sym is.1) is.2) stored later told
+
+  pub one_untold : IsAnswered keeper now number line [] text Untold next → IsAfter keeper now number line before before (Lost next.node.keep Memory)
+  one_untold is = (answers.WasUntold is.0 is.1 next is.2 later refl refl, stored, refl)
+
+  pub one_starved : IsAnswered keeper now number line [] text Starved next → IsAfter keeper now number line before before (Lost next.node.keep Memory)
+  one_starved is = (answers.WasStarved refl (ap (λ (n : Running K). n.node.keep) is), stored, refl)
+
+  pub one_declined : (fault : StoreFault) → IsAnswered keeper now number line [] text (Declined fault) next → IsAfter keeper now number line before before (Lost next.node.keep (Store fault))
+  one_declined fault is = (is, stored, refl)
 
 -- ---- a line of several events
 
@@ -124,7 +150,10 @@ module _ {K : Type 0} (keeper : Keeper K) (now : Running K) (s : Stage K) (line 
   -- one behind the last number
   pub beyond_on : s.number ≡ max_whole → (a : After K) (turn : Turn) (t : Stage K) → IsTold now Refused (refused_line max_whole None NumbersUsedUp) before after a
       → GoesOnWith (Bare s.number) a turn t → Turns turn t
-  beyond_on is (Runs next answered) turn t told goes =
-      (refused_line max_whole None NumbersUsedUp, told.2, answers.WasBeyond is (goes.0 ∙ told.1) refl
-      (goes.1 ∙ ap (λ (n : Running K). answers.next_stage s n s.number) told.0 ∙ ap (λ (n : ℕ). answers.next_stage s now n) is))
+  beyond_on is (Runs next answered) turn t told goes = (
+    refused_line max_whole None NumbersUsedUp,
+    told.2,
+    answers.WasBeyond is (goes.0 ∙ told.1) refl
+        (goes.1 ∙ ap (λ (n : Running K). answers.next_stage s n s.number) told.0 ∙ ap (λ (n : ℕ). answers.next_stage s now n) is),
+  )
   beyond_on is (Lost keep stop) turn t told goes = ended s.number keep stop turn t (answers.WasStarved told.1 told.0) told.2 goes

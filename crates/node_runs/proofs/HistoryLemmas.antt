@@ -2,7 +2,6 @@
 use Rattle.std.proofs.Common.{◌≡◌, ◌≢◌, ◌⊎◌, ◌++◌, ◌∙◌, ◌+◌, ◌<◌, ◌≤◌, ℕ, suc, Bool, List, [], ◌∷◌, Option, Some, None, refl, sym, ap, subst, inl, inr, arith, length, length-append, append_assoc, append-nil}
 use Rattle.std.proofs.lemmas.List.Concat.{flat_map-append}
 use Rattle.ocpi_text.specs.Whole.{max_whole}
-use Rattle.std.proofs.lemmas.Option.{Some-injective}
 use Rattle.node_laws.specs.Runs.{Run}
 use Rattle.json_text.specs.Fault.{Read}
 use Rattle.ocpi_types.specs.Setups.{party_of}
@@ -20,7 +19,7 @@ use Rattle.line_runs.specs.declared.outcome.Ran.{Ran}
 use Rattle.line_runs.specs.declared.run.Turn.{Turn}
 use Rattle.line_runs.specs.declared.run.Turn.TheVariants.{Ended, Refused, Taken}
 use Rattle.node_keepers.specs.Opening.{Source}
-use Rattle.stored_nodes.specs.Keepers.{Commits, IsSettled, Keeper, KeepsOn, Nothing, Takes, Taken as TakenBy}
+use Rattle.stored_nodes.specs.Keepers.{Commits, IsLine, IsSettled, Keeper, KeepsOn, Nothing, Taken as TakenBy}
 use Rattle.stored_nodes.specs.Stored.{IsStored, Stored}
 use Rattle.stored_nodes.specs.Transactions.{changes_of_each}
 use Rattle.stored_nodes.proofs.Staying.{marked_holds, numbered_behind}
@@ -28,16 +27,16 @@ use Rattle.stored_nodes.proofs.Together.{alike_by_events, held_by_events, starts
 use Rattle.node_core.specs.Members.{IsMadeOfRows}
 use Rattle.node_rows.specs.Holds.{HoldsRows}
 use Rattle.node_rows.specs.Laws.{AreClasses, ChangesAreHeld, RestartsAreHeld}
-use Rattle.node_store.specs.Contents.{Content, changed_all, line_of, marked}
-use Rattle.node_store.proofs.Numbers.{numbers_are_no_rows}
-use Rattle.std.specs.Prelude.{IsSome}
+use Rattle.node_store.specs.Contents.{Content, IsReadAgain, changed_all, line_of, marked}
+use Rattle.node_store.proofs.Numbered.{numbers_are_no_rows}
+use Rattle.std.specs.Prelude.{All, IsSome}
 use Rattle.stored_laws.specs.Nodes.{CanStartAgain, IsOfOpening, NodesCanStartAgain, NodesKeepOpenings, restarted}
 use Rattle.node_runs.specs.LineAnswers.{Answers, AreDone, PlacedTurn}
 use Rattle.node_runs.specs.LineAnswers as lines
 use Rattle.node_runs.specs.NodeAnswers.{BehindTurn, LineTurn, LosesLine, NodeLineGives, NodeTurn, next_stage}
 use Rattle.node_runs.specs.NodeAnswers as answers
 use Rattle.node_runs.specs.NodeTurns.{IsMember, OpensNode, Running, Stage, number_from, opened_stage, opening}
-use Rattle.node_runs.specs.NumberedRuns.{Carries, IsKnown, IsRead, Numbered, Takes, all_done, none_carried, one_carried}
+use Rattle.node_runs.specs.NumberedRuns.{Carries, Changed, IsKnown, IsRead, Numbered, Takes, all_done, none_carried, none_changed, one_carried, one_changed, one_quiet}
 use Rattle.node_runs.proofs.EndLemmas.{all_go_on}
 use Rattle.node_runs.specs.NodeTurns as turns
 use Rattle.node_runs.specs.NodeHistories.{Before_line, Behind_line, GoesOnAtLine, GoesOnFrom, HasHistory, IsLeftBy, LostLinesGoOn, RunsAreHistories, TwoRunsAreOne, WasRun, kept_line, restart_of, some_lines}
@@ -102,7 +101,7 @@ lines_on : (all : List (List ℕ)) (line : List ℕ) → some_lines (all ++ line
 lines_on all line = flat_map-append kept_line all (line ∷ []) ∙ ap (λ (l : List (List ℕ)). some_lines all ++ l) (append-nil (kept_line line))
 
 one_kept : (line : List ℕ) → 0 < length line → kept_line line ≡ line ∷ []
-one_kept [] some = absurd (omega some)
+one_kept [] some = absurd (omega (arith, some))
 one_kept (c ∷ cs) some = refl
 
 module _ {K : Type 0} (keeper : Keeper K) (source : Source K) (wanted : Option (List ℕ)) where
@@ -136,13 +135,17 @@ module _ {K : Type 0} (keeper : Keeper K) (source : Source K) (wanted : Option (
     number = h.number;
     beyond = h.beyond;
     known = h.known;
+    changed = h.changed;
+    last_change = h.last_change;
+    changes = h.changes;
+    marked = h.marked;
   }
 
   -- a line more, by the next number
   one_more : (all : List (List ℕ)) (line out : List ℕ) (did : List NodeEvent) (s : Stage K) (now next : Running K) → 0 < length line → suc s.number ≤ max_whole
       → Takes now.party s.known (suc s.number) line now.node.state out did next.node.state → next.party ≡ now.party → IsSettled keeper next.node.keep
-      → HasHistory keeper source wanted all s now → HasHistory keeper source wanted (all ++ line ∷ []) (next_stage s next (suc s.number)) next
-  one_more all line out did s now next some few takes party settled h =
+      → Commits keeper (Some (suc s.number)) (changes_of_each did) now.node.keep next.node.keep → HasHistory keeper source wanted all s now → HasHistory keeper source wanted (all ++ line ∷ []) (next_stage s next (suc s.number)) next
+  one_more all line out did s now next some few takes party settled commits h =
       let was = h.was in
       let base = number_from h.base was.last in
       let none : h.others ≡ [] = no_others h.others h.beyond few in
@@ -176,14 +179,33 @@ module _ {K : Type 0} (keeper : Keeper K) (source : Source K) (wanted : Option (
         are = lines_on all line ∙ ap (λ (l : List (List ℕ)). some_lines all ++ l) (one_kept line some)
             ∙ ap (λ (l : List (List ℕ)). l ++ line ∷ []) (h.are ∙ ap (λ (l : List (List ℕ)). h.first ∷ (h.numbered ++ l)) none ∙ ap (λ (l : List (List ℕ)). h.first ∷ l) (append-nil h.numbered))
             ∙ ap (λ (l : List (List ℕ)). h.first ∷ l) (sym (append-nil (h.numbered ++ line ∷ [])));
-        number = omega (h.number, length-append h.numbered (line ∷ []));
+        number = omega (arith, h.number, length-append h.numbered (line ∷ []));
         beyond = λ some. absurd (some refl);
         known = h.known;
+        changed = (mark commits).0;
+        last_change = (mark commits).1;
+        changes = (mark commits).2;
+        marked = (mark commits).3;
       }
     where
+      mark : Commits keeper (Some (suc s.number)) (changes_of_each did) now.node.keep next.node.keep →
+          (changed : List ℕ) × (last : ℕ) × Changed h.was.last (h.did ++ (suc (number_from h.base h.was.last + length h.numbered), did) ∷ []) changed last
+          × (keeper.is_honest next.node.keep → line_of (keeper.content next.node.keep) ≡ Some last)
+      mark (Nothing none same) =
+          (h.changed, h.last_change, one_quiet (suc (number_from h.base h.was.last + length h.numbered)) did h.changes none, λ honest. ap (λ (k : K). line_of (keeper.content k)) same ∙ h.marked (subst keeper.is_honest same honest))
+      mark (TakenBy some takes) =
+          let number = suc (number_from h.base h.was.last + length h.numbered) in (
+            h.changed ++ number ∷ [],
+            number,
+            one_changed number did h.changes some,
+            λ honest.
+                ap line_of (takes.makes honest) ∙ numbers_are_no_rows.is (changed_all (keeper.content now.node.keep) (changes_of_each did)) (suc s.number) takes.is_line.0 takes.is_line.1
+                ∙ ap Some (ap suc h.number),
+          )
+
       no_others : (others : List (List ℕ)) → (others ≢ [] → s.number ≡ max_whole) → suc s.number ≤ max_whole → others ≡ []
       no_others [] beyond few = refl
-      no_others (o ∷ os) beyond few = let is = beyond (λ e. absurd (cc e)) in absurd (omega (is, few))
+      no_others (o ∷ os) beyond few = let is = beyond (λ e. absurd (cc e)) in absurd (omega (arith, is, few))
 
   -- a line for which there is no number
   one_beyond : (all : List (List ℕ)) (line : List ℕ) (s : Stage K) (now : Running K) → 0 < length line → s.number ≡ max_whole
@@ -206,6 +228,10 @@ module _ {K : Type 0} (keeper : Keeper K) (source : Source K) (wanted : Option (
     number = sym is ∙ h.number;
     beyond = λ more. refl;
     known = h.known;
+    changed = h.changed;
+    last_change = h.last_change;
+    changes = h.changes;
+    marked = h.marked;
   }
 
   behind_setup : (all : List (List ℕ)) (now : Running K) (s : Stage K) (line : List ℕ) (turn : Turn) (out : List ℕ) (t : Stage K) → 0 < length line → (turn ≡ Ended → ⊥)
@@ -213,7 +239,7 @@ module _ {K : Type 0} (keeper : Keeper K) (source : Source K) (wanted : Option (
   behind_setup all now s line turn out t some on (answers.WasKnown is taken written left) whole h =
       subst (IsTold (all ++ line ∷ [])) (sym left) (record {
         wanted_so = whole.wanted_so;
-        known = one_more all line out [] s now now some (omega (is, h.known, h.was.starts.reopens.most)) (IsKnown is written refl refl) refl h.was.settled h;
+        known = one_more all line out [] s now now some (omega (arith, is, h.known, h.was.starts.reopens.most)) (IsKnown is written refl refl) refl h.was.settled (Nothing refl refl) h;
         first = λ e. absurd (cc e);
       })
   behind_setup all now s line turn out t some on (answers.WasBeyond is refused written left) whole h =
@@ -221,7 +247,7 @@ module _ {K : Type 0} (keeper : Keeper K) (source : Source K) (wanted : Option (
   behind_setup all now s line turn out t some on (answers.GoesOn new few next is left) whole h =
       subst (IsTold (all ++ line ∷ [])) (sym left) (record {
         wanted_so = whole.wanted_so;
-        known = one_more all line out is.did s now next some few (IsRead new turn is.answers) is.party (settled_by keeper (Some (suc s.number)) is.did now.node.keep next.node.keep is.commits h.was.settled) h;
+        known = one_more all line out is.did s now next some few (IsRead new turn is.answers) is.party (settled_by keeper (Some (suc s.number)) is.did now.node.keep next.node.keep is.commits h.was.settled) is.commits h;
         first = λ e. absurd (cc e);
       })
   behind_setup all now s line turn out t some on (answers.Ends stop keep loses stored number ended written left) whole h = absurd (on ended)
@@ -256,9 +282,13 @@ module _ {K : Type 0} (keeper : Keeper K) (source : Source K) (wanted : Option (
           others = [];
           carries = none_carried;
           are = lines_on all line ∙ ap (λ (l : List (List ℕ)). l ++ kept_line line) none ∙ one_kept line some;
-          number = omega refl;
+          number = omega arith;
           beyond = λ more. absurd (more refl);
           known = refl;
+          changed = [];
+          last_change = o.last;
+          changes = none_changed;
+          marked = λ honest. ap line_of (o.begins.starts.reopens.keeps.same honest) ∙ o.begins.starts.reopens.told honest;
         };
         first = λ e. absurd (cc e);
       }
@@ -331,7 +361,7 @@ module _ (keep : NodesKeepOpenings) (held : ChangesAreHeld) (start : NodesCanSta
     -- the second begins over the rows of a node of the opening
     begins_at : (v : NodeState) → CanStartAgain v → IsOfOpening (opening_of setup member) v → HoldsRows fresh v → second.start.state ≡ restarted v
     begins_at v starts is holds =
-        second.starts.again later v (record { starts = starts; of_member = is; holds = holds; numbered = subst IsSome (sym (second.starts.reopens.told later)) tt })
+        second.starts.again later v (record { starts = starts; of_member = is; holds = holds; numbered = subst IsSome (sym (second.starts.reopens.told later)) refl })
 
     -- over what the first kept
     begins_there : IsStored keeper left.node → keeper.is_honest left.node.keep → fresh ≡ keeper.content left.node.keep → second.start.state ≡ restarted left.node.state
@@ -348,7 +378,7 @@ module _ (keep : NodesKeepOpenings) (held : ChangesAreHeld) (start : NodesCanSta
     -- the line was carried out, and changed rows, which were committed with its number
     behind : IsStored keeper left.node → keeper.is_honest left.node.keep → (number : ℕ) (line : List ℕ) (turn : Turn) (out : List ℕ) (did : List NodeEvent) (after : NodeState)
         → Answers left.party left.node.state number line turn out did after → changes_of_each did ≢ []
-        → (again : _) → (is_line : _) → fresh ≡ marked (Some number) (changed_all (keeper.content left.node.keep) (changes_of_each did))
+        → All IsReadAgain (changes_of_each did) → IsLine (Some number) → fresh ≡ marked (Some number) (changed_all (keeper.content left.node.keep) (changes_of_each did))
         → GoesOnAtLine keeper left number line second.start.state second.last
     behind stored honest number line turn out did after is some again is_line made =
         let c = keeper.content left.node.keep in
@@ -357,7 +387,7 @@ module _ (keep : NodesKeepOpenings) (held : ChangesAreHeld) (start : NodesCanSta
         (held_by_events held start c left.node.state after did stored.starts (stored.holds honest) run again)) in
         let begins = begins_at after (starts_by_events start left.node.state after did run stored.starts) (run_of_opening (opening_of setup member) left.node.state after did of_setup run) holds in
         let last = sym (second.starts.reopens.told later) ∙ ap line_of made ∙ numbers_are_no_rows.is (changed_all c (changes_of_each did)) number is_line.0 is_line.1 in
-        Behind_line turn out did after is some begins (Some-injective last)
+        Behind_line turn out did after is some begins (cc last)
 
     pub goes_on_from : IsStored keeper left.node → keeper.is_honest left.node.keep → IsLeftBy keeper left.node.keep fresh → GoesOnFrom keeper setup member xs ys left now first second
     goes_on_from stored honest over =

@@ -2,4 +2,4 @@ mod NodeLemmas
 mod ListLemmas
 mod AfterLemmas
 mod EndLemmas
-mod HistoryLemmas
+pub mod HistoryLemmas

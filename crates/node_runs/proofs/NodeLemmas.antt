@@ -8,7 +8,8 @@ use Rattle.ocpi_types.specs.declared.rows.Change.{Change}
 use Rattle.json_text.specs.Fault.{Fails, Read}
 use Rattle.json_text.specs.declared.fault.JsonFault.{JsonFault}
 use Rattle.json_text.specs.declared.fault.JsonFault.TheVariants.{Memory as LineMemory}
-use Rattle.node_lines.specs.NodeLines.{node_line_in}
+use Rattle.json_text.specs.declared.fault.JsonFault.TheVariants as line
+use Rattle.node_lines.specs.NodeLines.{node_line_in, one_of}
 use Rattle.node_lines.specs.declared.node_line.NodeLine.{NodeLine}
 use Rattle.node_lines.specs.declared.node_line.NodeLine.TheVariants.{One}
 use Rattle.line_runs.specs.declared.run.Turn.{Turn}
@@ -25,6 +26,9 @@ use Rattle.stored_nodes.specs.declared.stored_node.Applied.TheVariants.{Skipped,
 use Rattle.world_steps.specs.Steps.{NodeEvent as Deed, changes_of, packets_of}
 use Rattle.world_steps.specs.World.{NodeState}
 use Rattle.program_lines.specs.Writing.{packet_lines}
+use Rattle.node_runs.specs.Afters.{IsAnswered, IsFaultTold, IsToldAs}
+use Rattle.node_runs.specs.declared.event_lines.Answered.{Answered}
+use Rattle.stored_nodes.specs.declared.fault.ApplyFault.{ApplyFault}
 use Rattle.node_runs.specs.DoneLines.{idle_line, malformed_line, refused_line, skipped_line}
 use Rattle.node_runs.specs.LineAnswers.{IsOwn, OneEvent, PlacedTurn, applied_lines, step_line}
 use Rattle.node_runs.specs.LineAnswers as lines
@@ -36,10 +40,10 @@ use Rattle.node_runs.specs.declared.fault.NodeStop.TheVariants.{Store}
 changes_of_one : (x : Deed) → changes_of_each (x ∷ []) ≡ changes_of x
 changes_of_one x = append-nil (changes_of x)
 
-module _ {K : Type 0} (keeper : Keeper K) (now : Running K) (number : ℕ) (line : List ℕ) where
+module _ {K : Type 0} (keeper : Keeper K) (now : Running K) (number : ℕ) (text : List ℕ) where
   -- nothing was done
-  idly : (read : Read NodeEvent) → node_line_in line ≡ lines.one_of read → (turn : Turn) (out : List ℕ) (next : Running K) → next.party ≡ now.party → next.node ≡ now.node
-      → PlacedTurn now.party now.node.state number None read turn out [] next.node.state → LineTurn keeper now number line turn out next
+  idly : (read : Read NodeEvent) → node_line_in text ≡ one_of read → (turn : Turn) (out : List ℕ) (next : Running K) → next.party ≡ now.party → next.node ≡ now.node
+      → PlacedTurn now.party now.node.state number None read turn out [] next.node.state → LineTurn keeper now number text turn out next
   idly read is turn out next party same turns = record {
     did = [];
     answers = OneEvent read is turns;
@@ -48,17 +52,24 @@ module _ {K : Type 0} (keeper : Keeper K) (now : Running K) (number : ℕ) (line
   }
 
   -- the line is no event
-  pub malformed : (fault : JsonFault) → Fails fault (node_line_in line) → fault ≢ LineMemory → LineTurn keeper now number line Refused (malformed_line number None fault) now
+  pub malformed : (fault : JsonFault) → Fails fault (node_line_in text) → fault ≢ LineMemory → LineTurn keeper now number text Refused (malformed_line number None fault) now
   malformed fault fails other =
-      let is = fails_so fault (node_line_in line) fails other in
+      let is = fails_so fault (node_line_in text) fails other in
       idly (Err fault) is Refused (malformed_line number None fault) now refl refl (lines.IsMalformed fault refl other refl refl refl refl)
     where
       fails_so : (fault : JsonFault) (read : Read NodeLine) → Fails fault read → fault ≢ LineMemory → read ≡ Err fault
-      fails_so fault read fails other = cc
+      fails_so line.Memory read fails other = absurd (other refl)
+      fails_so line.Syntax read fails other = fails
+      fails_so line.BadNumberToken read fails other = fails
+      fails_so line.TaggedText read fails other = fails
+      fails_so (line.Missing f) read fails other = fails
+      fails_so (line.WrongForm f) read fails other = fails
+      fails_so (line.UnknownWord f) read fails other = fails
+      fails_so line.UnknownKind read fails other = fails
 
-  module _ (x : NodeEvent) (read : node_line_in line ≡ Ok (One x)) where
+  module _ (x : NodeEvent) (read : node_line_in text ≡ Ok (One x)) where
     -- it is another node's
-    pub elsewhere : key x.node ≢ key now.party → LineTurn keeper now number line Taken (skipped_line number None) now
+    pub elsewhere : key x.node ≢ key now.party → LineTurn keeper now number text Taken (skipped_line number None) now
     elsewhere other = idly (Ok x) read Taken (skipped_line number None) now refl refl (lines.IsElsewhere x refl other refl refl refl refl)
 
     module _ (same : key x.node ≡ key now.party) (node : Stored K) where
@@ -69,7 +80,7 @@ module _ {K : Type 0} (keeper : Keeper K) (now : Running K) (number : ℕ) (line
       next = record { party = now.party; node = node }
 
       -- what comes of an event that was not refused
-      pub applied : (a : Applied) → Applies keeper (Some number) now.node x.kind a node → LineTurn keeper now number line Taken (applied_lines number None a) next
+      pub applied : (a : Applied) → Applies keeper (Some number) now.node x.kind a node → LineTurn keeper now number text Taken (applied_lines number None a) next
       applied Skipped passes =
           idly (Ok x) read Taken (skipped_line number None) next refl passes.same
           (lines.IsOfOtherRole x own passes.taken passes.nothing refl refl refl (ap (λ (n : Stored K). n.state) passes.same))
@@ -87,16 +98,49 @@ module _ {K : Type 0} (keeper : Keeper K) (now : Running K) (number : ℕ) (line
           (lines.WasUnstored x own none.0 refl out refl (ap (λ (n : Stored K). n.state) none.3))
 
       -- what comes of one that the node refuses
-      pub refused : (fault : NodeFault) → Refuses now.node x.kind fault node → LineTurn keeper now number line Refused (refused_line number None fault) next
+      pub refused : (fault : NodeFault) → Refuses now.node x.kind fault node → LineTurn keeper now number text Refused (refused_line number None fault) next
       refused fault r =
           idly (Ok x) read Refused (refused_line number None fault) next refl r.same
           (lines.IsRefused x own r.input r.brings fault r.refuses r.other refl refl refl (ap (λ (n : Stored K). n.state) r.same))
 
       -- and of one whose changes the keeper did not take
-      pub declined : (fault : StoreFault) → FailsToApply keeper (Some number) now.node x.kind (apply.Store fault) node → LosesLine keeper now number line (Store fault) node.keep
+      pub declined : (fault : StoreFault) → FailsToApply keeper (Some number) now.node x.kind (apply.Store fault) node → LosesLine keeper now number text (Store fault) node.keep
       declined fault fails =
           let l = fails.1 in
-          let some = λ none. l.some (sym (changes_of_one l.event) ∙ none) in
-          let turns = lines.WasDone x own l.event l.brings l.step true (λ is. l.some, λ is. tt) refl refl refl in
-          WasDeclined Taken (packet_lines (packets_of l.event) ++ step_line number None (packets_of l.event) true) (l.event ∷ []) l.after (OneEvent (Ok x) read turns) some fault fails.0
+          let some : changes_of_each (l.event ∷ []) ≢ [] = λ none. l.some (sym (changes_of_one l.event) ∙ none) in
+          let out : List ℕ = packet_lines (packets_of l.event) ++ step_line number None (packets_of l.event) true in
+          let turns : PlacedTurn now.party now.node.state number None (Ok x) Taken out (l.event ∷ []) l.after =
+          lines.WasDone x own l.event l.brings l.step true (λ is. l.some, λ is. refl) refl refl refl in
+          WasDeclined Taken out (l.event ∷ []) l.after (OneEvent (Ok x) read turns) some fault fails.0
           (subst (λ (cs : List Change). Declines keeper (Some number) cs (counted_fault fault) now.node.keep node.keep) (sym (changes_of_one l.event)) l.declines) refl
+
+-- ---- what is answered of an event
+
+told_line : {K : Type 0} (keeper : Keeper K) (now next : Running K) (number : ℕ) (text : List ℕ) (turn : Turn) (out before after : List ℕ) (a : Answered) → IsToldAs turn out before after a
+    → LineTurn keeper now number text turn out next → IsAnswered keeper now number text before after a next
+told_line keeper now next number text turn out before after a (inl untold) is =
+    subst (λ (b : Answered). IsAnswered keeper now number text before after b next) (sym untold) (turn, out, is)
+told_line keeper now next number text turn out before after a (inr told) is =
+    subst (λ (b : Answered). IsAnswered keeper now number text before after b next) (sym told.0) (out, told.1, is)
+
+module _ {K : Type 0} (keeper : Keeper K) (now : Running K) (number : ℕ) (text : List ℕ) (x : NodeEvent) (read : node_line_in text ≡ Ok (One x)) (before after : List ℕ) (a : Answered) where
+  pub answered_elsewhere : key x.node ≢ key now.party → IsToldAs Taken (skipped_line number None) before after a → IsAnswered keeper now number text before after a now
+  answered_elsewhere other told = told_line keeper now now number text Taken (skipped_line number None) before after a told (elsewhere keeper now number text x read other)
+
+  module _ (same : key x.node ≡ key now.party) (node : Stored K) where
+    abbrev Behind : Running K
+    Behind = record { party = now.party; node = node }
+
+    pub answered_applied : (did : Applied) → Applies keeper (Some number) now.node x.kind did node → IsToldAs Taken (applied_lines number None did) before after a
+        → IsAnswered keeper now number text before after a Behind
+    answered_applied did applies told =
+        told_line keeper now Behind number text Taken (applied_lines number None did) before after a told (applied keeper now number text x read same node did applies)
+
+    pub answered_fault : (fault : ApplyFault) → FailsToApply keeper (Some number) now.node x.kind fault node → IsFaultTold number fault before after a
+        → IsAnswered keeper now number text before after a Behind
+    answered_fault (apply.Store fault) fails told =
+        subst (λ (b : Answered). IsAnswered keeper now number text before after b Behind) (sym told) (declined keeper now number text x read same node fault fails)
+    answered_fault (apply.Core fault) fails told =
+        told_line keeper now Behind number text Refused (refused_line number None fault) before after a told (refused keeper now number text x read same node fault fails)
+    answered_fault apply.Memory fails told =
+        subst (λ (b : Answered). IsAnswered keeper now number text before after b Behind) (sym told) (ap (λ (n : Stored K). record { party = now.party; node = n }) fails)

@@ -9,6 +9,8 @@ use Rattle.world_steps.specs.Steps.{NodeEvent as Deed}
 use Rattle.stored_nodes.specs.Keepers.{Commits, Declines, Keeper}
 use Rattle.stored_nodes.specs.Stored.{IsStored}
 use Rattle.stored_nodes.specs.Transactions.{Pending, changes_of_each}
+use Rattle.stored_nodes.specs.declared.fault.ApplyFault.{ApplyFault}
+use Rattle.stored_nodes.specs.declared.fault.ApplyFault.TheVariants as apply
 use Rattle.stored_nodes.specs.declared.fault.StepFault.{StepFault}
 use Rattle.stored_nodes.specs.declared.fault.StepFault.TheVariants as step
 use Rattle.node_store.specs.Faults.{IsCommitFault, counted_fault}
@@ -46,6 +48,16 @@ IfRuns (Lost keep stop) P = Unit {0}
 abbrev pub told : Result (Unit {0}) AllocError → Turn → Answered
 told (Ok written) turn = Told turn
 told (Err starved) turn = Untold
+
+-- this is told behind what was written before, unless memory ran out for that
+abbrev pub IsToldAs : Turn → List ℕ → List ℕ → List ℕ → Answered → Type 0
+IsToldAs turn out before after answered = (answered ≡ Untold) ⊎ ((answered ≡ Told turn) × (after ≡ before ++ out))
+
+-- why an event was not done is told where the node refuses it
+abbrev pub IsFaultTold : ℕ → ApplyFault → List ℕ → List ℕ → Answered → Type 0
+IsFaultTold number (apply.Store fault) before after answered = answered ≡ Declined fault
+IsFaultTold number (apply.Core fault) before after answered = IsToldAs Refused (refused_line number None fault) before after answered
+IsFaultTold number apply.Memory before after answered = answered ≡ Starved
 
 -- What became of the event of a line: it is told behind what was written before; memory ran out for telling it; or it
 -- was not done, for want of memory or because the keeper did not take its changes.

@@ -22,7 +22,7 @@ use Rattle.stored_laws.specs.Nodes.{restarted}
 use Rattle.node_runs.specs.LineAnswers.{Answers}
 use Rattle.node_runs.specs.NodeAnswers.{LosesLine, NodeLineGives}
 use Rattle.node_runs.specs.NodeTurns.{IsMember, Running, Stage, Starts, number_from, opening}
-use Rattle.node_runs.specs.NumberedRuns.{Carries, Numbered, all_done}
+use Rattle.node_runs.specs.NumberedRuns.{Carries, Changed, Numbered, all_done}
 use Rattle.node_runs.specs.SetupLines.{numbered_setup_in}
 use Rattle.node_runs.specs.declared.fault.NodeStop.{NodeStop}
 
@@ -47,7 +47,7 @@ some_lines all = flat_map kept_line all
 
 -- What the lines of a run up to any one made of its node. The first that holds something is the setup, and the others are
 -- counted on from the number that it tells, else from that of the last line that had taken hold; so they are numbered, as
--- long as there are numbers.
+-- long as there are numbers. The keeper has that of the last line that changed rows.
 pub record HasHistory {K : Type 0} (keeper : Keeper K) (source : Source K) (wanted : Option (List ℕ)) (all : List (List ℕ)) (s : Stage K) (now : Running K) : Type 0 where
   pub first : List ℕ
   pub setup : List Node
@@ -65,6 +65,10 @@ pub record HasHistory {K : Type 0} (keeper : Keeper K) (source : Source K) (want
   pub number : s.number ≡ number_from base was.last + length numbered
   pub beyond : others ≢ [] → s.number ≡ max_whole
   pub known : s.known ≡ was.last
+  pub changed : List ℕ
+  pub last_change : ℕ
+  pub changes : Changed was.last did changed last_change
+  pub marked : keeper.is_honest now.node.keep → line_of (keeper.content now.node.keep) ≡ Some last_change
 
 abbrev pub RunsAreHistories : {K : Type 0} → Keeper K → Source K → Type 0
 RunsAreHistories {K} keeper source =

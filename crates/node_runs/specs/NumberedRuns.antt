@@ -1,8 +1,9 @@
 -- The lines behind a setup, one after another, by their numbers, and what the node did for each. Nothing here is of its
 -- keeper.
-use Rattle.std.specs.Prelude.{◌≡◌, ◌≤◌, ℕ, suc, ◌+◌, List, [], ◌∷◌, ◌++◌, length}
+use Rattle.std.specs.Prelude.{◌≡◌, ◌≢◌, ◌≤◌, ℕ, suc, ◌+◌, List, [], ◌∷◌, ◌++◌, length}
 use Rattle.std.specs.List.{flat_map}
 use Rattle.line_runs.specs.declared.run.Turn.{Turn}
+use Rattle.stored_nodes.specs.Transactions.{changes_of_each}
 use Rattle.world_steps.specs.Steps.{NodeEvent as Deed}
 use Rattle.world_steps.specs.World.{NodeState}
 use Rattle.node_runs.specs.DoneLines.{known_line}
@@ -28,3 +29,11 @@ pub data Carries (party : List ℕ) (known base : ℕ) (first : NodeState) : Lis
   one_carried : {before : List (List ℕ)} {xs : List Numbered} {now next : NodeState} {line out : List ℕ} {did : List Deed}
       → Carries party known base first before xs now → Takes party known (suc (base + length before)) line now out did next
       → Carries party known base first (before ++ line ∷ []) (xs ++ (suc (base + length before), did) ∷ []) next
+
+-- The numbers of those for which rows were changed, in order, and the last of them, or `known` where there are none.
+pub data Changed (known : ℕ) : List Numbered → List ℕ → ℕ → Type 0 where
+  none_changed : Changed known [] [] known
+  one_quiet : {xs : List Numbered} {changed : List ℕ} {last : ℕ} (number : ℕ) (did : List Deed) → Changed known xs changed last → changes_of_each did ≡ []
+      → Changed known (xs ++ (number, did) ∷ []) changed last
+  one_changed : {xs : List Numbered} {changed : List ℕ} {last : ℕ} (number : ℕ) (did : List Deed) → Changed known xs changed last → changes_of_each did ≢ []
+      → Changed known (xs ++ (number, did) ∷ []) (changed ++ number ∷ []) number

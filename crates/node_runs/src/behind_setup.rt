@@ -1,11 +1,14 @@
 //! What comes of the lines behind the setup that are read, each of which is an event, or an array of events.
 
-ghost use Rattle.std.specs.Prelude.{◌≡◌, ◌++◌, List, [], IsOk, Ok, OnErr, OnOk, string_bytes, ℕ};
+ghost use Rattle.std.specs.Prelude.{◌≡◌, ◌↔◌, ◌++◌, List, [], IsOk, IsTrue, Ok, OnErr, OnOk, string_bytes, ℕ};
 ghost use Rattle.json_text.specs.Fault.{Fails as FailsToRead};
+ghost use Rattle.json_text.specs.declared.fault.JsonFault.TheVariants.{Memory};
 ghost use Rattle.stored_nodes.specs.Keepers.{keeper_of};
 ghost use Rattle.node_lines.specs.NodeLines.{node_line_in};
 ghost use Rattle.node_lines.specs.declared.node_line.NodeLine.TheVariants.{One, Several};
-ghost use Rattle.node_runs.specs.Afters.{IfRuns, IsAfter, IsTold};
+ghost use Rattle.stored_nodes.specs.Stored.{IsStored};
+ghost use Rattle.node_runs.specs.Afters.{IfRuns, IsAfter, IsAnswered, IsTold};
+ghost use Rattle.node_runs.specs.NodeTurns.{Running as RunningOf};
 ghost use Rattle.node_runs.specs.declared.list_lines.After.TheVariants.{Lost};
 
 use crate::beginning::Running;
@@ -77,9 +80,25 @@ fn answer_one<K: Keep>(
     running.is_stored();
     let answered = answer_event(alloc, &mut running, &event, number, text);
     drop(event);
+    tell_answered(running, answered, text.as_str(), output)
+}
+
+/// Adds what came of the event of a line to `output`, or ends the node where nothing of it is to be told.
+fn tell_answered<K: Keep>(
+    running: Running<K>,
+    answered: Answered,
+    text: &str,
+    output: &mut String,
+) -> After<K>
+    ensures { (now : RunningOf K) → (number : ℕ) → (line : List ℕ) → IsStored (keeper_of K.content K.is_honest K.refusals K.may_leave) now.node
+        → IsAnswered (keeper_of K.content K.is_honest K.refusals K.may_leave) now number line [] text.now answered running
+        → IsAfter (keeper_of K.content K.is_honest K.refusals K.may_leave) now number line (string_bytes output.old) (string_bytes output.new) result }
+{
+    running.is_stored();
     match answered {
-        Answered::Told(turn) => tell_written(running, Ok(()), turn, text.as_str(), output),
-        Answered::Untold | Answered::Starved => lose(running, NodeStop::Memory),
+        Answered::Told(turn) => tell_written(running, Ok(()), turn, text, output),
+        Answered::Untold => lose(running, NodeStop::Memory),
+        Answered::Starved => lose(running, NodeStop::Memory),
         Answered::Declined(fault) => lose(running, NodeStop::Store(fault)),
     }
 }
@@ -160,6 +179,13 @@ fn answer_several<K: Keep>(
     after
 }
 
+/// Whether memory ran out.
+pub fn is_starved(fault: JsonFault) -> bool
+    ensures { IsTrue result ↔ (fault ≡ Memory) }
+{
+    matches!(fault, JsonFault::Memory)
+}
+
 /// Writes why a line was refused as a text. Where memory ran out, the node ends.
 fn refuse_line<K: Keep>(
     running: Running<K>,
@@ -174,7 +200,7 @@ fn refuse_line<K: Keep>(
         → IsAfter (keeper_of K.content K.is_honest K.refusals K.may_leave) running number line.now (string_bytes output.old) (string_bytes output.new) result }
 {
     running.is_stored();
-    if matches!(fault, JsonFault::Memory) {
+    if is_starved(fault) {
         return lose(running, NodeStop::Memory);
     }
     let written = write_malformed(number.value().value(), None, fault, text);

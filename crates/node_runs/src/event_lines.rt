@@ -6,7 +6,9 @@ ghost use Rattle.node_lines.specs.NodeLines.{node_line_in};
 ghost use Rattle.node_lines.specs.declared.node_line.NodeLine.TheVariants.{One};
 ghost use Rattle.program_lines.specs.Writing.{packet_lines};
 ghost use Rattle.ocpi_text.specs.Text.{key};
-ghost use Rattle.node_runs.specs.Afters.{IsAnswered, told};
+ghost use Rattle.line_runs.specs.declared.run.Turn.TheVariants.{Taken};
+ghost use Rattle.node_runs.specs.Afters.{IsAnswered, IsFaultTold, IsToldAs, told};
+ghost use Rattle.node_runs.specs.DoneLines.{skipped_line};
 ghost use Rattle.node_runs.specs.LineAnswers.{applied_lines, step_line};
 
 use crate::beginning::Running;
@@ -44,15 +46,12 @@ pub fn answer_event<K: Keep>(
         → IsAnswered (keeper_of K.content K.is_honest K.refusals K.may_leave) running.old number line (string_bytes text.old) (string_bytes text.new) result running.new }
 {
     if !event.node.is_same(&running.party) {
-        return told(
-            write_skipped(number.value().value(), None, text),
-            Turn::Taken,
-        );
+        return tell_elsewhere(number, text);
     }
     answer_own(alloc, running, event, number, text)
 }
 
-/// What became of an event that was written, or for which memory ran out.
+/// What is answered of an event for which that was written, or for which memory ran out.
 fn told(written: Result<(), AllocError>, turn: Turn) -> Answered
     ensures { result ≡ told written turn }
 {
@@ -60,6 +59,16 @@ fn told(written: Result<(), AllocError>, turn: Turn) -> Answered
         Ok(()) => Answered::Told(turn),
         Err(_) => Answered::Untold,
     }
+}
+
+/// Writes that an event is another node's.
+fn tell_elsewhere(number: LineNumber, text: &mut String) -> Answered
+    ensures { IsToldAs Taken (skipped_line number None) (string_bytes text.old) (string_bytes text.new) result }
+{
+    told(
+        write_skipped(number.value().value(), None, text),
+        Turn::Taken,
+    )
 }
 
 /// Lets an event of the node happen, as far as it does, and writes what comes of it.
@@ -74,18 +83,35 @@ fn answer_own<K: Keep>(
     ensures { (line : List ℕ) → node_line_in line ≡ Ok (One event.now)
         → IsAnswered (keeper_of K.content K.is_honest K.refusals K.may_leave) running.old number line (string_bytes text.old) (string_bytes text.new) result running.new }
 {
-    match running.node.apply(&event.kind, Some(number)) {
-        Ok(applied) => told(
-            write_applied(alloc, applied, number.value().value(), None, text),
-            Turn::Taken,
-        ),
-        Err(ApplyFault::Core(fault)) => told(
+    let applied = match running.node.apply(&event.kind, Some(number)) {
+        Ok(applied) => applied,
+        Err(fault) => return tell_fault(fault, number, text),
+    };
+    tell_applied(alloc, applied, number, text)
+}
+
+/// Writes why an event was not done, where the node refuses it.
+fn tell_fault(fault: ApplyFault, number: LineNumber, text: &mut String) -> Answered
+    ensures { IsFaultTold number fault (string_bytes text.old) (string_bytes text.new) result }
+{
+    match fault {
+        ApplyFault::Store(fault) => Answered::Declined(fault),
+        ApplyFault::Core(fault) => told(
             write_refused(number.value().value(), None, fault, text),
             Turn::Refused,
         ),
-        Err(ApplyFault::Store(fault)) => Answered::Declined(fault),
-        Err(ApplyFault::Memory) => Answered::Starved,
+        ApplyFault::Memory => Answered::Starved,
     }
+}
+
+/// Writes what came of an event that was not refused.
+fn tell_applied(alloc: Global, applied: Applied, number: LineNumber, text: &mut String) -> Answered
+    ensures { IsToldAs Taken (applied_lines number None applied) (string_bytes text.old) (string_bytes text.new) result }
+{
+    told(
+        write_applied(alloc, applied, number.value().value(), None, text),
+        Turn::Taken,
+    )
 }
 
 /// Writes the packets that a node sent for an event, and then that it did it, by whether rows were changed.

@@ -1,6 +1,6 @@
 //! What comes of a line of several events, which are carried out one after another and committed together.
 
-ghost use Rattle.std.specs.Prelude.{◌≡◌, ◌≢◌, ◌<◌, ◌+◌, ◌≤◌, ◌++◌, List, IfOk, Ok, Option, Some, false, length, slice_get, string_bytes, string_capacity, string_len, ℕ};
+ghost use Rattle.std.specs.Prelude.{◌≡◌, ◌≢◌, ◌<◌, ◌+◌, ◌≤◌, ◌++◌, List, [], IfOk, Ok, Option, Some, false, length, slice_get, string_bytes, string_capacity, string_len, ℕ};
 ghost use Rattle.json_text.specs.Fault.{Read};
 ghost use Rattle.stored_nodes.specs.Keepers.{keeper_of};
 ghost use Rattle.node_lines.specs.NodeLines.{node_line_in};

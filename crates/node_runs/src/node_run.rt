@@ -22,11 +22,11 @@ ghost use Rattle.node_runs.specs.Stages.{GoesOnWith, IsOpenedWith, stopped_stage
 ghost use Rattle.node_runs.specs.Stops.{IfRun, IfStop};
 
 use crate::beginning::{Begun, Running, Unbegun, begin};
-use crate::behind_setup::{add_written, answer_behind_setup, tell_written};
+use crate::behind_setup::{add_written, answer_behind_setup, is_starved, tell_written};
 use crate::done_lines::{write_known, write_malformed, write_opened, write_refused};
 use crate::fault::{NodeRunFault, NodeStop};
 use crate::list_lines::After;
-use crate::setup_line::{NumberedSetup, read_numbered_setup};
+use crate::setup_line::read_numbered_setup;
 use line_runs::{
     AnswerNumbered, LineReader, Ran, RunFault, Turn, flush, run_numbered, write_whole,
 };
@@ -35,6 +35,7 @@ use node_steps::NodeFault;
 use node_store::{Keep, LineNumber};
 use ocpi_json::{JsonFault, Scratch};
 use ocpi_text::{Party, Whole};
+use ocpi_types::Setup;
 use std::alloc::{AllocError, Global};
 use std::io::{BufRead, Write};
 use std::marker::Model;
@@ -187,7 +188,7 @@ impl<K: Keep + Drop, S: Keeps<Kept = K>> Program<K, S> {
     {
         self.text.clear();
         match read_numbered_setup(self.alloc, &mut self.scratch, line) {
-            Ok(numbered) => self.begin_node(numbered, output),
+            Ok((setup, base)) => self.begin_node(setup, base, output),
             Err(fault) => self.refuse_setup(fault, output),
         }
     }
@@ -198,7 +199,7 @@ impl<K: Keep + Drop, S: Keeps<Kept = K>> Program<K, S> {
         ensures { (line : List ℕ) → FailsToRead fault (numbered_setup_in line) → (out : List ℕ) × (string_bytes output.new ≡ string_bytes output.old ++ out)
             × SetupTurn (keeper_of K.content K.is_honest K.refusals K.may_leave) (source_of S.may_refuse S.found) self.old line result out self.new }
     {
-        if matches!(fault, JsonFault::Memory) {
+        if is_starved(fault) {
             return self.starve();
         }
         self.text.clear();
@@ -219,12 +220,11 @@ impl<K: Keep + Drop, S: Keeps<Kept = K>> Program<K, S> {
     }
 
     /// Opens the node of a setup, and says so.
-    fn begin_node(&mut self, numbered: NumberedSetup, output: &mut String) -> Turn
+    fn begin_node(&mut self, setup: Setup, base: Option<Whole>, output: &mut String) -> Turn
         requires { self.old.running ≡ None }
-        ensures { (line : List ℕ) → numbered_setup_in line ≡ Ok (numbered.setup, numbered.base) → (out : List ℕ) × (string_bytes output.new ≡ string_bytes output.old ++ out)
+        ensures { (line : List ℕ) → numbered_setup_in line ≡ Ok (setup, base) → (out : List ℕ) × (string_bytes output.new ≡ string_bytes output.old ++ out)
             × SetupTurn (keeper_of K.content K.is_honest K.refusals K.may_leave) (source_of S.may_refuse S.found) self.old line result out self.new }
     {
-        let NumberedSetup { setup, base } = numbered;
         match begin(self.alloc, self.seed, &mut self.keeps, &self.wanted, setup) {
             Ok(begun) => self.take_begun(begun, base, output),
             Err(unbegun) => {

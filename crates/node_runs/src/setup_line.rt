@@ -15,13 +15,6 @@ use std::alloc::Global;
 /// The greatest number from which lines may be counted on.
 const MAX_BASE: u64 = 900_000_000_000_000_000;
 
-/// A setup, and the number from which the lines behind it are counted on, where its line tells one.
-#[derive(Drop)]
-pub struct NumberedSetup {
-    pub setup: Setup,
-    pub base: Option<Whole>,
-}
-
 /// A number from which lines may be counted on.
 fn as_base(number: Whole) -> Result<Option<Whole>, JsonFault>
     ensures { result ≡ as_base (Some number) }
@@ -67,7 +60,7 @@ pub fn read_numbered_setup(
     alloc: Global,
     scratch: &mut Scratch,
     line: &[u8],
-) -> Result<NumberedSetup, JsonFault>
+) -> Result<(Setup, Option<Whole>), JsonFault>
     ensures { Gives result (numbered_setup_in line.now) }
 {
     let setup = match read_setup(alloc, scratch, line) {
@@ -75,7 +68,7 @@ pub fn read_numbered_setup(
         Err(fault) => return Err(fault),
     };
     match base_in(alloc, scratch, line) {
-        Ok(base) => Ok(NumberedSetup { setup, base }),
+        Ok(base) => Ok((setup, base)),
         Err(fault) => {
             drop(setup);
             Err(fault)

@@ -73,7 +73,7 @@ pub no_rows : AreRows empty
 no_rows p t other found = absurd (let none : get {X = List ℕ} {R = text_pair_cmp} empty p ≡ None = get-empty text_pair_cmp p in cc)
 
 marked_rows : (c : Content) (m : Option ℕ) → AreRows c → AreRows (marked m c)
-marked_rows c None h = h
+marked_rows c None h p t other found = h p t other found
 marked_rows c (Some n) h p t other found = h p t other (sym (get_set_other c line_place (Some (line_text n)) p other) ∙ found)
 
 marked_number : (c : Content) (xs : List Change) (m : Option ℕ) → IfSome m IsLineNumber → IsSome (line_of c) → IsSome (line_of (marked m (changed_all c xs)))

@@ -1,10 +1,10 @@
 -- The edits of a store of layout 1 move its texts to layout 2.
-use Rattle.std.proofs.Common.{◌≡◌, ◌≢◌, ◌⊎◌, inl, inr, ℕ, ◌+◌, ◌<◌, Bool, true, false, cond, List, [], ◌∷◌, ◌++◌, get_or, length, take, All, IfErr, Option, Some, None, Result, Ok, Err, refl, sym, ap, subst, ◌∙◌}
+use Rattle.std.proofs.Common.{◌≡◌, ◌≢◌, ◌⊎◌, inl, inr, ℕ, ◌+◌, ◌<◌, Bool, true, false, cond, List, [], ◌∷◌, ◌++◌, get_or, length, take, All, IfErr, OnOk, Option, Some, None, Result, Ok, Err, refl, sym, ap, subst, ◌∙◌}
 use Rattle.std.specs.Prelude.{flat_map}
 use Rattle.std.specs.FinMap.{entries, find, get, get-entries, get-insert}
 use Rattle.std.specs.Ordering.{eq_by_cmp}
 use Rattle.std.specs.Cmp.{eq_by_cmp_equiv}
-use Rattle.std.proofs.lemmas.List.{take_more}
+use Rattle.std.proofs.lemmas.List.{append-nil, take_more}
 use Rattle.std.proofs.lemmas.Grind.{flat_map-append}
 use Rattle.std.proofs.lemmas.List.Elements.{All-head, All-tail, Contains-get_or}
 use Rattle.tables.specs.Keys.{text_pair_cmp, text_pair_total, text_pair_exact}
@@ -19,13 +19,14 @@ use Rattle.row_table.specs.Contents as table
 use Rattle.row_table.specs.Effects.{Edit, set, set_all}
 use Rattle.node_store.specs.Contents.{AnswersRow, Content, RowPlace, after_row, is_row, line_place, place_of}
 use Rattle.node_store.specs.Moved.{HasBadText, IsMoved, IsMovedTo, MovesTo, is_cdr, moved_text}
-use Rattle.node_store.specs.Moving.{Entry, HasBadEntry, IsMovable, MayMove, edits_of_read, text_edits}
+use Rattle.node_store.specs.Moving.{Entry, HasBadEntry, IsBadEntry, IsMovable, MayMove, edits_of_read, text_edits}
+use Rattle.node_store.specs.Numbers.{is_line_place}
 use Rattle.node_store.specs.declared.fault.StoreFault.{StoreFault}
 use Rattle.node_store.specs.declared.fault.StoreFault.TheVariants.{Refused, BadRow, OldLayout, Memory}
 use Rattle.ocpi_json.proofs.RowLemmas.{row_found_1}
 use Rattle.node_store.proofs.Alike.{row_alike}
 use Rattle.node_store.proofs.Edited.{set_more}
-use Rattle.node_store.proofs.Numbered.{no_row_place, one_place, same_place}
+use Rattle.node_store.proofs.Numbered.{at_line, no_row_place, not_line, one_place, same_place}
 
 -- ---- one text
 
@@ -158,6 +159,26 @@ no_edits e at = by_read (row_in_1 e.0.0 e.0.1 e.1) refl
     by_read : (read : Read Row) → row_in_1 e.0.0 e.0.1 e.1 ≡ read → edits_of_read e.0 read ≡ []
     by_read (Ok r) was = absurd (let h = row_found_1 e.0.0 e.0.1 e.1 r was in no_row_place (key_of r) ((λ i. (h.kind i, h.key_is i)) ∙ at))
     by_read (Err fault) was = refl
+
+-- what stands at the place of the number is passed over
+module _ (e : Entry) (kind name : List ℕ) (k : kind ≡ e.0.0) (n : name ≡ e.0.1) where
+  place_is : (kind, name) ≡ e.0
+  place_is i = (k i, n i)
+
+  pub passed : is_line_place (kind, name) ≡ true → MayMove e
+  passed is other = absurd (other (sym place_is ∙ at_line (kind, name) is))
+
+  pub passed_edits : (front : List Edit) → is_line_place (kind, name) ≡ true → front ≡ front ++ text_edits e
+  passed_edits front is = sym (append-nil front) ∙ ap (λ (l : List Edit). front ++ l) (sym (no_edits e (sym place_is ∙ at_line (kind, name) is)))
+
+pub may_move : {X E : Type 0} (r : Result X E) (e : Entry) → OnOk r (IsMovable e) → OnOk r (MayMove e)
+may_move (Ok x) e movable = λ other. movable
+may_move (Err f) e movable = tt
+
+pub is_bad : {X : Type 0} (r : Result X StoreFault) (e : Entry) (kind name : List ℕ) → kind ≡ e.0.0 → name ≡ e.0.1 → is_line_place (kind, name) ≡ false
+    → IfErr r (λ f. f ≡ BadRow → is_row (row_in_1 e.0.0 e.0.1 e.1) ≡ false) → IfErr r (λ f. f ≡ BadRow → IsBadEntry e)
+is_bad (Ok x) e kind name k n is told = tt
+is_bad (Err f) e kind name k n is told = λ bad. (λ at. not_line (kind, name) is ((λ i. (k i, n i)) ∙ at), told bad)
 
 -- the number stays
 line_kept : (es : List Entry) (d : Content) → get (set_all d (flat_map text_edits es)) line_place ≡ get d line_place

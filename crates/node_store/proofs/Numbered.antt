@@ -1,5 +1,5 @@
 -- The number of the last line that took hold stands at a place of its own.
-use Rattle.std.proofs.Common.{◌≡◌, ◌≢◌, ℕ, ◌≤◌, Bool, true, false, cond, ◌&&◌, T, List, [], ◌∷◌, Option, Some, None, Ok, Err, inl, inr, refl, sym, ap, subst, ◌∙◌, arith}
+use Rattle.std.proofs.Common.{◌≡◌, ◌≢◌, ℕ, ◌+◌, ◌<◌, ◌≤◌, Bool, true, false, cond, ◌&&◌, T, List, [], ◌∷◌, drop, get_or, length, Option, Some, None, Ok, Err, inl, inr, refl, sym, ap, subst, ◌∙◌, arith}
 use Rattle.std.specs.Prelude.{codes, nat_le, if◌then◌else◌}
 use Rattle.std.specs.FinMap.{empty, entries, entries_sorted, entries-from_sorted, find, from_sorted, get, get-empty, get-entries, get-from_sorted, get-insert, get-remove, insert, is_sorted, remove, same_map}
 use Rattle.std.specs.FinMap.Entries.{below_all}
@@ -7,6 +7,7 @@ use Rattle.std.specs.Ordering.{eq_by_cmp, is_lt}
 use Rattle.std.specs.Cmp.{eq_by_cmp_equiv}
 use Rattle.std.specs.Str.{bytes_eq}
 use Rattle.std.proofs.lemmas.Bool.{and_parts, le-leb, leb-true}
+use Rattle.std.proofs.lemmas.List.{drop_more}
 use Rattle.std.proofs.lemmas.Option.{same_Some}
 use Rattle.std.proofs.lemmas.Slice.Eq.{bytes_eq-Decides}
 use Rattle.tables.specs.Keys.{text_pair_cmp, text_pair_total, text_pair_exact}
@@ -255,3 +256,29 @@ entries_without c =
     get-remove text_pair_total c line_place q ∙ ap (λ (b : Bool). cond b None (get c q)) (line_test q) ∙ ap (cond (is_line_place q) None) (get-entries c q)
     ∙ sym (find_others q (entries c)) ∙ sym (get-from_sorted text_pair_cmp es q sorted)))
     ∙ entries-from_sorted text_pair_cmp es sorted
+
+-- what is read of entries is what is kept
+pub loaded_rows : (c : Content) (es : List Entry) → entries c ≡ es → rows_of c ≡ rows_after [] (others es)
+loaded_rows c es same = ap (rows_after []) (entries_without c ∙ ap others same)
+
+pub loaded_line : (c : Content) (es : List Entry) → entries c ≡ es → line_of c ≡ number_kept (find text_pair_cmp line_place es)
+loaded_line c es same = ap number_kept (get-entries c line_place ∙ ap (find text_pair_cmp line_place) same)
+
+-- the text at the place of the number is found among texts in turn
+module _ (es : List Entry) (i : ℕ) (e : Entry) (kind name : List ℕ) (within : i < length es) (is : e ≡ get_or es i e) (k : kind ≡ e.0.0) (n : name ≡ e.0.1)
+    (so_far : find text_pair_cmp line_place (drop i es) ≡ find text_pair_cmp line_place es) where
+  looked : find text_pair_cmp line_place es ≡ cond (eq_by_cmp text_pair_cmp line_place e.0) (Some e.1) (find text_pair_cmp line_place (drop (i + 1) es))
+  looked = sym so_far ∙ ap (find text_pair_cmp line_place) (drop_more es i e within ∙ ap (λ (d : Entry). d ∷ drop (i + 1) es) (sym is))
+
+  place_is : (kind, name) ≡ e.0
+  place_is j = (k j, n j)
+
+  pub number_found : is_line_place (kind, name) ≡ true → find text_pair_cmp line_place es ≡ Some e.1
+  number_found here =
+      let at : e.0 ≡ line_place = sym place_is ∙ at_line (kind, name) here in
+      looked ∙ ap (λ (b : Bool). cond b (Some e.1) (find text_pair_cmp line_place (drop (i + 1) es))) (ap (eq_by_cmp text_pair_cmp line_place) at ∙ same_place line_place)
+
+  pub number_later : is_line_place (kind, name) ≡ false → find text_pair_cmp line_place (drop (i + 1) es) ≡ find text_pair_cmp line_place es
+  number_later other =
+      let apart : eq_by_cmp text_pair_cmp line_place e.0 ≡ false = untied line_place e.0 (λ at. not_line (kind, name) other (place_is ∙ sym at)) in
+      sym (looked ∙ ap (λ (b : Bool). cond b (Some e.1) (find text_pair_cmp line_place (drop (i + 1) es))) apart)

@@ -1,9 +1,10 @@
 //! A keeper in memory.
 
 ghost use Rattle.std.specs.Prelude.{◌≡◌, ◌≢◌, ◌⊎◌, All, List, ℕ, [], IfErr, IfOk, IfSome, OnErr, OnOk, IsSome, None, Some};
-ghost use Rattle.std.specs.FinMap.{empty};
+ghost use Rattle.std.specs.FinMap.{empty, entries};
 ghost use Rattle.node_store.specs.Contents.{AnswersNumber, Content, IsLineNumber, IsReadAgain, changed_all, line_of, marked, rows_after, rows_of};
 ghost use Rattle.node_store.specs.Faults.{IsListFault, IsCommitFault, counted};
+ghost use Rattle.node_store.specs.Numbers.{others};
 ghost use Rattle.node_store.specs.Placing.{kept, placed_of, set_text};
 ghost use Rattle.node_store.specs.declared.fault.StoreFault.TheVariants.{BadRow};
 
@@ -64,9 +65,10 @@ impl ListKeep {
     }
 }
 
-fn rows_of(alloc: Global, stored: &Table<Place, StoredRow>) -> Result<Vec<Row>, StoreFault>
-    ensures rows { IfOk result (λ v. rows_of (kept stored.now) ≡ Some v.items) }
-    ensures bad { IfErr result (λ e. e ≡ BadRow → rows_of (kept stored.now) ≡ None) }
+/// The rows that are listed, but that at the place of the number.
+fn listed_rows(alloc: Global, stored: &Table<Place, StoredRow>) -> Result<Vec<Row>, StoreFault>
+    ensures rows { IfOk result (λ v. rows_after [] (others (entries (kept stored.now))) ≡ Some v.items) }
+    ensures bad { IfErr result (λ e. e ≡ BadRow → rows_after [] (others (entries (kept stored.now))) ≡ None) }
     ensures fault { IfErr result IsListFault }
 {
     let mut scratch = Scratch::new(alloc);
@@ -86,6 +88,14 @@ fn rows_of(alloc: Global, stored: &Table<Place, StoredRow>) -> Result<Vec<Row>, 
         rows.push(row)?;
     }
     Ok(rows)
+}
+
+fn rows_of(alloc: Global, stored: &Table<Place, StoredRow>) -> Result<Vec<Row>, StoreFault>
+    ensures rows { IfOk result (λ v. rows_of (kept stored.now) ≡ Some v.items) }
+    ensures bad { IfErr result (λ e. e ≡ BadRow → rows_of (kept stored.now) ≡ None) }
+    ensures fault { IfErr result IsListFault }
+{
+    listed_rows(alloc, stored)
 }
 
 /// The number of the last line that took hold.

@@ -9,9 +9,10 @@ ghost use Rattle.ocpi_types.specs.Rows.{key_of};
 ghost use Rattle.row_table.specs.Contents.{IsWhole, content_of};
 ghost use Rattle.row_table.specs.Kept.{IsClean, Leaves, LeavesWhole, content, texts};
 ghost use Rattle.row_table.specs.Opening.{ShowsTheSame};
+ghost use Rattle.node_store.specs.Contents.{is_row};
 ghost use Rattle.node_store.specs.Faults.{IsListFault};
 ghost use Rattle.node_store.specs.Moved.{HasBadText, IsMovedTo, is_cdr};
-ghost use Rattle.node_store.specs.Moving.{HasBadEntry, IsBadEntry, MayMove, edits_of_read, text_edits};
+ghost use Rattle.node_store.specs.Moving.{HasBadEntry, IsBadEntry, IsMovable, MayMove, edits_of_read, text_edits};
 
 use crate::fault::StoreFault;
 use crate::line_number::is_line_place;
@@ -55,7 +56,30 @@ fn add_edit(
     Ok(())
 }
 
-/// Reads one text, and adds the edit that it takes, if any. What stands at the place of the number is passed over.
+/// Reads the text of a row, and adds the edit that it takes, if any.
+fn add_edit_of_row(
+    alloc: Global,
+    scratch: &mut Scratch,
+    text: &TextRow,
+    edits: &mut Vec<TextEdit>,
+) -> Result<(), StoreFault>
+    ensures edits { OnOk result (edits.new.items ≡ edits.old.items ++ text_edits text.now) }
+    ensures movable { OnOk result (IsMovable text.now) }
+    ensures bad { IfErr result (λ e. e ≡ StoreFault.BadRow → is_row (row_in_1 text.now.0.0 text.now.0.1 text.now.1) ≡ false) }
+    ensures fault { IfErr result IsListFault }
+{
+    let row = row_of_1(
+        alloc,
+        scratch,
+        text.kind(),
+        text.name(),
+        text.text().as_bytes(),
+    )?;
+    add_edit(alloc, text, &row, edits)?;
+    Ok(())
+}
+
+/// Adds the edit that a text takes, if any. What stands at the place of the number is no row, and is passed over.
 fn add_edit_of(
     alloc: Global,
     scratch: &mut Scratch,
@@ -68,17 +92,10 @@ fn add_edit_of(
     ensures fault { IfErr result IsListFault }
 {
     if is_line_place(text.kind(), text.name()) {
-        return Ok(());
+        Ok(())
+    } else {
+        add_edit_of_row(alloc, scratch, text, edits)
     }
-    let row = row_of_1(
-        alloc,
-        scratch,
-        text.kind(),
-        text.name(),
-        text.text().as_bytes(),
-    )?;
-    add_edit(alloc, text, &row, edits)?;
-    Ok(())
 }
 
 /// The edits that texts of layout 1 take: a charge detail record is written anew, and all others stay.

@@ -86,7 +86,7 @@ fn place_of(alloc: Global, key: &RowKey) -> Result<Place, AllocError>
 }
 
 /// Where the number of the last line that took hold is kept.
-#[tactic(auto, using(crate::proofs::Places::kind_fits, crate::proofs::Places::line_fits))]
+#[tactic(auto, using(crate::proofs::Places::count_fits, crate::proofs::Places::line_fits))]
 pub(crate) fn line_place() -> Place
     ensures { result ≡ line_place }
 {

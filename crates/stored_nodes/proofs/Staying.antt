@@ -8,7 +8,7 @@ use Rattle.ocpi_types.specs.declared.setup.Node.{Node}
 use Rattle.ocpi_types.specs.declared.setup.Node.TheVariants as node
 use Rattle.node_core.specs.Members.{IsMadeOfRows}
 use Rattle.node_store.specs.Contents.{Content, IsReadAgain, changed_all, line_of, marked, rows_of}
-use Rattle.node_store.proofs.Numbers.{numbers_are_no_rows}
+use Rattle.node_store.proofs.Numbered.{numbers_are_no_rows}
 use Rattle.node_rows.specs.Holds.{HoldsRows, StoresAlike}
 use Rattle.node_rows.specs.Laws.{AreClasses, ChangesAreHeld, RestartsAreHeld}
 use Rattle.node_rows.proofs.Telling.{empty_is_held}
@@ -28,7 +28,7 @@ marked_holds line c n (rows, are, of_node) = (rows, numbers_are_no_rows.rows c l
 
 numbered_by : (line : Option ℕ) (c : Content) → IsLine line → IsSome (line_of c) → IsSome (line_of (marked line c))
 numbered_by None c is some = some
-numbered_by (Some n) c is some = subst IsSome (sym (numbers_are_no_rows.is c n is.0 is.1)) tt
+numbered_by (Some n) c is some = subst IsSome (sym (numbers_are_no_rows.is c n is.0 is.1)) refl
 
 -- what changes make of a content with a number has one too, with that of their line or without
 pub numbered_behind : (line : Option ℕ) (c : Content) (changes : List Change) → IsLine line → IsSome (line_of c) → IsSome (line_of (marked line (changed_all c changes)))
@@ -125,7 +125,7 @@ module _ {K : Type 0} (keeper : Keeper K) where
       begins n k (subst CanStartAgain (sym is) (openings_can_start_again setup is_setup member among))
       (λ honest. subst (λ (m : NodeState). HoldsRows (keeper.content k) m) (sym is)
       (subst (λ (c : Content). HoldsRows c (opening_of setup member)) (sym (nothing honest)) (empty_is_held.openings setup member)))
-      (λ honest. subst (λ (c : Content). IsSome (line_of c)) (sym (nothing honest)) (subst IsSome (sym numbers_are_no_rows.first) tt))
+      (λ honest. subst (λ (c : Content). IsSome (line_of c)) (sym (nothing honest)) (subst IsSome (sym numbers_are_no_rows.first) refl))
       settled
 
 made_whole : (setup : List Node) (m : Node) (rows : List Row) (n : NodeState) → IsMadeOfRows setup m rows n → IsWhole n
@@ -147,5 +147,5 @@ pub reopens : {K : Type 0} (keeper : Keeper K) (setup : List Node) (m : Node) (r
 reopens keeper setup m rows line n before after sound made settled read told kept earlier stops =
     begins keeper n after (record { sound = sound; whole = made_whole setup m rows n made })
     (λ honest. (rows, ap rows_of (kept honest) ∙ read honest, made_rows setup m rows n made))
-    (λ honest. subst IsSome (sym (ap line_of (kept honest) ∙ told honest)) tt)
+    (λ honest. subst IsSome (sym (ap line_of (kept honest) ∙ told honest)) refl)
     (λ honest c may. settled (earlier honest) c (stops honest c may) ∙ sym (kept honest))

@@ -1,9 +1,8 @@
 -- What is said of a keeper of any type: what it keeps, which is said where it is honest; how many calls it has refused;
 -- and what is kept where a stop comes.
-use Rattle.std.specs.Prelude.{◌≡◌, ◌≢◌, ◌≤◌, ◌⊎◌, ℕ, List, [], Option, None, Some, All}
-use Rattle.ocpi_text.specs.Whole.{max_whole}
+use Rattle.std.specs.Prelude.{◌≡◌, ◌≢◌, ◌⊎◌, ℕ, List, [], Option, IfSome, All}
 use Rattle.ocpi_types.specs.declared.rows.Change.{Change}
-use Rattle.node_store.specs.Contents.{Content, IsReadAgain, changed_all, marked}
+use Rattle.node_store.specs.Contents.{Content, IsLineNumber, IsReadAgain, changed_all, marked}
 
 pub record Keeper (K : Type 0) : Type 1 where
   pub content : K → Content
@@ -27,8 +26,7 @@ pub record KeepsOn {K : Type 0} (keeper : Keeper K) (before after : K) : Type 0 
 
 -- the number of a line that can take hold, where one is told
 abbrev pub IsLine : Option ℕ → Type 0
-IsLine None = Unit {0}
-IsLine (Some n) = (2 ≤ n) × (n ≤ max_whole)
+IsLine line = IfSome line IsLineNumber
 
 -- It took these changes, which can be read again, with the number of their line, where one is told; and a stop leaves
 -- just them.

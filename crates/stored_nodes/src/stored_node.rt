@@ -112,8 +112,8 @@ pub struct Unopened<K> {
 }
 
 /// What holds of the number of a line, which its type keeps. It does nothing.
-fn is_line(line: Option<LineNumber>)
-    ensures { IsLine line }
+fn is_line(line: &Option<LineNumber>)
+    ensures { IsLine line.now }
 {
     if let Some(number) = line {
         let _number = number.value();
@@ -135,7 +135,7 @@ pub(crate) fn commit<K: Keep>(
     if changes.is_empty() {
         return Ok(false);
     }
-    is_line(line);
+    is_line(&line);
     match keep.commit(changes, line) {
         Ok(()) => Ok(true),
         Err(fault) => Err(fault),
