@@ -51,4 +51,4 @@ pub use done_lines::{
 pub use event_lines::write_step;
 pub use fault::{NodeRunFault, NodeStop, UNKNOWN_PARTY, status_after_node};
 pub use node_run::run_node;
-pub use setup_line::{NumberedSetup, read_numbered_setup};
+pub use setup_line::read_numbered_setup;

@@ -12,7 +12,7 @@ use crate::history::{Fits, History};
 use crate::opening::{Opened, Piece, Tried, try_member};
 use crate::transcript::{Opening, Transcript};
 use node_core::nodes_of;
-use node_runs::{NumberedSetup, read_numbered_setup, write_malformed};
+use node_runs::{read_numbered_setup, write_malformed};
 use ocpi_json::{JsonFault, Scratch};
 use ocpi_text::{Party, Whole};
 use ocpi_types::Setup;
@@ -98,9 +98,9 @@ impl<'a, 'b> Reading<'a, 'b> {
             bytes: first,
         };
         match read_numbered_setup(self.alloc, scratch, first) {
-            Ok(numbered) => {
+            Ok((setup, base)) => {
                 let behind = behind_setup(line, rest, run.is_ended);
-                self.take_setup(scratch, numbered, behind, words)
+                self.take_setup(scratch, setup, base, behind, words)
             }
             Err(JsonFault::Memory) => Err(ReplayFault::Memory),
             Err(fault) => self.take_malformed(fault, line, rest, words),
@@ -135,11 +135,12 @@ impl<'a, 'b> Reading<'a, 'b> {
     fn take_setup(
         &mut self,
         scratch: &mut Scratch,
-        numbered: NumberedSetup,
+        setup: Setup,
+        base: Option<Whole>,
         behind: Behind<'a>,
         words: &mut String,
     ) -> Result<(), ReplayFault> {
-        match self.open(numbered, behind, words) {
+        match self.open(setup, base, behind, words) {
             Ok(Some(running)) => self.take_lines(scratch, running, behind, words),
             Ok(None) => Ok(()),
             Err(fault) => Err(fault),
@@ -162,11 +163,11 @@ impl<'a, 'b> Reading<'a, 'b> {
     /// Finds the node that was opened, if one was.
     fn open(
         &mut self,
-        numbered: NumberedSetup,
+        setup: Setup,
+        base: Option<Whole>,
         behind: Behind<'a>,
         words: &mut String,
     ) -> Result<Option<Running>, ReplayFault> {
-        let NumberedSetup { setup, base } = numbered;
         let mut parties = Vec::new(self.alloc);
         let mut fits = Fits {
             before: false,
