@@ -1,6 +1,8 @@
 //! How a run is opened, by what stands behind its setup line.
 
+use crate::cutting::{EchoedLine, split_feed};
 use crate::held::Held;
+use crate::history::Fits;
 use node_replay::NodeReplay;
 use node_runs::write_opened;
 use ocpi_text::{Party, Whole};
@@ -45,6 +47,61 @@ pub(crate) struct Opened {
     pub node: NodeReplay,
     /// The serial of the last packet that it had sent.
     pub serial: Whole,
+}
+
+/// What stands behind a setup line.
+#[derive(Clone, Copy)]
+pub(crate) struct Behind<'a> {
+    pub line: EchoedLine<'a>,
+    pub piece: Piece<'a>,
+    /// What stands behind the next line.
+    pub rest: &'a [u8],
+    /// Whether a line feed more may have stood at the end of the run.
+    pub is_ended: bool,
+}
+
+/// In which way the node was opened.
+#[derive(Drop)]
+pub(crate) struct Way {
+    pub opened: Opened,
+    /// The place of the node in the setup.
+    pub member: usize,
+    /// Whether the line in doubt had taken hold.
+    pub took_hold: bool,
+}
+
+/// In which ways it may have been.
+#[derive(Drop)]
+pub(crate) struct Found {
+    /// The parties of the nodes that fit a line which was cut.
+    pub parties: Vec<Party>,
+    pub fits: Fits,
+    /// Where the line is whole.
+    pub opened: Option<Way>,
+}
+
+/// What stands behind a setup line.
+pub(crate) fn behind_setup<'a>(line: EchoedLine<'a>, rest: &'a [u8], is_ended: bool) -> Behind<'a> {
+    match split_feed(rest) {
+        Some((bytes, rest)) => Behind {
+            line,
+            piece: Piece {
+                bytes,
+                is_closed: true,
+            },
+            rest,
+            is_ended,
+        },
+        None => Behind {
+            line,
+            piece: Piece {
+                bytes: rest,
+                is_closed: false,
+            },
+            rest: &[],
+            is_ended,
+        },
+    }
 }
 
 impl Piece<'_> {

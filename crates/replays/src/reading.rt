@@ -5,11 +5,11 @@ ghost use Rattle.replays.specs.Transcripts.{AccusesRightly, BlamesNoLineBefore, 
 
 use crate::answering::Running;
 use crate::cutting::{EchoedLine, RunText, Runs, feeds_in, split_feed};
-use crate::explaining::{tell_difference, tell_earlier, tell_older, told_opening};
+use crate::explaining::{ToldOpening, tell_difference, tell_earlier, tell_older, told_opening};
 use crate::fault::ReplayFault;
 use crate::held::Start;
 use crate::history::{Fits, History};
-use crate::opening::{Opened, Piece, Tried, try_member};
+use crate::opening::{Behind, Found, Opened, Piece, Tried, Way, behind_setup, try_member};
 use crate::transcript::{Opening, Transcript};
 use node_core::nodes_of;
 use node_runs::{read_numbered_setup, write_malformed};
@@ -33,15 +33,6 @@ struct Reading<'a, 'b> {
     history: History<'a>,
     /// Room for what the node prints.
     text: String,
-}
-
-/// What stands behind a setup line.
-#[derive(Clone, Copy)]
-struct Behind<'a> {
-    line: EchoedLine<'a>,
-    piece: Piece<'a>,
-    rest: &'a [u8],
-    is_ended: bool,
 }
 
 /// The text behind its first bytes.
@@ -160,7 +151,7 @@ impl<'a, 'b> Reading<'a, 'b> {
         }
     }
 
-    /// Finds the node that was opened, if one was.
+    /// Begins with the node that was opened, if one was.
     fn open(
         &mut self,
         setup: Setup,
@@ -168,46 +159,71 @@ impl<'a, 'b> Reading<'a, 'b> {
         behind: Behind<'a>,
         words: &mut String,
     ) -> Result<Option<Running>, ReplayFault> {
-        let mut parties = Vec::new(self.alloc);
-        let mut fits = Fits {
-            before: false,
-            behind: false,
+        let found = self.find_opened(&setup, behind.piece)?;
+        let Found {
+            parties,
+            fits,
+            opened,
+        } = found;
+        if let Some(way) = opened {
+            drop(parties);
+            let running = self.begin(setup, way, base, behind)?;
+            return Ok(Some(running));
+        }
+        if !fits.before && !fits.behind {
+            drop(parties);
+            return Err(self.explain_opening(&setup, behind, words));
+        }
+        self.parties = Some(parties);
+        self.history.settle(fits);
+        Ok(None)
+    }
+
+    /// Finds in which ways the node may have been opened.
+    fn find_opened(&mut self, setup: &Setup, piece: Piece<'a>) -> Result<Found, AllocError> {
+        let mut found = Found {
+            parties: Vec::new(self.alloc),
+            fits: Fits {
+                before: false,
+                behind: false,
+            },
+            opened: None,
         };
-        let mut opened = None;
         for member in 0..setup.as_slice().len() {
-            if !self.may_be(setup.as_slice()[member].party()) {
-                continue;
-            }
-            let party = *setup.as_slice()[member].party();
-            match self.try_over(&setup, member, behind.piece, false)? {
-                Tried::No => {}
-                Tried::May => {
-                    fits.before = true;
-                    parties.push(party)?;
-                }
-                Tried::Was(found) => opened = Some((found, member, false)),
-            }
-            match self.try_over(&setup, member, behind.piece, true)? {
-                Tried::No => {}
-                Tried::May => {
-                    fits.behind = true;
-                    parties.push(party)?;
-                }
-                Tried::Was(found) => opened = Some((found, member, true)),
+            if self.may_be(setup.as_slice()[member].party()) {
+                self.try_way(setup, member, piece, false, &mut found)?;
+                self.try_way(setup, member, piece, true, &mut found)?;
             }
         }
-        match opened {
-            Some((found, member, took_hold)) => {
-                let running = self.begin(setup, member, found, took_hold, base, behind)?;
-                Ok(Some(running))
+        Ok(found)
+    }
+
+    /// Tries one way: one member of a setup, over what the store has before or behind the line in doubt.
+    fn try_way(
+        &mut self,
+        setup: &Setup,
+        member: usize,
+        piece: Piece<'a>,
+        took_hold: bool,
+        found: &mut Found,
+    ) -> Result<(), AllocError> {
+        match self.try_over(setup, member, piece, took_hold)? {
+            Tried::No => Ok(()),
+            Tried::May => {
+                found.fits = Fits {
+                    before: found.fits.before || !took_hold,
+                    behind: found.fits.behind || took_hold,
+                };
+                found.parties.push(*setup.as_slice()[member].party())?;
+                Ok(())
             }
-            None => {
-                if !fits.before && !fits.behind {
-                    return Err(self.explain_opening(&setup, behind, words));
-                }
-                self.parties = Some(parties);
-                self.history.settle(fits);
-                Ok(None)
+            Tried::Was(opened) => {
+                found.opened = Some(Way {
+                    opened,
+                    member,
+                    took_hold,
+                });
+                Ok(())
             }
         }
     }
@@ -250,21 +266,22 @@ impl<'a, 'b> Reading<'a, 'b> {
     fn begin(
         &mut self,
         setup: Setup,
-        member: usize,
-        found: Opened,
-        took_hold: bool,
+        way: Way,
         base: Option<Whole>,
         behind: Behind<'a>,
     ) -> Result<Running, AllocError> {
+        let Way {
+            opened,
+            member,
+            took_hold,
+        } = way;
         self.history.settle(Fits {
             before: !took_hold,
             behind: took_hold,
         });
         let party = *setup.as_slice()[member].party();
-        let mut parties = Vec::new(self.alloc);
-        parties.push(party)?;
-        self.parties = Some(parties);
-        let Opened { node, serial } = found;
+        self.parties = Some(only(self.alloc, party)?);
+        let Opened { node, serial } = opened;
         let known = self.history.held().line;
         let opening = self.history.open(Opening {
             line: behind.line,
@@ -288,6 +305,18 @@ impl<'a, 'b> Reading<'a, 'b> {
         })
     }
 
+    /// What is told of the opening of a node that it may be, where it is told.
+    fn told_by(&self, setup: &Setup, piece: Piece<'a>) -> Result<Option<ToldOpening>, AllocError> {
+        for node in setup.as_slice() {
+            if self.may_be(node.party()) {
+                if let Some(told) = told_opening(self.alloc, piece, node.party())? {
+                    return Ok(Some(told));
+                }
+            }
+        }
+        Ok(None)
+    }
+
     /// Why no node was opened so.
     fn explain_opening(
         &self,
@@ -296,17 +325,10 @@ impl<'a, 'b> Reading<'a, 'b> {
         words: &mut String,
     ) -> ReplayFault {
         let line = behind.line.number;
-        let mut told = None;
-        for node in setup.as_slice() {
-            if !self.may_be(node.party()) {
-                continue;
-            }
-            match told_opening(self.alloc, behind.piece, node.party()) {
-                Ok(Some(found)) => told = Some(found),
-                Ok(None) => {}
-                Err(_) => return ReplayFault::Memory,
-            }
-        }
+        let told = match self.told_by(setup, behind.piece) {
+            Ok(told) => told,
+            Err(_) => return ReplayFault::Memory,
+        };
         if self.history.is_empty() {
             if told.is_some() && !self.is_given {
                 return ReplayFault::BegunLater(line);
@@ -397,6 +419,13 @@ impl<'a, 'b> Reading<'a, 'b> {
     }
 }
 
+/// A list of that party. An error is want of memory.
+fn only(alloc: Global, party: Party) -> Result<Vec<Party>, AllocError> {
+    let mut parties = Vec::new(alloc);
+    parties.push(party)?;
+    Ok(parties)
+}
+
 /// Whether a party is one of these.
 fn is_among(parties: &[Party], party: &Party) -> bool {
     for other in parties {
@@ -405,30 +434,6 @@ fn is_among(parties: &[Party], party: &Party) -> bool {
         }
     }
     false
-}
-
-/// What stands behind a setup line.
-fn behind_setup<'a>(line: EchoedLine<'a>, rest: &'a [u8], is_ended: bool) -> Behind<'a> {
-    match split_feed(rest) {
-        Some((bytes, rest)) => Behind {
-            line,
-            piece: Piece {
-                bytes,
-                is_closed: true,
-            },
-            rest,
-            is_ended,
-        },
-        None => Behind {
-            line,
-            piece: Piece {
-                bytes: rest,
-                is_closed: false,
-            },
-            rest: &[],
-            is_ended,
-        },
-    }
 }
 
 /// Reads what a node printed with an echo, run behind run, over one store, from where that had what `start` says. The
