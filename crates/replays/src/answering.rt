@@ -89,9 +89,9 @@ impl Running {
             line,
         };
         match read_node_line(self.alloc, scratch, line.bytes) {
-            Ok(NodeLine::One(event)) => self.answer_event(event, at, happened, text),
+            Ok(NodeLine::One(event)) => self.answer_event(event, &at, happened, text),
             Ok(NodeLine::Several(elements)) => {
-                let answered = self.answer_all(&elements, at, happened, text);
+                let answered = self.answer_all(&elements, &at, happened, text);
                 drop(elements);
                 answered
             }
@@ -104,7 +104,7 @@ impl Running {
     fn answer_all<'a>(
         &mut self,
         elements: &Elements<'_>,
-        at: At<'a>,
+        at: &At<'a>,
         happened: &mut Happened<'a>,
         text: &mut String,
     ) -> Result<(), AllocError> {
@@ -123,7 +123,7 @@ impl Running {
                 place: Some(place),
                 line,
             };
-            self.answer_element(elements, place, at, happened, text)?;
+            self.answer_element(elements, place, &at, happened, text)?;
         }
         write_all(at.number.value(), elements.len(), text)
     }
@@ -133,7 +133,7 @@ impl Running {
         &mut self,
         elements: &Elements<'_>,
         place: usize,
-        at: At<'a>,
+        at: &At<'a>,
         happened: &mut Happened<'a>,
         text: &mut String,
     ) -> Result<(), AllocError> {
@@ -150,7 +150,7 @@ impl Running {
     fn answer_event<'a>(
         &mut self,
         event: NodeEvent,
-        at: At<'a>,
+        at: &At<'a>,
         happened: &mut Happened<'a>,
         text: &mut String,
     ) -> Result<(), AllocError> {
@@ -173,7 +173,7 @@ impl Running {
     fn tell_step<'a>(
         &mut self,
         changed: bool,
-        at: At<'a>,
+        at: &At<'a>,
         happened: &mut Happened<'a>,
         text: &mut String,
     ) -> Result<(), AllocError> {

@@ -283,12 +283,13 @@ impl<'a, 'b> Reading<'a, 'b> {
         self.parties = Some(only(self.alloc, party)?);
         let Opened { node, serial } = opened;
         let known = self.history.held().line;
+        let rows = self.history.held().rows.len();
         let opening = self.history.open(Opening {
             line: behind.line,
             setup,
             member,
             told: behind.piece.bytes,
-            rows: self.history.held().rows.len(),
+            rows,
             serial,
         })?;
         Ok(Running {
