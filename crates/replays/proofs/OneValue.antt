@@ -64,7 +64,7 @@ module _ (party : List ℕ) (now : NodeState) (number : ℕ) (place : Option ℕ
         step = entries.EntryStep.Idle (record { why = inl unstored; sends = refl; same = refl });
         tells = ((λ changed. absurd (no_truth changed)), (λ x. absurd x));
       })
-      (taken, written, same, (λ changed. absurd (no_truth changed)), (λ some. absurd (some (none_changed did none))))
+      (taken, written, same, ((λ changed. absurd (no_truth changed)), (λ some. absurd (some (none_changed did none)))))
   comes turn out did next (answer.IsElsewhere x is other taken written none same) = Other x is other taken written same none
   comes turn out did next (answer.IsOfOtherRole x own stored nothing taken written none same) =
       Own x own PassedOver (record { taken = stored; nothing = nothing }) (taken, written, same, none)

@@ -17,19 +17,22 @@ use Rattle.replays.specs.Openings.{Opens, begun, opened_by, opening_of}
 -- What a node that runs prints from some line on, what of that is told, and what it may leave. A line of which nothing is
 -- printed but its echo, whole, may have taken hold nevertheless: a stop came then, memory ran out, or the commit was
 -- refused. One whose echo was cut was not carried out, and one of which more is printed was.
-pub data GoesOn (now : Running) : List ℕ → List Happening → Held → Type 0 where
+pub data GoesOn : Running → List ℕ → List Happening → Held → Type 0 where
   -- it was stopped between lines, or within an echo or behind one; or its input ended
-  Stopped : (line : List ℕ) → IsLine line → (front more : List ℕ) → echo_of line ≡ front ++ more → (left : Held) → IsLeftBy now left
+  Stopped : {now : Running} → (line : List ℕ) → IsLine line → (front more : List ℕ) → echo_of line ≡ front ++ more → (left : Held) → IsLeftBy now left
       → GoesOn now front [] left
   -- it was stopped behind an echo, and the line had taken hold
-  TookHold : (line : List ℕ) → IsLine line → (out : List ℕ) (entered : List Placed) (did : List Deed) (next : Running) → LineGives now line out entered did next → changes_of_each did ≢ []
+  TookHold : {now : Running} → (line : List ℕ) → IsLine line → (out : List ℕ) (entered : List Placed) (did : List Deed) (next : Running)
+      → LineGives now line out entered did next → changes_of_each did ≢ []
       → (left : Held) → IsLeftBy next left → GoesOn now (echo_of line) (came_by line entered) left
   -- it was stopped within what the line gives
-  Cut : (line : List ℕ) → IsLine line → (out : List ℕ) (entered : List Placed) (did : List Deed) (next : Running) → LineGives now line out entered did next
-      → (front more : List ℕ) → out ≡ front ++ more → 0 < length front → (left : Held) → IsLeftBy next left → GoesOn now (echo_of line ++ front) (came_by line entered) left
+  Cut : {now : Running} → (line : List ℕ) → IsLine line → (out : List ℕ) (entered : List Placed) (did : List Deed) (next : Running)
+      → LineGives now line out entered did next → (front more : List ℕ) → out ≡ front ++ more → 0 < length front
+      → (left : Held) → IsLeftBy next left → GoesOn now (echo_of line ++ front) (came_by line entered) left
   -- it went on
-  Whole : (line : List ℕ) → IsLine line → (out : List ℕ) (entered : List Placed) (did : List Deed) (next : Running) → LineGives now line out entered did next
-      → (text : List ℕ) (told : List Happening) (left : Held) → GoesOn next text told left → GoesOn now (echo_of line ++ (out ++ text)) (came_by line entered ++ told) left
+  Whole : {now : Running} → (line : List ℕ) → IsLine line → (out : List ℕ) (entered : List Placed) (did : List Deed) (next : Running)
+      → LineGives now line out entered did next → (text : List ℕ) (told : List Happening) (left : Held) → GoesOn next text told left
+      → GoesOn now (echo_of line ++ (out ++ text)) (came_by line entered ++ told) left
 
 -- ---- a run
 

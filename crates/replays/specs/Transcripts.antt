@@ -1,5 +1,5 @@
 -- What a transcript has, and what it is a transcript of.
-use Rattle.std.specs.Prelude.{◌≡◌, ◌≢◌, ◌<◌, ℕ, suc, List, [], ◌∷◌, ◌++◌, Option, None, Some, Contains, length, slice_get, cond, ◌==◌}
+use Rattle.std.specs.Prelude.{◌≡◌, ◌≢◌, ◌<◌, ℕ, zero, suc, List, [], ◌∷◌, ◌++◌, Option, None, Some, Contains, length, slice_get, cond, ◌==◌}
 use Rattle.histories.specs.declared.entry.Entry.{Entry}
 use Rattle.ocpi_text.specs.Text.{key}
 use Rattle.ocpi_types.specs.declared.setup.Node.{Node}
@@ -81,7 +81,7 @@ AreRunsOf (o ∷ os) (x ∷ xs) = IsRunOf o x × AreRunsOf os xs
 abbrev pub AreSourcesOf : ℕ → List Happening → List Source → Type 0
 AreSourcesOf before [] [] = Unit {0}
 AreSourcesOf before [] (x ∷ xs) = ⊥
-AreSourcesOf 0 (Opened o ∷ hs) xs = AreSourcesOf 1 hs xs
+AreSourcesOf zero (Opened o ∷ hs) xs = AreSourcesOf 1 hs xs
 AreSourcesOf (suc n) (Opened o ∷ hs) [] = ⊥
 AreSourcesOf (suc n) (Opened o ∷ hs) (Echoed at line ∷ xs) = ⊥
 AreSourcesOf (suc n) (Opened o ∷ hs) (Restarted at ∷ xs) = (at ≡ suc n) × AreSourcesOf (suc (suc n)) hs xs
@@ -126,7 +126,7 @@ line_of fault.Memory = 0
 
 -- what stands in front of so many line feeds, and they
 unfoldable pub lines_front : ℕ → List ℕ → List ℕ
-lines_front 0 text = []
+lines_front zero text = []
 lines_front (suc n) [] = []
 lines_front (suc n) (c ∷ text) = c ∷ cond (c == 10) (lines_front n text) (lines_front (suc n) text)
 

@@ -38,14 +38,6 @@ pub(crate) struct Happened<'a> {
     pub sources: Vec<Source<'a>>,
 }
 
-/// Where an event stands: in a line of that number, at that place of it where the line is an array.
-#[derive(Clone, Copy)]
-struct At<'a> {
-    number: Whole,
-    place: Option<usize>,
-    line: EchoedLine<'a>,
-}
-
 /// The packets of the last entry.
 fn last_packets(entries: &[Entry]) -> &[Packet] {
     match entries.last() {
@@ -83,15 +75,12 @@ impl Running {
         happened: &mut Happened<'a>,
         text: &mut String,
     ) -> Result<(), AllocError> {
-        let at = At {
-            number,
-            place: None,
-            line,
-        };
         match read_node_line(self.alloc, scratch, line.bytes) {
-            Ok(NodeLine::One(event)) => self.answer_event(event, &at, happened, text),
+            Ok(NodeLine::One(event)) => {
+                self.answer_event(event, number, None, line, happened, text)
+            }
             Ok(NodeLine::Several(elements)) => {
-                let answered = self.answer_all(&elements, &at, happened, text);
+                let answered = self.answer_all(&elements, number, line, happened, text);
                 drop(elements);
                 answered
             }
@@ -104,28 +93,20 @@ impl Running {
     fn answer_all<'a>(
         &mut self,
         elements: &Elements<'_>,
-        at: &At<'a>,
+        number: Whole,
+        line: EchoedLine<'a>,
         happened: &mut Happened<'a>,
         text: &mut String,
     ) -> Result<(), AllocError> {
-        let texts = element_texts(self.alloc, at.line.bytes)?;
+        let texts = element_texts(self.alloc, line.bytes)?;
         for place in 0..elements.len() {
-            let bytes = match texts.as_slice().get(place) {
-                Some(bytes) => *bytes,
-                None => at.line.bytes,
+            let element = EchoedLine {
+                number: line.number,
+                bytes: text_at(texts.as_slice(), place),
             };
-            let line = EchoedLine {
-                number: at.line.number,
-                bytes,
-            };
-            let at = At {
-                number: at.number,
-                place: Some(place),
-                line,
-            };
-            self.answer_element(elements, place, &at, happened, text)?;
+            self.answer_element(elements, place, number, element, happened, text)?;
         }
-        write_all(at.number.value(), elements.len(), text)
+        write_all(number.value(), elements.len(), text)
     }
 
     /// Carries out the event at a place of a line.
@@ -133,16 +114,16 @@ impl Running {
         &mut self,
         elements: &Elements<'_>,
         place: usize,
-        at: &At<'a>,
+        number: Whole,
+        line: EchoedLine<'a>,
         happened: &mut Happened<'a>,
         text: &mut String,
     ) -> Result<(), AllocError> {
-        let number = at.number.value();
         let read = elements.read(self.alloc, place);
         match read {
-            Ok(event) => self.answer_event(event, at, happened, text),
+            Ok(event) => self.answer_event(event, number, Some(place), line, happened, text),
             Err(JsonFault::Memory) => Err(AllocError),
-            Err(fault) => write_malformed(number, Some(place), fault, text),
+            Err(fault) => write_malformed(number.value(), Some(place), fault, text),
         }
     }
 
@@ -150,21 +131,24 @@ impl Running {
     fn answer_event<'a>(
         &mut self,
         event: NodeEvent,
-        at: &At<'a>,
+        number: Whole,
+        place: Option<usize>,
+        line: EchoedLine<'a>,
         happened: &mut Happened<'a>,
         text: &mut String,
     ) -> Result<(), AllocError> {
-        let number = at.number.value();
         let NodeEvent { node, kind } = event;
         if !node.is_same(&self.party) {
             drop(kind);
-            return write_skipped(number, at.place, text);
+            return write_skipped(number.value(), place, text);
         }
         let applied = self.node.apply(kind, &mut happened.entries);
         match applied {
-            Ok(Replayed::Skipped) => write_skipped(number, at.place, text),
-            Ok(Replayed::Stepped { changed }) => self.tell_step(changed, at, happened, text),
-            Err(StepFault::Core(fault)) => write_refused(number, at.place, fault, text),
+            Ok(Replayed::Skipped) => write_skipped(number.value(), place, text),
+            Ok(Replayed::Stepped { changed }) => {
+                self.tell_step(changed, number, place, line, happened, text)
+            }
+            Err(StepFault::Core(fault)) => write_refused(number.value(), place, fault, text),
             Err(StepFault::Memory) => Err(AllocError),
         }
     }
@@ -173,15 +157,15 @@ impl Running {
     fn tell_step<'a>(
         &mut self,
         changed: bool,
-        at: &At<'a>,
+        number: Whole,
+        place: Option<usize>,
+        line: EchoedLine<'a>,
         happened: &mut Happened<'a>,
         text: &mut String,
     ) -> Result<(), AllocError> {
-        let number = at.number;
-        let place = at.place;
         let source = Source::Echoed {
             opening: self.opening,
-            line: at.line,
+            line,
         };
         match happened.sources.push(source) {
             Ok(()) => {}
@@ -192,5 +176,13 @@ impl Running {
         }
         let packets = last_packets(happened.entries.as_slice());
         write_step(self.alloc, packets, changed, number.value(), place, text)
+    }
+}
+
+/// The text at a place.
+fn text_at<'a>(texts: &[&'a [u8]], place: usize) -> &'a [u8] {
+    match texts.get(place) {
+        Some(text) => *text,
+        None => &[],
     }
 }

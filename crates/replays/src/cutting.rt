@@ -47,44 +47,43 @@ pub(crate) fn split_feed(text: &[u8]) -> Option<(&[u8], &[u8])>
 
 /// How many line feeds a text begins with.
 fn feeds_in_front(text: &[u8]) -> usize {
-    let mut count = 0;
-    for byte in text {
+    for (count, byte) in text.iter().enumerate() {
         if *byte != b'\n' {
             return count;
         }
-        count += 1;
     }
-    count
+    text.len()
 }
 
 /// How many line feeds a text has.
 pub(crate) fn feeds_in(text: &[u8]) -> usize {
-    let mut count = 0;
-    let mut rest = text;
-    while let Some((_, behind)) = split_feed(rest) {
-        rest = behind;
-        count += 1;
+    let mut count: usize = 0;
+    for byte in text {
+        if *byte == b'\n' {
+            count = count.saturating_add(1);
+        }
     }
     count
+}
+
+/// Whether a text begins with a line feed, or has nothing.
+fn ends_there(text: &[u8]) -> bool {
+    match text.split_first() {
+        Some((first, _)) => *first == b'\n',
+        None => true,
+    }
 }
 
 /// How many bytes stand in front of the first empty line of a text; where there is none, in front of a line feed at its
 /// end.
 fn length_of_run(text: &[u8]) -> usize {
-    let mut length = 0;
-    let mut rest = text;
-    while let Some((front, behind)) = split_feed(rest) {
-        length += front.len();
-        match behind.split_first() {
-            None => return length,
-            Some((first, _)) => {
-                if *first == b'\n' {
-                    return length;
-                }
+    for (length, byte) in text.iter().enumerate() {
+        let (_, rest) = text.split_at(length);
+        if let Some((_, behind)) = rest.split_first() {
+            if *byte == b'\n' && ends_there(behind) {
+                return length;
             }
         }
-        length += 1;
-        rest = behind;
     }
     text.len()
 }

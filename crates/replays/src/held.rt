@@ -1,6 +1,6 @@
 //! What a store has: the rows of a node, and the number of the last line that took hold.
 
-ghost use Rattle.std.specs.Prelude.{◌≡◌, IfOk, false, true};
+ghost use Rattle.std.specs.Prelude.{◌≡◌, ◌++◌, ◌∷◌, [], IfOk, OnOk, false, true};
 ghost use Rattle.replays.specs.LineTurns.{nothing_held};
 
 use ocpi_text::Whole;
@@ -31,15 +31,17 @@ impl Start {
         }
     }
 
-    /// These rows, and the number of the last line that took hold, which is 1 where none did.
-    pub fn of(rows: Vec<Row>, line: Whole) -> Start
-        ensures held { result.held ≡ record { rows = rows.items; line = line } }
-        ensures given { result.is_given ≡ true }
+    /// These rows, and the number of the last line that took hold, which is 1 where none did. An error is want of
+    /// memory.
+    pub fn of(alloc: Global, rows: &[Row], line: Whole) -> Result<Start, AllocError>
+        ensures held { IfOk result (λ start. start.held ≡ record { rows = rows.now; line = line }) }
+        ensures given { IfOk result (λ start. start.is_given ≡ true) }
     {
-        Start {
+        let rows = copies(alloc, rows)?;
+        Ok(Start {
             held: Held { rows, line },
             is_given: true,
-        }
+        })
     }
 }
 
@@ -51,6 +53,25 @@ fn first_number() -> Whole
         Some(number) => number,
         None => unreachable!(),
     }
+}
+
+/// Adds an equal row. An error is want of memory.
+fn push_copy(copies: &mut Vec<Row>, row: &Row) -> Result<(), AllocError>
+    ensures { OnOk result (copies.new.items ≡ copies.old.items ++ row.now ∷ []) }
+{
+    copies.push(row.copy()?)?;
+    Ok(())
+}
+
+/// Equal rows, in order. An error is want of memory.
+fn copies(alloc: Global, rows: &[Row]) -> Result<Vec<Row>, AllocError>
+    ensures { IfOk result (λ v. v.items ≡ rows.now) }
+{
+    let mut copies = Vec::with_capacity(alloc, rows.len())?;
+    for row in rows {
+        push_copy(&mut copies, row)?;
+    }
+    Ok(copies)
 }
 
 /// What a store has.
@@ -78,10 +99,6 @@ impl Held {
     pub(crate) fn copy_rows(&self, alloc: Global) -> Result<Vec<Row>, AllocError>
         ensures { IfOk result (λ rows. rows.items ≡ self.now.rows) }
     {
-        let mut rows = Vec::new(alloc);
-        for row in self.rows.as_slice() {
-            rows.push(row.copy()?)?;
-        }
-        Ok(rows)
+        copies(alloc, self.rows.as_slice())
     }
 }

@@ -101,11 +101,11 @@ impl<'a> History<'a> {
 
     /// The line in doubt did not take hold.
     fn leave_out(&mut self) {
-        while self.doubtful > 0 {
-            self.doubtful -= 1;
+        for _ in 0..self.doubtful {
             drop(self.happened.entries.pop());
             drop(self.happened.sources.pop());
         }
+        self.doubtful = 0;
         self.behind = None;
     }
 

@@ -55,14 +55,10 @@ impl<'a> FileFault<'a> {
 fn start_of(alloc: Global, file: &TranscriptFile<'_>) -> Result<Start, AllocError>
     ensures { IfOk result (λ start. start.held ≡ start_of file.now.store) }
 {
-    let Some(store) = file.store else {
-        return Ok(Start::new(alloc));
-    };
-    let mut rows = Vec::new(alloc);
-    for row in store.rows {
-        rows.push(row.copy()?)?;
+    match file.store {
+        Some(store) => Start::of(alloc, store.rows, store.line),
+        None => Ok(Start::new(alloc)),
     }
-    Ok(Start::of(rows, store.line))
 }
 
 /// Reads a file as the transcript of a node of none of these parties.
