@@ -1,5 +1,7 @@
 //! What is told of a file that was not printed so. No clause speaks of it.
 
+ghost use Rattle.std.specs.Prelude.{◌≤◌, length};
+
 use crate::cutting::split_feed;
 use crate::opening::Piece;
 use node_runs::write_opened;
@@ -43,24 +45,40 @@ impl Left<'_> {
         if self.is_over {
             return None;
         }
-        let mut number: u64 = 0;
-        let mut count: usize = 0;
-        for byte in self.rest {
-            if *byte < b'0' || *byte > b'9' {
-                break;
-            }
-            number = number
-                .saturating_mul(10)
-                .saturating_add((*byte - b'0') as u64);
-            count = count.saturating_add(1);
-        }
-        let (_, rest) = self.rest.split_at(count);
+        let count = digits_in_front(self.rest);
+        let (digits, rest) = self.rest.split_at(count);
         self.rest = rest;
         if rest.is_empty() {
             self.is_over = true;
         }
-        if count == 0 { None } else { Some(number) }
+        if count == 0 {
+            None
+        } else {
+            Some(number_of(digits))
+        }
     }
+}
+
+/// How many digits a text begins with.
+fn digits_in_front(text: &[u8]) -> usize
+    ensures { result ≤ length text.now }
+{
+    for (count, byte) in text.iter().enumerate() {
+        if *byte < b'0' || *byte > b'9' {
+            return count;
+        }
+    }
+    text.len()
+}
+
+/// The number that digits spell, or the greatest of its type.
+fn number_of(digits: &[u8]) -> u64 {
+    let mut number: u64 = 0;
+    for byte in digits {
+        let digit = byte.saturating_sub(b'0') as u64;
+        number = number.saturating_mul(10).saturating_add(digit);
+    }
+    number
 }
 
 /// What stands in front of the number in the line of an opening.
@@ -142,10 +160,9 @@ pub(crate) fn tell_difference(
 ) -> Result<(), AllocError> {
     let mut expected = expected;
     let mut found = found;
-    loop {
-        let one = first_line(expected);
-        let other = first_line(found);
-        let (Some((_, later)), Some((_, behind))) = (split_feed(expected), split_feed(found)) else {
+    for _ in 0..expected.len() {
+        let (Some((one, later)), Some((other, behind))) = (split_feed(expected), split_feed(found))
+        else {
             break;
         };
         if one != other {
@@ -181,7 +198,10 @@ pub(crate) fn tell_earlier(
     words: &mut String,
 ) -> Result<(), AllocError> {
     let mut rest = rest;
-    while let Some((line, behind)) = split_feed(rest) {
+    for _ in 0..rest.len() {
+        let Some((line, behind)) = split_feed(rest) else {
+            return Ok(());
+        };
         if behind.starts_with(FRONT.as_bytes()) && is_setup(alloc, scratch, line) {
             return words.push_str("; an earlier program wrote the file: weave it with that");
         }
