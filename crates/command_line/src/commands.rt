@@ -152,7 +152,19 @@ fn weave<'a>(alloc: Global) -> Result<Command<'a>, Error> {
         .about("Make one run of the transcripts of several nodes, as input of `play`")
         .after_help(help::WEAVE);
     let command = with_arg(command, given(alloc))?;
+    let command = with_arg(command, stored(alloc))?;
     with_arg(command, files(alloc))
+}
+
+/// The stores of the transcripts of `weave`.
+fn stored<'a>(alloc: Global) -> Arg<'a> {
+    Arg::new(alloc, "store")
+        .long("store")
+        .value_name("STORE")
+        .action(ArgAction::Append)
+        .help(
+            "The store over which the first run of the next FILE was begun: a copy of it, made before",
+        )
 }
 
 fn given<'a>(alloc: Global) -> Arg<'a> {

@@ -162,30 +162,34 @@ Example, after `ocpi_nodes play --store stores`:
 /// After the help of `weave`.
 pub const WEAVE: &str =
     r#"Input: each FILE is a transcript, all that `node PARTY --echo` read and printed for one node.
-  Several runs over one store stand in it one behind the other. The setups of all are equal, the
-  parties differ. A last line that has no end was cut, and is left out. Standard input is not read.
+  Several runs over one store stand in it one behind the other, wherever they were stopped. The first
+  is over a store without rows; or, behind --store STORE, over STORE, a copy of it that was made
+  before, while no program had it open. The parties differ. Standard input is not read.
   What a party sent that --given names is taken as it was received; it has no FILE. PARTY is one of
-  the setup, in any case. Give --given once for each such party.
+  the setups, in any case. Give --given once for each such party.
 
-Output, on standard output: one run of all that the transcripts have, as input of `play`: the setup
-  line of the first FILE, then an event a line, each delivery after its packet was sent. A delivery
-  from a given party stands as it was received, with its packet, which `play` refuses.
+Output, on standard output: one run of all that the transcripts have. Where none begins with rows, and
+  all setups are equal, it is input of `play`: the setup line of the first FILE, then an event a line,
+  each delivery after its packet was sent. A delivery from a given party stands as it was received,
+  with its packet, which `play` refuses. Else it begins with how each FILE was opened, and each setup
+  line stands before the events of its node; `play` refuses it.
   Or why there is none, and nothing else:
     refused 1 NeverSent(BE/BEC 9 FILE:12)         this line has a packet that its sender never sent
     refused 2 Differs(BE/BEC 9 FILE:31 FILE:12)   for the first line its sender sent another one
     refused 3 NoOrder(FILE:12 FILE:7)             each line needs a packet sent behind another
     refused 4 Memory                              memory ran out
-    refused 5 NotARun(FILE:12)                    the node would have returned something else
-    refused 6 WrongTranscript(FILE:12)            it is no line of one, or of another setup or party
-    refused 7 TooManyWays(FILE:12)                stops leave open more than 64 ways
-  FILE:12 is a line of that file, from 1; at line 0 no run in it was opened. Beside the first two
-  standard error may say more. docs/DISPUTES.md says what follows from each.
+    refused 5 NotARun(FILE:12)                    the node would have printed something else
+    refused 6 WrongTranscript(FILE:12)            it is no line of one, or of another party or STORE
+    refused 8 BegunLater(FILE:12)                 rows stood before it: name STORE, or the file before
+    refused 9 LinesMissing(FILE:12)               the end of a run before it is missing
+  FILE:12 is a line of that file, from 1; at line 0 no run in it was opened. Standard error may say
+  more. docs/DISPUTES.md says what follows from each.
 
 Exit status:
   0  a run was printed
   1  the transcripts were refused, or writing failed, which standard error says
-  2  the command line is wrong, or --given names a party that the setup has not, or one of a FILE
-  3  a file was not read, which standard error says; nothing is said of the others
+  2  the command line is wrong, or --given names a party that no setup has, or one of a FILE
+  3  a file or a STORE was not read, which standard error says; nothing is said of the others
 
 Examples, with the transcripts of two partners, and of one of them and a third:
   ./ocpi_nodes weave be.transcript nl.transcript | ./ocpi_nodes play

@@ -55,12 +55,14 @@
 //! generic.
 #![tactic(auto)]
 
+mod copies;
 mod files;
 mod keeping;
 mod keeps;
 mod loading;
 mod system_files;
 
+pub use copies::kept_in_copy;
 pub use files::{FileKeeps, Found, StoreFile, rows_in};
 pub use keeping::{KeptNode, close_all, commit, open_all};
 pub use keeps::{Keeps, ListKeeps};

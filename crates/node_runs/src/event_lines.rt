@@ -115,7 +115,7 @@ fn tell_applied(alloc: Global, applied: Applied, number: LineNumber, text: &mut 
 }
 
 /// Writes the packets that a node sent for an event, and then that it did it, by whether rows were changed.
-fn write_step(
+pub fn write_step(
     alloc: Global,
     packets: &[Packet],
     changed: bool,

@@ -45,5 +45,10 @@ mod list_lines;
 mod node_run;
 mod setup_line;
 
+pub use done_lines::{
+    write_all, write_known, write_malformed, write_opened, write_refused, write_skipped,
+};
+pub use event_lines::write_step;
 pub use fault::{NodeRunFault, NodeStop, UNKNOWN_PARTY, status_after_node};
 pub use node_run::run_node;
+pub use setup_line::read_numbered_setup;

@@ -80,6 +80,7 @@
 
 mod changing;
 mod closing;
+mod copies;
 mod editing;
 mod fault;
 mod keep;
@@ -92,6 +93,7 @@ mod table_keep;
 mod table_opening;
 mod unopened;
 
+pub use copies::kept_in;
 pub use fault::{Cause, StoreFault};
 pub use keep::{Keep, Kept};
 pub use laws::{closed_files_are_found, numbers_are_no_rows, opening_keeps_rows};

@@ -5,14 +5,16 @@ ghost use Rattle.line_runs.specs.Outcome.{exit_status};
 ghost use Rattle.line_runs.specs.declared.outcome.RunFault.{RunFault as RunFaultOf};
 ghost use Rattle.weave_runs.specs.declared.fault.GivenFault.{GivenFault as GivenFaultOf};
 
-use command_line::{WRONG_WORDS, WeaveWords};
+use command_line::{FileWords, WRONG_WORDS, WeaveWords};
 use line_runs::{Ran, RunFault, flush, status_of, write_whole};
+use node_keepers::kept_in_copy;
+use node_store::{Kept, StoreFault};
 use program_messages::{BUFFER_BYTES, words_for_unread};
 use std::fs;
 use std::io::{self, BufWriter, ErrorKind, Write};
 use tables::HashSeed;
 use thiserror::Error;
-use weave_runs::{GivenFault, TranscriptFile, WeaveRunFault, run_weave};
+use weave_runs::{GivenFault, StoreRows, TranscriptFile, WeaveRunFault, run_weave};
 
 /// The exit status where a file was not read.
 pub const UNREAD: u8 = 3;
@@ -23,6 +25,9 @@ pub enum WeaveStop<'a> {
     /// The file was not read, and nothing is said of any.
     #[error("{file}: {}", words_for_unread(*.kind))]
     Unread { file: &'a str, kind: ErrorKind },
+    /// The store was not read, and nothing is said of any file.
+    #[error("store: {0}")]
+    Store(StoreFault),
     /// What a party sent cannot be taken as it came.
     #[error(transparent)]
     Given(#[from] GivenFault<'a>),
@@ -39,32 +44,84 @@ impl<'a> From<WeaveRunFault<'a>> for WeaveStop<'a> {
     }
 }
 
-/// Reads each file whole, in their order, and writes the run that is made of them, or why there is none.
+/// A transcript that was read, and what the store before it keeps.
+#[derive(Drop)]
+struct ReadFile<'a> {
+    name: &'a str,
+    text: Vec<u8>,
+    store: Option<Kept>,
+}
+
+/// Why a file was not read.
+#[derive(Clone, Copy)]
+enum Unread {
+    File(ErrorKind),
+    Store(StoreFault),
+}
+
+/// Reads each store and each file whole, in their order, and writes the run that is made of them, or why there is none.
 pub fn weave_files<'a>(
     rt: &HostRuntime,
     seed: HashSeed,
     words: &WeaveWords<'a>,
 ) -> Result<Ran, WeaveStop<'a>> {
-    let mut texts = Vec::new(rt.alloc());
-    for file in words.files.as_slice() {
-        match read_file(rt, *file) {
-            Ok(text) => {
-                if texts.push(text).is_err() {
+    let mut files = Vec::new(rt.alloc());
+    for named in words.files.as_slice() {
+        match read_file(rt, *named) {
+            Ok(file) => {
+                if files.push(file).is_err() {
                     return refuse_memory(rt);
                 }
             }
-            Err(ErrorKind::OutOfMemory) => return refuse_memory(rt),
-            Err(kind) => return Err(WeaveStop::Unread { file: *file, kind }),
+            Err(Unread::File(ErrorKind::OutOfMemory)) => return refuse_memory(rt),
+            Err(Unread::File(kind)) => {
+                return Err(WeaveStop::Unread {
+                    file: named.file,
+                    kind,
+                });
+            }
+            Err(Unread::Store(StoreFault::Memory)) => return refuse_memory(rt),
+            Err(Unread::Store(fault)) => return Err(WeaveStop::Store(fault)),
         }
     }
-    weave_texts(rt, seed, words, texts.as_slice())
+    weave_texts(rt, seed, words, files.as_slice())
 }
 
-/// All that a file has.
-fn read_file(rt: &HostRuntime, file: &str) -> Result<Vec<u8>, ErrorKind> {
-    match fs::read(rt, file) {
-        Ok(text) => Ok(text),
-        Err(error) => Err(error.kind()),
+/// What a store keeps, where one is named, and all that a file has.
+fn read_file<'a>(rt: &HostRuntime, named: FileWords<'a>) -> Result<ReadFile<'a>, Unread> {
+    let store = match named.store {
+        Some(path) => match kept_in_copy(rt, path) {
+            Ok(kept) => Some(kept),
+            Err(fault) => return Err(Unread::Store(fault)),
+        },
+        None => None,
+    };
+    match fs::read(rt, named.file) {
+        Ok(text) => Ok(ReadFile {
+            name: named.file,
+            text,
+            store,
+        }),
+        Err(error) => {
+            drop(store);
+            Err(Unread::File(error.kind()))
+        }
+    }
+}
+
+/// A transcript that was read.
+fn transcript_file<'b>(file: &'b ReadFile<'_>) -> TranscriptFile<'b> {
+    let store = match &file.store {
+        Some(kept) => Some(StoreRows {
+            rows: kept.rows.as_slice(),
+            line: kept.line,
+        }),
+        None => None,
+    };
+    TranscriptFile {
+        name: file.name,
+        text: file.text.as_slice(),
+        store,
     }
 }
 
@@ -73,15 +130,11 @@ fn weave_texts<'a>(
     rt: &HostRuntime,
     seed: HashSeed,
     words: &WeaveWords<'a>,
-    texts: &[Vec<u8>],
+    read: &[ReadFile<'_>],
 ) -> Result<Ran, WeaveStop<'a>> {
     let mut files = Vec::new(rt.alloc());
-    for (name, text) in words.files.iter().zip(texts) {
-        let file = TranscriptFile {
-            name: *name,
-            text: text.as_slice(),
-        };
-        if files.push(file).is_err() {
+    for file in read {
+        if files.push(transcript_file(file)).is_err() {
             return refuse_memory(rt);
         }
     }
@@ -141,6 +194,6 @@ fn status_of_stop(stop: WeaveStop<'_>) -> u8
     match stop {
         WeaveStop::Run(fault) => status_of(Err(fault)),
         WeaveStop::Given(_) => WRONG_WORDS,
-        WeaveStop::Unread { .. } => UNREAD,
+        WeaveStop::Unread { .. } | WeaveStop::Store(_) => UNREAD,
     }
 }

@@ -1,0 +1,188 @@
+//! What a node prints for a line behind the setup, which is carried out.
+
+use crate::cutting::EchoedLine;
+use crate::transcript::Source;
+use histories::Entry;
+use node_lines::{Elements, NodeLine, element_texts, read_node_line};
+use node_replay::{NodeReplay, ReplayFault as StepFault, Replayed};
+use node_runs::{
+    write_all, write_known, write_malformed, write_refused, write_skipped, write_step,
+};
+use node_steps::NodeFault;
+use ocpi_json::{JsonFault, Scratch};
+use ocpi_text::{Party, Whole};
+use ocpi_types::{NodeEvent, Packet};
+use std::alloc::{AllocError, Global};
+
+/// A node that runs again.
+#[derive(Drop)]
+pub(crate) struct Running {
+    pub alloc: Global,
+    pub node: NodeReplay,
+    /// Its party, as the setup spells it.
+    pub party: Party,
+    /// The place of its run among those that were opened.
+    pub opening: usize,
+    /// The number of the last line that had taken hold as it was opened.
+    pub known: Whole,
+    /// That of the last line that took hold.
+    pub last: Whole,
+    /// That of the last line.
+    pub number: Whole,
+}
+
+/// What happened at a node, and where each entry comes from.
+#[derive(Drop)]
+pub(crate) struct Happened<'a> {
+    pub entries: Vec<Entry>,
+    pub sources: Vec<Source<'a>>,
+}
+
+/// The packets of the last entry.
+fn last_packets(entries: &[Entry]) -> &[Packet] {
+    match entries.last() {
+        Some(entry) => entry.packets.as_slice(),
+        None => &[],
+    }
+}
+
+impl Running {
+    /// Carries out the next line, and writes what the node prints for it. An error is want of memory.
+    pub(crate) fn answer<'a>(
+        &mut self,
+        scratch: &mut Scratch,
+        line: EchoedLine<'a>,
+        happened: &mut Happened<'a>,
+        text: &mut String,
+    ) -> Result<(), AllocError> {
+        text.clear();
+        let Some(number) = self.number.next() else {
+            return write_refused(Whole::MAX, None, NodeFault::NumbersUsedUp, text);
+        };
+        self.number = number;
+        if number.value() <= self.known.value() {
+            return write_known(number.value(), text);
+        }
+        self.answer_new(scratch, number, line, happened, text)
+    }
+
+    /// Reads the line of that number and carries it out.
+    fn answer_new<'a>(
+        &mut self,
+        scratch: &mut Scratch,
+        number: Whole,
+        line: EchoedLine<'a>,
+        happened: &mut Happened<'a>,
+        text: &mut String,
+    ) -> Result<(), AllocError> {
+        match read_node_line(self.alloc, scratch, line.bytes) {
+            Ok(NodeLine::One(event)) => {
+                self.answer_event(event, number, None, line, happened, text)
+            }
+            Ok(NodeLine::Several(elements)) => {
+                let answered = self.answer_all(&elements, number, line, happened, text);
+                drop(elements);
+                answered
+            }
+            Err(JsonFault::Memory) => Err(AllocError),
+            Err(fault) => write_malformed(number.value(), None, fault, text),
+        }
+    }
+
+    /// Carries out the events of a line, one after another.
+    fn answer_all<'a>(
+        &mut self,
+        elements: &Elements<'_>,
+        number: Whole,
+        line: EchoedLine<'a>,
+        happened: &mut Happened<'a>,
+        text: &mut String,
+    ) -> Result<(), AllocError> {
+        let texts = element_texts(self.alloc, line.bytes)?;
+        for place in 0..elements.len() {
+            let element = EchoedLine {
+                number: line.number,
+                bytes: text_at(texts.as_slice(), place),
+            };
+            self.answer_element(elements, place, number, element, happened, text)?;
+        }
+        write_all(number.value(), elements.len(), text)
+    }
+
+    /// Carries out the event at a place of a line.
+    fn answer_element<'a>(
+        &mut self,
+        elements: &Elements<'_>,
+        place: usize,
+        number: Whole,
+        line: EchoedLine<'a>,
+        happened: &mut Happened<'a>,
+        text: &mut String,
+    ) -> Result<(), AllocError> {
+        let read = elements.read(self.alloc, place);
+        match read {
+            Ok(event) => self.answer_event(event, number, Some(place), line, happened, text),
+            Err(JsonFault::Memory) => Err(AllocError),
+            Err(fault) => write_malformed(number.value(), Some(place), fault, text),
+        }
+    }
+
+    /// Carries out an event, where it is the node's.
+    fn answer_event<'a>(
+        &mut self,
+        event: NodeEvent,
+        number: Whole,
+        place: Option<usize>,
+        line: EchoedLine<'a>,
+        happened: &mut Happened<'a>,
+        text: &mut String,
+    ) -> Result<(), AllocError> {
+        let NodeEvent { node, kind } = event;
+        if !node.is_same(&self.party) {
+            drop(kind);
+            return write_skipped(number.value(), place, text);
+        }
+        let applied = self.node.apply(kind, &mut happened.entries);
+        match applied {
+            Ok(Replayed::Skipped) => write_skipped(number.value(), place, text),
+            Ok(Replayed::Stepped { changed }) => {
+                self.tell_step(changed, number, place, line, happened, text)
+            }
+            Err(StepFault::Core(fault)) => write_refused(number.value(), place, fault, text),
+            Err(StepFault::Memory) => Err(AllocError),
+        }
+    }
+
+    /// Writes what the node sent for the event of the last entry.
+    fn tell_step<'a>(
+        &mut self,
+        changed: bool,
+        number: Whole,
+        place: Option<usize>,
+        line: EchoedLine<'a>,
+        happened: &mut Happened<'a>,
+        text: &mut String,
+    ) -> Result<(), AllocError> {
+        let source = Source::Echoed {
+            opening: self.opening,
+            line,
+        };
+        match happened.sources.push(source) {
+            Ok(()) => {}
+            Err(_) => return Err(AllocError),
+        }
+        if changed {
+            self.last = number;
+        }
+        let packets = last_packets(happened.entries.as_slice());
+        write_step(self.alloc, packets, changed, number.value(), place, text)
+    }
+}
+
+/// The text at a place.
+fn text_at<'a>(texts: &[&'a [u8]], place: usize) -> &'a [u8] {
+    match texts.get(place) {
+        Some(text) => *text,
+        None => &[],
+    }
+}
