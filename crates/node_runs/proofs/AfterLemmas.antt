@@ -157,3 +157,16 @@ module _ {K : Type 0} (keeper : Keeper K) (now : Running K) (s : Stage K) (line 
         (goes.1 ∙ ap (λ (n : Running K). answers.next_stage s n s.number) told.0 ∙ ap (λ (n : ℕ). answers.next_stage s now n) is),
   )
   beyond_on is (Lost keep stop) turn t told goes = ended s.number keep stop turn t (answers.WasStarved told.1 told.0) told.2 goes
+
+-- what a line gives does not depend on which node stood in the stage
+pub with_running : {K : Type 0} (keeper : Keeper K) (now : Running K) (s : Stage K) (q : Option (Running K)) (line : List ℕ) (turn : Turn) (out : List ℕ) (t : Stage K) → BehindTurn keeper now s line turn out t
+    → BehindTurn keeper now (record { wanted = s.wanted; opened = s.opened; running = q; spare = s.spare; stop = s.stop; number = s.number; known = s.known }) line turn out t
+with_running keeper now s q line turn out t (answers.WasKnown is taken written left) = answers.WasKnown is taken written left
+with_running keeper now s q line turn out t (answers.WasBeyond is refused written left) = answers.WasBeyond is refused written left
+with_running keeper now s q line turn out t (answers.GoesOn new few next is left) = answers.GoesOn new few next is left
+with_running keeper now s q line turn out t (answers.Ends stop keep loses stored number ended written left) = answers.Ends stop keep loses stored number ended written left
+
+-- what is said where a text was written whole
+pub of_ok : {P : Type 0} (written : Result (Unit {0}) AllocError) → IsOk written → OnOk written P → P
+of_ok (Ok u) whole p = p
+of_ok (Err e) whole p = absurd (let bad : false ≡ true = whole in cc bad)

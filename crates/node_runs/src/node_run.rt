@@ -284,6 +284,7 @@ impl<K: Keep + Drop, S: Keeps<Kept = K>> Program<K, S> {
     {
         running.is_stored();
         let Some(number) = self.number.next() else {
+            let _bound = self.number.value();
             return self.refuse_beyond(running, output);
         };
         self.number = number;
