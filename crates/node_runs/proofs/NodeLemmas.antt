@@ -29,11 +29,22 @@ use Rattle.program_lines.specs.Writing.{packet_lines}
 use Rattle.node_runs.specs.Afters.{IsAnswered, IsFaultTold, IsToldAs}
 use Rattle.node_runs.specs.declared.event_lines.Answered.{Answered}
 use Rattle.stored_nodes.specs.declared.fault.ApplyFault.{ApplyFault}
-use Rattle.node_runs.specs.DoneLines.{idle_line, malformed_line, refused_line, skipped_line}
+use Rattle.node_runs.specs.DoneLines.{idle_line, malformed_line, opened_line, refused_line, skipped_line}
 use Rattle.node_runs.specs.LineAnswers.{IsOwn, OneEvent, PlacedTurn, applied_lines, step_line}
 use Rattle.node_runs.specs.LineAnswers as lines
 use Rattle.node_runs.specs.NodeAnswers.{LineTurn, LosesLine, WasDeclined}
-use Rattle.node_runs.specs.NodeTurns.{Running}
+use Rattle.node_runs.specs.NodeTurns.{Begins, IsMember, Opened, OpensNode, Running, SetupTurn, Stage, Untold, first_place, number_from, opened_stage}
+use Rattle.node_runs.specs.SetupLines.{IsBase, numbered_setup_in}
+use Rattle.node_runs.specs.Stages.{IsOpenedWith, begun_stage}
+use Rattle.node_runs.specs.Stages as stages
+use Rattle.node_runs.specs.declared.beginning.Begun.{Begun}
+use Rattle.node_runs.specs.declared.fault.NodeStop.{NodeStop}
+use Rattle.node_runs.specs.declared.fault.NodeStop.TheVariants.{Memory}
+use Rattle.node_keepers.specs.Opening.{Source}
+use Rattle.ocpi_types.specs.Setups.{party_of}
+use Rattle.ocpi_types.specs.declared.setup.Node.{Node}
+use Rattle.stored_laws.specs.Nodes.{last_serial}
+use Rattle.std.specs.Prelude.{◌≤◌}
 use Rattle.node_runs.specs.declared.fault.NodeStop.TheVariants.{Store}
 
 -- the changes of one deed alone
@@ -144,3 +155,39 @@ module _ {K : Type 0} (keeper : Keeper K) (now : Running K) (number : ℕ) (text
         told_line keeper now Behind number text Refused (refused_line number None fault) before after a told (refused keeper now number text x read same node fault fails)
     answered_fault apply.Memory fails told =
         subst (λ (b : Answered). IsAnswered keeper now number text before after b Behind) (sym told) (ap (λ (n : Stored K). record { party = now.party; node = n }) fails)
+
+-- ---- the setup
+
+-- the number from which lines are counted on is 1 or more
+pub counted_from : (base : Option ℕ) (last : ℕ) → IsBase base → 1 ≤ last → 1 ≤ number_from base last
+counted_from None last is least = least
+counted_from (Some n) last is least = is
+
+module _ {K : Type 0} (keeper : Keeper K) (source : Source K) (s : Stage K) (line : List ℕ) (setup : List Node) (base : Option ℕ) (reads : numbered_setup_in line ≡ Ok (setup, base))
+    (member : Node) (asked : IsMember setup s.wanted member) (b : Begun K) (party : b.running.party ≡ party_of member) (begins : Begins keeper source setup member b.rows b.line b.running.node)
+    (opened : List ℕ) (places : opened ≡ s.opened ++ first_place) where
+  abbrev Opening : OpensNode keeper source s.wanted line
+  Opening = record { setup = setup; base = base; reads = reads; member = member; asked = asked; rows = b.rows; last = b.line; node = b.running.node; begins = begins }
+
+  abbrev Left : Stage K
+  Left = record { wanted = s.wanted; opened = opened; running = s.running; spare = s.spare; stop = s.stop; number = s.number; known = s.known }
+
+  stage_is : (stop : Option NodeStop) → begun_stage Left b base stop ≡ opened_stage s Opening stop
+  stage_is stop = λ i. record {
+    wanted = s.wanted;
+    opened = places i;
+    running = Some (record { party = party i; node = b.running.node });
+    spare = s.spare;
+    stop = stop;
+    number = number_from base b.line;
+    known = b.line;
+  }
+
+  pub opened_turn : (before after : List ℕ) (turn : Turn) (t : Stage K) → IsOpenedWith Left b base before after turn t
+      → (out : List ℕ) × (after ≡ before ++ out) × SetupTurn keeper source s line turn out t
+  opened_turn before after turn t (stages.IsTold taken wrote left) = (
+    opened_line b.line (party_of member) b.rows (last_serial b.running.node.state),
+    wrote ∙ ap (λ (p : List ℕ). before ++ opened_line b.line p b.rows (last_serial b.running.node.state)) party,
+    Opened Opening taken refl (left ∙ stage_is s.stop),
+  )
+  opened_turn before after turn t (stages.IsUntold ended same left) = ([], same ∙ sym (append-nil before), Untold Opening ended refl (left ∙ stage_is (Some Memory)))

@@ -1,5 +1,5 @@
 -- The first line of `node`: the setup, and the number from which the lines behind it are counted on.
-use Rattle.std.specs.Prelude.{ℕ, ◌&&◌, nat_le, List, Option, None, Some, Ok, Err, if◌then◌else◌}
+use Rattle.std.specs.Prelude.{◌≤◌, ℕ, ◌&&◌, nat_le, List, Option, None, Some, Ok, Err, if◌then◌else◌}
 use Rattle.serde_json.specs.Data.{Data}
 use Rattle.json_text.specs.Fault.{Read, ◌>>=◌}
 use Rattle.json_text.specs.Fields.{as_record, optional, whole_in}
@@ -17,6 +17,11 @@ max_base = 900000000000000000
 abbrev pub as_base : Option ℕ → Read (Option ℕ)
 as_base None = Ok None
 as_base (Some n) = if nat_le 1 n && nat_le n max_base then Ok (Some n) else Err (WrongForm field.Line)
+
+-- where a setup tells a number, it is at least its own
+abbrev pub IsBase : Option ℕ → Type 0
+IsBase None = Unit {0}
+IsBase (Some n) = 1 ≤ n
 
 -- the member `line` of a setup, which may be absent
 unfoldable pub base_at : Data → Read (Option ℕ)

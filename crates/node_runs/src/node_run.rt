@@ -18,7 +18,7 @@ ghost use Rattle.node_runs.specs.NodeAnswers.{BehindTurn, NodeEndGives, NodeLine
 ghost use Rattle.node_runs.specs.DoneLines.{known_line, refused_line};
 ghost use Rattle.node_runs.specs.NodeTurns.{SetupTurn, keep_in, number_from, opening};
 ghost use Rattle.node_runs.specs.declared.list_lines.After.{After as AfterOf};
-ghost use Rattle.node_runs.specs.SetupLines.{numbered_setup_in};
+ghost use Rattle.node_runs.specs.SetupLines.{IsBase, numbered_setup_in};
 ghost use Rattle.node_runs.specs.Stages.{GoesOnWith, IsOpenedWith, stopped_stage};
 ghost use Rattle.node_runs.specs.Stops.{IfRun, IfStop};
 
@@ -230,7 +230,8 @@ impl<K: Keep + Drop, S: Keeps<Kept = K>> Program<K, S> {
 
     /// Opens the node of a setup, and says so.
     fn begin_node(&mut self, setup: Setup, base: Option<Whole>, output: &mut String) -> Turn
-        requires { self.old.running ≡ None }
+        requires none { self.old.running ≡ None }
+        requires least { IsBase base }
         ensures { (line : List ℕ) → numbered_setup_in line ≡ Ok (setup, base) → (out : List ℕ) × (string_bytes output.new ≡ string_bytes output.old ++ out)
             × SetupTurn (keeper_of K.content K.is_honest K.refusals K.may_leave) (source_of S.may_refuse S.found) self.old line result out self.new }
     {

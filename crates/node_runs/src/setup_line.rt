@@ -1,9 +1,9 @@
 //! The first line of `node`: the setup, and the number from which the lines behind it are counted on.
 
-ghost use Rattle.std.specs.Prelude.{◌≡◌};
+ghost use Rattle.std.specs.Prelude.{◌≡◌, IfOk, Some};
 ghost use Rattle.json_text.specs.Fault.{Gives};
 ghost use Rattle.json_text.specs.Trees.{view};
-ghost use Rattle.node_runs.specs.SetupLines.{as_base, base_at, base_in, base_of_line, numbered_setup_in};
+ghost use Rattle.node_runs.specs.SetupLines.{IsBase, as_base, base_at, base_in, base_of_line, numbered_setup_in};
 
 use json_text::fields::{as_record, is_absent, whole_in};
 use json_text::{JsonFault, Scratch, Tree, line_tree};
@@ -17,7 +17,8 @@ const MAX_BASE: u64 = 900_000_000_000_000_000;
 
 /// A number from which lines may be counted on.
 fn as_base(number: Whole) -> Result<Option<Whole>, JsonFault>
-    ensures { result ≡ as_base (Some number) }
+    ensures value { result ≡ as_base (Some number) }
+    ensures least { IfOk result IsBase }
 {
     if number.value() >= 1 && number.value() <= MAX_BASE {
         Ok(Some(number))
@@ -29,7 +30,8 @@ fn as_base(number: Whole) -> Result<Option<Whole>, JsonFault>
 /// The member `line` of a setup, which may be absent.
 #[tactic(auto, unfolding(crate::specs::SetupLines::base_at, json_text::specs::Fields::optional))]
 fn base_of(object: &Tree<'_>) -> Result<Option<Whole>, JsonFault>
-    ensures { result ≡ base_at (view object.now) }
+    ensures value { result ≡ base_at (view object.now) }
+    ensures least { IfOk result IsBase }
 {
     if is_absent(object, Field::Line) {
         return Ok(None);
@@ -39,7 +41,8 @@ fn base_of(object: &Tree<'_>) -> Result<Option<Whole>, JsonFault>
 
 #[tactic(auto, unfolding(crate::specs::SetupLines::base_of_line))]
 fn base_of_line(tree: &Tree<'_>) -> Result<Option<Whole>, JsonFault>
-    ensures { result ≡ base_of_line (view tree.now) }
+    ensures value { result ≡ base_of_line (view tree.now) }
+    ensures least { IfOk result IsBase }
 {
     base_of(as_record(tree, Field::Line)?)
 }
@@ -47,7 +50,8 @@ fn base_of_line(tree: &Tree<'_>) -> Result<Option<Whole>, JsonFault>
 /// The number that a setup line tells, which is read once more for it.
 #[tactic(auto, unfolding(crate::specs::SetupLines::base_in))]
 fn base_in(alloc: Global, scratch: &mut Scratch, line: &[u8]) -> Result<Option<Whole>, JsonFault>
-    ensures { Gives result (base_in line.now) }
+    ensures value { Gives result (base_in line.now) }
+    ensures least { IfOk result IsBase }
 {
     let tree = line_tree(alloc, scratch, line)?;
     base_of_line(&tree)
@@ -61,7 +65,8 @@ pub fn read_numbered_setup(
     scratch: &mut Scratch,
     line: &[u8],
 ) -> Result<(Setup, Option<Whole>), JsonFault>
-    ensures { Gives result (numbered_setup_in line.now) }
+    ensures value { Gives result (numbered_setup_in line.now) }
+    ensures least { IfOk result (λ numbered. IsBase numbered.1) }
 {
     let setup = match read_setup(alloc, scratch, line) {
         Ok(setup) => setup,

@@ -15,26 +15,17 @@ pub returns-in_default : goal.returns-in_default
 returns-in_default g c =
     let K = g.row.K.Denot in
     let keeper = keeper_of g.K.Keep.content g.K.Keep.is_honest g.K.Keep.refusals g.K.Keep.may_leave in
-    let stage : Option (Running K) → ℕ → Stage K = λ q n. record {
-      wanted = c.self.inside.wanted;
-      opened = g.S.Keeps.opened c.self.inside.keeps;
-      running = q;
-      spare = c.self.inside.spare;
-      stop = c.self.inside.stop;
-      number = n;
-      known = c.self.inside.known;
-    } in
-    let s = stage c.self.inside.running c.self.inside.number in
+    let s = c.args.self.now in
     let before = string_bytes c.args.output.now in
     let after = string_bytes c.refuse_beyond.new.output in
     let turn = c.refuse_beyond.result in
     let t = c.refuse_beyond.new.self in
-    let none : c.self.inside.running ≡ None = ap (λ (w : Stage K). w.running) c.self.view_is ∙ c.requires.none in
     let r = c.refuse_beyond.ensures in
-    let goes = subst (λ (q : Option (Running K)). GoesOnWith (stage q c.self.inside.number) r.0 turn t) none r.2 in
-    let is : c.self.inside.number ≡ max_whole = omega (arith, c.in_default.ensures, c.value.ensures.bound) in
-    let turns = beyond_on keeper c.args.running s c.args.line.now before after c.is_stored.ensures is r.0 turn t r.1 goes in
-    subst (λ (w : Stage K). (out : List ℕ) × (after ≡ before ++ out) × BehindTurn keeper c.args.running w c.args.line.now turn out t) c.self.view_is turns
+    let number : c.self.inside.number ≡ s.number = ap (λ (w : Stage K). w.number) c.self.view_is in
+    let goes = subst (λ (q : Option (Running K)). GoesOnWith (record { wanted = s.wanted; opened = s.opened; running = q; spare = s.spare; stop = s.stop; number = s.number; known = s.known }) r.0 turn t)
+    c.requires.none r.2 in
+    let is : s.number ≡ max_whole = omega (arith, c.in_default.ensures, c.value.ensures.bound, number) in
+    beyond_on keeper c.args.running s c.args.line.now before after c.is_stored.ensures is r.0 turn t r.1 goes
 
 pub returns-then-value : goal.returns-then-value
 returns-then-value g c =

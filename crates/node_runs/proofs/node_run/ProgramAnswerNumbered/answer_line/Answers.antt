@@ -46,6 +46,6 @@ returns-in-Some-clause-ok g c =
     let after = string_bytes c.answer_next.new.output in
     let all : Option (Running K) → Type 0 = λ q. (out : List ℕ) × (after ≡ before ++ out) × NodeTurn keeper source q (stage q) c.args.line.now c.answer_next.result out c.answer_next.new.self in
     let r = c.answer_next.ensures in
-    let here = (r.0, r.1, with_running keeper now (stage c.take.new.self) (Some now) c.args.line.now c.answer_next.result r.0 c.answer_next.new.self r.2) in
+    let here : all (Some now) = (r.0, r.1, with_running keeper now (stage c.take.new.self) (Some now) c.args.line.now c.answer_next.result r.0 c.answer_next.new.self r.2) in
     subst (λ (w : Stage K). (out : List ℕ) × (after ≡ before ++ out) × NodeTurn keeper source w.running w c.args.line.now c.answer_next.result out c.answer_next.new.self) c.self.view_is
     (subst all (sym c.in-Some.is ∙ c.take.ensures.value) here)
