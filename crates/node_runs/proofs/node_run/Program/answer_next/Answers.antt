@@ -24,7 +24,7 @@ returns-in_default g c =
     let number : c.self.inside.number ≡ s.number = ap (λ (w : Stage K). w.number) c.self.view_is in
     let goes = subst (λ (q : Option (Running K)). GoesOnWith (record { wanted = s.wanted; opened = s.opened; running = q; spare = s.spare; stop = s.stop; number = s.number; known = s.known }) r.0 turn t)
     c.requires.none r.2 in
-    let is : s.number ≡ max_whole = omega (arith, c.in_default.ensures, c.value.ensures.bound, number) in
+    let is : s.number ≡ max_whole = omega (arith, c.in_default.ensures, c.value-bound.ensures.bound, number) in
     beyond_on keeper c.args.running s c.args.line.now before after c.is_stored.ensures is r.0 turn t r.1 goes
 
 pub returns-then-value : goal.returns-then-value
