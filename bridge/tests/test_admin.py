@@ -55,7 +55,6 @@ class AdminTest(unittest.IsolatedAsyncioTestCase):
                 self.assertTrue((await response.json())["error"])
                 return response.status
 
-
     async def next_event(self, events: aiohttp.ClientResponse) -> Members:
         while True:
             line = await asyncio.wait_for(events.content.readline(), 10)

@@ -121,7 +121,6 @@ class Orders:
         if outcome.event["event"] == "tick" and not self._configuration.is_operator:
             self._tasks.begin(self._do_what_is_due)
 
-
     async def _do_what_is_due(self) -> None:
         now, node = self._now(), self._events.node
         for request, operator in self._state.query(
