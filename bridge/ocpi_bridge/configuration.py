@@ -10,14 +10,44 @@ from collections.abc import Iterable
 from dataclasses import dataclass, replace
 from decimal import Decimal
 from pathlib import Path
-from typing import Any, NoReturn
+from typing import Any, NoReturn, TypedDict
 
 import fastjsonschema
 
-from .json_text import Members, NotJson, Number, NumberTooLarge, read_json, write_json
+from .json_text import NotJson, Number, NumberTooLarge, read_json, write_json
+from .records import Setup, Site
 
 USUAL_MAX_KW = 400
 SCHEMA = Path(__file__).parents[1] / "configuration.schema.json"
+
+
+class ConnectorEntry(TypedDict, total=False):
+    """A connector in the file, as the schema wants it. So are the other entries."""
+
+    evse_uid: str
+    connector_id: str
+    max_kw: int | Number
+
+
+class ChargePointEntry(TypedDict, total=False):
+    id: str
+    password: str
+    connectors: dict[str, ConnectorEntry]
+
+
+class OcppEntry(TypedDict):
+    listen: str
+    charge_points: list[ChargePointEntry]
+
+
+class PartnerEntry(TypedDict, total=False):
+    party: str
+    kind: str
+    token: str
+    their_token: str
+    versions_url: str
+    token_base64: bool
+    own_references: bool
 
 
 class WrongConfiguration(Exception):
@@ -108,8 +138,8 @@ class Configuration:
     admin: str
     partners: tuple[PartnerSettings, ...]
     clock_factor: float
-    site: Members | None
-    setup: Members
+    site: Site | None
+    setup: Setup
     is_restored: bool = False
 
     @property
@@ -202,7 +232,7 @@ def spelled(name: str, names: Iterable[str]) -> str | None:
     return next((known for known in names if known.upper() == name.upper()), None)
 
 
-def _sites(setup: Any) -> dict[str, Members | None]:
+def _sites(setup: Setup) -> dict[str, Site | None]:
     """The site of each party of a setup. Only what the bridge itself needs is tried here: the node reads the rest."""
     try:
         return {str(node["party"]): node.get("site") for node in setup["nodes"]}
@@ -210,7 +240,7 @@ def _sites(setup: Any) -> dict[str, Members | None]:
         refuse("node.setup", "no setup of nodes, each with its party")
 
 
-def _ocpp(ocpp: Members, site: Members) -> OcppSettings:
+def _ocpp(ocpp: OcppEntry, site: Site) -> OcppSettings:
     evses = {evse["uid"]: [connector["id"] for connector in evse["connectors"]]
              for location in site["locations"] for evse in location["evses"]}
     charge_points: dict[str, ChargePointSettings] = {}
@@ -224,7 +254,7 @@ def _ocpp(ocpp: Members, site: Members) -> OcppSettings:
     return OcppSettings(ocpp["listen"], charge_points)
 
 
-def _connector(connector: Members, path: str, evses: dict[str, list[str]]) -> ConnectorSettings:
+def _connector(connector: ConnectorEntry, path: str, evses: dict[str, list[str]]) -> ConnectorSettings:
     """Takes the EVSE out of those of the site that are free, so that none is used twice."""
     evse_uid = (spelled(connector["evse_uid"], evses)
                 or refuse(f"{path}.evse_uid", "not in the site, or that of another connector"))
@@ -233,7 +263,7 @@ def _connector(connector: Members, path: str, evses: dict[str, list[str]]) -> Co
     return ConnectorSettings(evse_uid, connector_id, Decimal(str(connector.get("max_kw", USUAL_MAX_KW))))
 
 
-def _partners(entries: list[Members], missing: list[str]) -> tuple[PartnerSettings, ...]:
+def _partners(entries: list[PartnerEntry], missing: list[str]) -> tuple[PartnerSettings, ...]:
     """The partners. An operator's are the providers of the setup, each once, and a provider's its operators.
 
     Several of kind `ocpi` may present one token: their routing headers tell which of them asks.
@@ -250,8 +280,7 @@ def _partners(entries: list[Members], missing: list[str]) -> tuple[PartnerSettin
         for name in ("token_base64", "own_references"):
             if name in entry and entry["kind"] != "ocpi":
                 refuse(f"{path}.{name}", "only of a partner of kind ocpi")
-        members: Members = {**entry, "party": party}
-        partner = PartnerSettings(**members)
+        partner = replace(PartnerSettings(**entry), party=party)
         if any(partner.token == other.token and ((partner.kind, other.kind) != ("ocpi", "ocpi")
                                                  or partner.token_base64 != other.token_base64) for other in found):
             refuse(f"{path}.token", "that of another partner")

@@ -1,5 +1,5 @@
-"""What stands in the lines of a node: events, packets with their bodies, and `done`. Of each those members that the
-bridge reads. A record of any kind has them all, and which are there its kind tells (docs/PROTOCOL.md)."""
+"""What stands in the lines of a node: the setup, events, packets with their bodies, and `done`. Of each those members
+that the bridge reads. A record of any kind has them all, and which are there its kind tells (docs/PROTOCOL.md)."""
 from typing import TypedDict
 
 from .json_text import Number
@@ -107,3 +107,50 @@ class Done(TypedDict, total=False):
     event: int
     serial: int
     packets: int
+    rows: int
+
+
+class Connector(TypedDict, total=False):
+    """A connector of a setup, or of OCPI's EVSE, which has what else OCPI wants."""
+
+    id: str
+    max_voltage: int
+    max_amperage: int
+    last_updated: str
+
+
+class Evse(TypedDict, total=False):
+    """An EVSE of a setup, or of OCPI's Location, which has its `status` too."""
+
+    uid: str
+    connectors: list[Connector]
+    status: str
+    last_updated: str
+
+
+class Location(TypedDict, total=False):
+    """A location of a setup, with `latitude` and `longitude`, or OCPI's Location."""
+
+    id: str
+    address: str
+    city: str
+    latitude: str
+    longitude: str
+    country_code: str
+    party_id: str
+    coordinates: dict[str, str]
+    evses: list[Evse]
+    last_updated: str
+
+
+class Site(TypedDict):
+    locations: list[Location]
+
+
+class SetupNode(TypedDict, total=False):
+    party: str
+    site: Site | None
+
+
+class Setup(TypedDict):
+    nodes: list[SetupNode]

@@ -17,7 +17,7 @@ from ocpi_bridge.ocpi.objects import Objects
 from ocpi_bridge.ocpi.orders import Orders
 from ocpi_bridge.ocpi.partners import Partners
 from ocpi_bridge.ocpi.requests import Requests
-from ocpi_bridge.records import Body, Event
+from ocpi_bridge.records import Body, Event, Setup
 from ocpi_bridge.state import State
 
 from .ocpi_party import Answer, OcpiParty, Received, answered
@@ -32,7 +32,7 @@ def configuration(folder: Path, is_operator: bool, partner: PartnerSettings) -> 
     settings = NodeSettings(folder / "program", node["party"], "", folder / "node.db", None)
     loopback = "127.0.0.1:0"
     return Configuration(settings, folder / "bridge.db", OcpiSettings(loopback, BRIDGE_URL, "Business"), None, loopback,
-                         (partner,), 1.0, node.get("site"), {"nodes": [node]})
+                         (partner,), 1.0, node.get("site"), cast(Setup, {"nodes": [node]}))
 
 
 def with_serial(data: object = None, status_code: int = 1000, serial: int = 41) -> Answer:

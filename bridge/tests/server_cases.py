@@ -27,7 +27,7 @@ from ocpi_bridge.ocpi.objects import Objects
 from ocpi_bridge.ocpi.partners import Partners
 from ocpi_bridge.ocpi.requests import Requests
 from ocpi_bridge.ocpi.server import Server
-from ocpi_bridge.records import Body, Event
+from ocpi_bridge.records import Body, Event, Setup
 from ocpi_bridge.state import State
 
 from .running import PROGRAM, Members, operator, provider
@@ -76,7 +76,7 @@ class ServerCase(unittest.IsolatedAsyncioTestCase):
             "127.0.0.1:0",
             (PartnerSettings(self.node_partner, "node", "node token", "theirs", versions),
              PartnerSettings(self.ocpi_partner, "ocpi", "ocpi token", "theirs too", versions),
-             PartnerSettings(new, "ocpi", "new token", None, None)), 1.0, site, {"nodes": nodes})
+             PartnerSettings(new, "ocpi", "new token", None, None)), 1.0, site, cast(Setup, {"nodes": nodes}))
         await self._start()
 
     async def _start(self) -> None:

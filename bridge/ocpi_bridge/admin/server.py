@@ -21,7 +21,7 @@ from ..backup import copy_together
 from ..clock import milliseconds_of
 from ..configuration import Configuration, WrongConfiguration
 from ..events import Events
-from ..json_text import Members, NotJson, NumberTooLarge, read_json, write_json
+from ..json_text import JsonObject, NotJson, NumberTooLarge, read_json, write_json
 from ..metrics import Metrics
 from ..node.feeder import NodeEnded, OutcomeLost
 from ..node.revocable import RevocableFeeder
@@ -167,7 +167,7 @@ class Admin:
         except (KeyError, ValueError, OverflowError):
             raise web.HTTPBadRequest(text="date_from, date_to: wanted are two moments") from None
 
-    async def _body(self, request: web.Request, is_operators: bool | None = None) -> Members:
+    async def _body(self, request: web.Request, is_operators: bool | None = None) -> JsonObject:
         """The JSON object that a request carries, where the node has the role that the request wants."""
         if not self._state.room.is_there:
             raise NoRoom()

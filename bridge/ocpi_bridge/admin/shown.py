@@ -1,6 +1,6 @@
 """What the page shows, and /events tells: all of it in one object."""
 from ..configuration import Configuration
-from ..json_text import Members
+from ..json_text import JsonObject
 from ..ocpi.client import Client
 from ..ocpi.locations import Locations
 from ..ocpi.objects import Objects
@@ -19,11 +19,11 @@ class Shown:
         self._configuration, self._objects, self._outstanding = configuration, objects, outstanding
         self._client, self._locations, self._central_system = client, locations, central_system
 
-    def all(self) -> Members:
+    def all(self) -> JsonObject:
         """Party, role, sessions, bills, partners; then an operator's EVSEs, charge points, warnings and open commands,
         or a provider's operators, tokens, commands and debts."""
         configuration, objects = self._configuration, self._objects
-        shown: Members = {"party": configuration.node.party, "is_operator": configuration.is_operator,
+        shown: JsonObject = {"party": configuration.node.party, "is_operator": configuration.is_operator,
                           **{module: objects.newest(module, MOST_SHOWN) for module in ("sessions", "cdrs")},
                           "partners": self._client.told()}
         if self._locations is not None:
@@ -35,7 +35,7 @@ class Shown:
                 "tokens": objects.newest("tokens", MOST_TOKENS), "commands": self._outstanding.commands(MOST_SHOWN),
                 "owed": self._outstanding.owed()}
 
-    def _evses(self, locations: Locations) -> list[Members]:
+    def _evses(self, locations: Locations) -> list[JsonObject]:
         """The EVSEs with the sessions that stand there."""
         return [{"uid": evse["uid"], "location": f"{location['address']}, {location['city']}", "status": evse["status"],
                  "session": self._objects.living_session(evse["uid"])}

@@ -7,9 +7,12 @@ from collections.abc import Callable, Iterator
 from contextlib import contextmanager, suppress
 from functools import partial
 from pathlib import Path
+from typing import cast
 
 from ..configuration import NodeSettings
-from ..json_text import Members, read_json
+from ..events import Packet
+from ..json_text import read_json
+from ..records import Done
 from ..room import FULL
 from ..state import State
 from .transcript import Transcript
@@ -65,7 +68,7 @@ class Child:
         """
         await self.write(self._settings.setup_line)
         line = await self._next_line()
-        opened: Members = read_json(line)
+        opened: Done = read_json(line)
         if opened["done"] != "opened":
             self._refusal, fault = 2, "the node refuses its setup"
         elif opened["serial"] < last_seen:
@@ -80,7 +83,7 @@ class Child:
             raise ChildEnded()
         if self._settings.transcript is not None:
             await self._record(partial(self._begin_transcript, self._settings.transcript, line))
-        return int(opened["serial"])
+        return opened["serial"]
 
     def _begin_transcript(self, path: Path, line: bytes) -> None:
         self._transcript = Transcript(path)
@@ -113,16 +116,17 @@ class Child:
         except ConnectionError:
             raise ChildEnded() from None
 
-    async def read(self) -> Members:
-        """The next line that the program writes. Raises ChildEnded where there is none, or where it was cut, and
-        NoRoom."""
+    async def read(self) -> Packet | Done:
+        """What the next line says that the program writes. Raises ChildEnded where there is none, or where it was cut,
+        and NoRoom."""
         line = await self._next_line()
         if self._transcript is not None:
             self.was_cut = True
             with self._noting_room():
                 self._transcript.append(line)
             self.was_cut = False
-        return dict(read_json(line))
+        told = read_json(line)
+        return Packet.of(told) if "kind" in told else cast(Done, told)
 
     async def _next_line(self) -> bytes:
         line = await self._output.readline()

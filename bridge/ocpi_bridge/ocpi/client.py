@@ -7,15 +7,15 @@ import asyncio
 import logging
 from collections.abc import Awaitable, Callable
 from contextlib import suppress
-from typing import Any, cast
+from typing import cast
 
 from ..clock import Clock, milliseconds_of, moment_of
 from ..configuration import Configuration
 from ..events import Events, Outcome, Packet
-from ..json_text import Members, NotJson, read_json, write_json
+from ..json_text import JsonObject, NotJson, read_json, write_json
 from ..node.feeder import NodeEnded, repeated
 from ..parties import party_key
-from ..records import Body, Event
+from ..records import Body, Data, Event
 from ..room import NoRoom
 from ..state import State
 from ..tasks import Tasks
@@ -68,7 +68,7 @@ class Client:
                 self._workers.begin(self._work, key, number)
         return self._lanes[key]
 
-    def told(self) -> list[Members]:
+    def told(self) -> list[JsonObject]:
         """Each partner: how it stands (`state`), and how many requests are `waiting` for it or under way."""
         return [{"party": partner.party, "kind": partner.kind, "registered": partner.is_registered,
                  "versions_url": partner.versions_url, "state": self._state_of(partner),
@@ -181,12 +181,12 @@ class Client:
             await self.deliver(answer)
         return response.status < 500 and response.status not in TRANSIENT
 
-    async def _request(self, packet: Packet, partner: Partner) -> tuple[str, str, Members | None]:
+    async def _request(self, packet: Packet, partner: Partner) -> tuple[str, str, object]:
         """The URL of the request that a packet is, the same as logs tell it, and its body. Raises NoResponse.
 
         No log tells a driver's token.
         """
-        form, body = FORMS[packet.kind], cast(Members, packet.body)
+        form, body = FORMS[packet.kind], packet.body.copy()
         if packet.kind == "command_result":
             url: str | None = body["response_url"]
             if partner.kind == "node":
@@ -196,10 +196,11 @@ class Client:
                 raise NoAddress("its result has no address")
             return url, url, {"result": body["result"]}
         if packet.kind in COMMANDS:
-            body = {**body, "response_url": self._url + RESULTS_PATH + body["response_url"].rpartition("/")[2]}
+            body["response_url"] = self._url + RESULTS_PATH + body["response_url"].rpartition("/")[2]
         address = await self.endpoint(partner, form.module, form.role)
+        hidden: JsonObject = {**packet.body, "uid": "...", "token_uid": "..."}
         url, told = (address.rstrip("/") + path_of(form.path, members) if form.path else address
-                     for members in (body, {**body, "uid": "...", "token_uid": "..."}))
+                     for members in (body, hidden))
         return url, told, body.get("location") if packet.kind == "authorize" else body
 
 
@@ -236,18 +237,20 @@ def answer_of(packet: Packet, kind: str, response: Response, clock: Clock) -> Pa
         with suppress(ValueError, OverflowError):
             body["timestamp"] = moment_of(milliseconds_of(str(response.body.get("timestamp"))) / 1000)
     if data is not None and status_code == SUCCESS and answering != "ack":
-        body["data"] = _restricted(data, packet.body.get("location")) if question and kind == "ocpi" else data
+        body["data"] = cast(Data, data)
+        if question and kind == "ocpi" and isinstance(data, dict) and data.get("allowed") == "ALLOWED":
+            body["data"]["allowed"] = _restricted(body["data"], packet.body.get("location"))
     return Packet(packet.receiver, packet.sender, serial or 0, packet.request, answering, body)
 
 
-def _restricted(data: Any, asked: Any) -> Any:
-    """An AuthorizationInfo with NOT_ALLOWED for an ALLOWED whose `location` lacks the EVSE that was asked about."""
-    if not isinstance(data, dict) or data.get("allowed") != "ALLOWED" or data.get("location") is None:
-        return data
-    return data if _evses(asked) <= _evses(data["location"]) else {**data, "allowed": "NOT_ALLOWED"}
+def _restricted(data: Data, asked: object) -> str:
+    """What an AuthorizationInfo of ALLOWED says: NOT_ALLOWED where its `location` lacks the EVSE in question."""
+    allowed_at = data.get("location")
+    return "ALLOWED" if allowed_at is None or _evses(asked) <= _evses(allowed_at) else "NOT_ALLOWED"
 
 
-def _evses(location: Any) -> set[tuple[str, str]]:
+def _evses(location: object) -> set[tuple[str, str]]:
     """The EVSEs of LocationReferences, each with its location, as they are compared."""
-    uids = location.get("evse_uids") if isinstance(location, dict) else None
-    return {(str(location.get("location_id")).upper(), str(uid).upper()) for uid in uids or []}
+    if not isinstance(location, dict):
+        return set()
+    return {(str(location.get("location_id")).upper(), str(uid).upper()) for uid in location.get("evse_uids") or []}

@@ -14,9 +14,9 @@ from aiohttp import web
 
 from ..clock import milliseconds_of
 from ..events import Events, Outcome, Packet
-from ..json_text import Members, read_json, write_json
+from ..json_text import JsonObject, read_json, write_json
 from ..parties import party_key, party_of, same_party
-from ..records import Body, Data, Event
+from ..records import Body, Event
 from .envelope import (INVALID, SERVER_ERROR, SUCCESS, UNKNOWN_LOCATION, UNKNOWN_TOKEN, Refusal, answer, is_printable,
                        refusal_of)
 from .locations import Locations
@@ -102,7 +102,7 @@ class Interfaces:
         return await self._deliver(request, "command_result", {**await _members(request), "response_url": url})
 
     async def authorize(self, request: web.Request) -> web.Response:
-        body: Members = {"token_uid": _segments(request)[0]}
+        body: JsonObject = {"token_uid": _segments(request)[0]}
         if "type" in request.query:
             body["type"] = request.query["type"]
         if (await request.read()).strip():
@@ -157,7 +157,7 @@ class Interfaces:
             raise Refusal(404, UNKNOWN_TOKEN if module == "tokens" else UNKNOWN_LOCATION, f"{module}: not held")
         return found
 
-    async def _deliver(self, request: web.Request, kind: str, body: Members) -> web.Response:
+    async def _deliver(self, request: web.Request, kind: str, body: JsonObject) -> web.Response:
         """Delivers a packet of a kind and a body, and answers as the node does. Raises Refusal."""
         partner: Partner = request["partner"]
         serial, number = await self._numbers(request, partner)
@@ -185,7 +185,8 @@ class Interfaces:
         if kind == "post_cdr" and status_code == SUCCESS:
             headers["Location"] = f"{self._url}{RECEIVER}/cdrs{path_of(OBJECT_PATH, body)}"
         if partner.kind == "ocpi" and "location" in body and data is not None and data.get("allowed") == "ALLOWED":
-            data = cast(Data, {**data, "location": body["location"]})
+            data = data.copy()
+            data["location"] = body["location"]
         # OCPI wants 404 of a question about a token that is not known. To a node's bridge it is a response like others.
         is_unknown = kind == "authorize" and status_code == UNKNOWN_TOKEN and partner.kind == "ocpi"
         return answer(sent.body["timestamp"], data, status_code, http_status=404 if is_unknown else 200,
@@ -246,7 +247,7 @@ def _token_type(request: web.Request) -> str:
     return request.query.get("type", "RFID")
 
 
-async def _members(request: web.Request) -> Members:
+async def _members(request: web.Request) -> JsonObject:
     """The body. Raises Refusal where it is no object, and NotJson, UnicodeDecodeError and NumberTooLarge."""
     body = read_json((await request.read()).decode())
     if not isinstance(body, dict):
@@ -254,7 +255,7 @@ async def _members(request: web.Request) -> Members:
     return body
 
 
-def _compare(request: web.Request, body: Members) -> None:
+def _compare(request: web.Request, body: JsonObject) -> None:
     """Raises Refusal where a body says otherwise than the path. What it does not say the node asks for."""
     module = _module(request)
     named = dict(zip(("country_code", "party_id", OBJECTS[OBJECT_KINDS[module]][1]), _segments(request)))

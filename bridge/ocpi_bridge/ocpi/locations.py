@@ -1,10 +1,12 @@
 """The locations of an operator, as OCPI has them: read off the setup, with the status of each EVSE."""
 from collections.abc import Callable
 from contextlib import suppress
+from typing import cast
 
 from ..clock import Clock, milliseconds_of
-from ..json_text import Members, write_json
+from ..json_text import write_json
 from ..parties import codes
+from ..records import Connector, Evse, Location, Site
 from ..room import NoRoom
 from ..state import State
 from .objects import Objects, Part
@@ -13,14 +15,14 @@ from .objects import Objects, Part
 class Locations:
     """Makes what is asked for anew each time, and keeps since when each place is as it is."""
 
-    def __init__(self, state: State, clock: Clock, objects: Objects, party: str, site: Members,
+    def __init__(self, state: State, clock: Clock, objects: Objects, party: str, site: Site,
                  evse_status: Callable[[str], str | None]) -> None:
         """`evse_status` tells OUTOFORDER or INOPERATIVE of the uid of an EVSE, or None where it may be used."""
         self._state, self._clock, self._objects = state, clock, objects
         self._party, self._evse_status = party, evse_status
         self.take(site)
 
-    def take(self, site: Members) -> None:
+    def take(self, site: Site) -> None:
         """Takes a site in place of that of before."""
         self._site = site
         self._setups = {location["id"].upper(): location for location in site["locations"]}
@@ -31,19 +33,19 @@ class Locations:
         """Whether the site has an EVSE of a uid."""
         return any(uid == evse_uid.upper() for _, uid in self._evse_setups)
 
-    def all(self) -> list[Members]:
+    def all(self) -> list[Location]:
         """All locations, by `last_updated` and then by id."""
         with self._state.transaction():
             locations = [self._location(location) for location in self._site["locations"]]
         return sorted(locations, key=lambda location: (location["last_updated"], location["id"].upper()))
 
-    def page(self, part: Part) -> tuple[int, list[Members]]:
+    def page(self, part: Part) -> tuple[int, list[Location]]:
         """How many locations there are by the dates of a part, and those of the part."""
         found = [location for location in self.all()
                  if part.date_from <= milliseconds_of(location["last_updated"]) < part.date_to]
         return len(found), found[part.offset:part.offset + part.limit]
 
-    def find(self, *identifiers: str) -> Members | None:
+    def find(self, *identifiers: str) -> Location | Evse | Connector | None:
         """A location, or an EVSE of one, or a connector of that, by their ids. No other is made."""
         names = [identifier.upper() for identifier in identifiers]
         location, evse = self._setups.get(names[0]), self._evse_setups.get((names[0], (*names, "")[1]))
@@ -57,22 +59,25 @@ class Locations:
             return found
         return next((connector for connector in found["connectors"] if connector["id"].upper() == names[2]), None)
 
-    def _location(self, setup: Members) -> Members:
+    def _location(self, setup: Location) -> Location:
         """A location: members that no node reads are as they stand in the setup."""
         country, identifier = codes(self._party)
-        location: Members = {
-            "time_zone": "UTC", **setup, "country_code": country, "party_id": identifier, "publish": True}
-        evses = [self._evse(setup["id"], evse) for evse in location.pop("evses")]
-        location["coordinates"] = {name: location.pop(name) for name in ("latitude", "longitude")}
+        kept = {name: value for name, value in setup.items() if name not in ("evses", "latitude", "longitude")}
+        location = cast(Location, {
+            "time_zone": "UTC", **kept, "country_code": country, "party_id": identifier, "publish": True,
+            "coordinates": {"latitude": setup["latitude"], "longitude": setup["longitude"]}})
         since = self._since(setup["id"], location)
-        return {**location, "evses": evses, "last_updated": max([since, *(evse["last_updated"] for evse in evses)])}
+        location["evses"] = [self._evse(setup["id"], evse) for evse in setup["evses"]]
+        location["last_updated"] = max([since, *(evse["last_updated"] for evse in location["evses"])])
+        return location
 
-    def _evse(self, location_id: str, setup: Members) -> Members:
-        evse = {**setup, "status": self._status(setup["uid"])}
-        since = self._since(f"{location_id}\n{setup['uid']}", evse)
-        connectors = [{"max_voltage": 0, "max_amperage": 0, **connector, "last_updated": since}
-                      for connector in setup["connectors"]]
-        return {**evse, "connectors": connectors, "last_updated": since}
+    def _evse(self, location_id: str, setup: Evse) -> Evse:
+        evse = setup.copy()
+        evse["status"] = self._status(setup["uid"])
+        since = evse["last_updated"] = self._since(f"{location_id}\n{setup['uid']}", evse)
+        evse["connectors"] = [cast(Connector, {"max_voltage": 0, "max_amperage": 0, **connector, "last_updated": since})
+                              for connector in setup["connectors"]]
+        return evse
 
     def _status(self, evse_uid: str) -> str:
         unusable, session = self._evse_status(evse_uid), self._objects.living_session(evse_uid)
@@ -82,7 +87,7 @@ class Locations:
             return "CHARGING" if session["status"] == "ACTIVE" else "BLOCKED"
         return self._objects.claims.status(evse_uid, milliseconds_of(self._clock.moment())) or "AVAILABLE"
 
-    def _since(self, name: str, place: Members) -> str:
+    def _since(self, name: str, place: Location | Evse) -> str:
         """The moment at which a place was first seen as it is now."""
         text, moment = write_json(place), self._clock.moment()
         with suppress(NoRoom):

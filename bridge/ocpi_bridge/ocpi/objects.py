@@ -6,11 +6,10 @@ sent or accepted. Beside these stand the EVSEs that commands claim.
 import logging
 from dataclasses import dataclass
 from decimal import Decimal
-from typing import cast
 
 from ..clock import milliseconds_of
 from ..events import Outcome, Packet
-from ..json_text import Members, Number, read_json, write_json
+from ..json_text import JsonObject, Number, read_json, write_json
 from ..parties import party_key, party_of, same_party
 from ..records import Body
 from ..state import State
@@ -63,7 +62,7 @@ class Objects:
             self._keep(packet, packet.sender)
 
     def _keep(self, packet: Packet, partner: str) -> None:
-        (module, identifier), body = OBJECTS[packet.kind], packet.body
+        module, body = OBJECTS[packet.kind][0], packet.body
         status, evse_uid = (body["status"], body["evse_uid"].upper()) if module == "sessions" else ("", "")
         self._state.query(
             """INSERT INTO object_of (module, party, identifier, token_type, partner, last_updated, status, evse_uid,
@@ -71,7 +70,7 @@ class Objects:
             ON CONFLICT DO UPDATE SET partner = excluded.partner, last_updated = excluded.last_updated,
                 status = excluded.status, evse_uid = excluded.evse_uid, body = excluded.body
             WHERE excluded.last_updated > last_updated AND status NOT IN ('COMPLETED', 'INVALID')""",
-            module, party_key(_party(body)), _text(body, identifier).upper(),
+            module, party_key(_party(body)), _identifier(module, body),
             body["type"] if module == "tokens" else "",
             party_key(partner), milliseconds_of(body["last_updated"]), status, evse_uid, write_json(body))
 
@@ -121,7 +120,7 @@ class Objects:
         """The objects of a module, the newest first: all of them, or so many at most."""
         return self._bodies("module = ? ORDER BY last_updated DESC, identifier DESC LIMIT ?", module, most)
 
-    def totals(self, date_from: int, date_to: int) -> list[Members]:
+    def totals(self, date_from: int, date_to: int) -> list[JsonObject]:
         """Of the bills by their `last_updated`, in each currency: how many there are and how many were taken back, and
         their energy and price without those."""
         rows = self._state.query(
@@ -163,14 +162,12 @@ def ten_thousandths(amount: int) -> Number:
 
 def _key(module: str, body: Body) -> tuple[str, str, str, str]:
     """What an object of a module is known by."""
-    identifier = next(own for kept, own in OBJECTS.values() if kept == module)
-    return (module, party_key(_party(body)), _text(body, identifier).upper(),
+    return (module, party_key(_party(body)), _identifier(module, body),
             str(body.get("type", "RFID")) if module == "tokens" else "")
 
 
-def _text(body: Body, name: str) -> str:
-    """The member of a name."""
-    return str(cast(Members, body)[name])
+def _identifier(module: str, body: Body) -> str:
+    return str(body["uid"] if module == "tokens" else body["id"]).upper()
 
 
 def _party(body: Body) -> str:

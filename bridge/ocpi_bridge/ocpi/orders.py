@@ -6,15 +6,13 @@ and whose result does not come, gets the result TIMEOUT.
 """
 import logging
 from collections.abc import Awaitable, Callable
-from typing import Any
 
 from ..clock import milliseconds_of
 from ..configuration import Configuration
 from ..events import Events, Outcome, Packet
-from ..json_text import Members
 from ..node.feeder import NodeEnded, OutcomeLost
 from ..parties import party_key, same_party
-from ..records import Body, Event, Session
+from ..records import Body, Data, Event, Session
 from ..state import State
 from ..tasks import Tasks
 from .objects import Objects
@@ -64,7 +62,7 @@ class Orders:
     def _note_delivered(self, outcome: Outcome, packet: Packet) -> None:
         operator, body = party_key(packet.sender), packet.body
         if packet.kind == "command_response":
-            data: Any = body.get("data") if isinstance(body.get("data"), dict) else {}
+            data: Data = body["data"] if isinstance(body.get("data"), dict) else {}
             until = None
             if data.get("result") == "ACCEPTED":
                 timeout = number_of(str(data.get("timeout"))) or USUAL_TIMEOUT

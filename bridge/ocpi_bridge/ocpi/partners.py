@@ -8,16 +8,12 @@ another process may register.
 import hashlib
 import secrets
 from collections.abc import Mapping
-from dataclasses import asdict, dataclass, field, replace
+from dataclasses import dataclass, field, fields, replace
 
 from ..configuration import Configuration, PartnerSettings
-from ..json_text import Members
 from ..parties import party_key, same_party
 from ..state import State
 
-# What is kept of a registration, of which the first ones count once it is decided.
-DECIDED = ("token", "their_token", "versions_url", "used")
-KEPT = (*DECIDED, "former", "offer", "details_of")
 # The URL of each module and role (`SENDER` or `RECEIVER`).
 Endpoints = Mapping[tuple[str, str], str]
 
@@ -28,6 +24,23 @@ class Partner(PartnerSettings):
 
     endpoints: Endpoints = field(default_factory=dict)
     is_registered: bool = False
+
+
+@dataclass(frozen=True)
+class Registration:
+    """What is kept of a partner. The four behind `is_decided` count only where that is so."""
+
+    is_decided: bool = False
+    token: str | None = None
+    their_token: str | None = None
+    versions_url: str | None = None
+    used: str | None = None
+    former: str | None = None
+    offer: str | None = None
+    details_of: str | None = None
+
+
+COLUMNS = ", ".join(each.name for each in fields(Registration))
 
 
 class Partners:
@@ -82,24 +95,26 @@ class Partners:
             key = party_key(settings.party)
             kept = self._kept(key)
             partner = self._partners[key] = self._partner(settings, kept)
-            unused = None if kept.get("used", settings.token) == settings.token else settings.token
+            unused = settings.token if kept.is_decided and kept.used != settings.token else None
             registering = Partner(settings.party, settings.kind, token_base64=settings.token_base64)
-            for known, shown in ((kept.get("former"), partner), (partner.token, partner),
-                                 (kept.get("offer"), registering), (unused, registering)):
+            for known, shown in ((kept.former, partner), (partner.token, partner),
+                                 (kept.offer, registering), (unused, registering)):
                 if known:
                     digest = self._digest(known, settings.token_base64)
                     self._shown.setdefault(digest, {})[key] = replace(shown, token=known)
-            if kept.get("former"):
+            if kept.former:
                 self._former.add(key)
         self._read_of = read_of
         return self._partners
 
-    def _partner(self, settings: PartnerSettings, kept: Members) -> Partner:
+    def _partner(self, settings: PartnerSettings, kept: Registration) -> Partner:
         """A partner by its settings, and by what is kept in the place of them."""
-        known: Members = {name: kept.get(name, value) for name, value in asdict(settings).items()}
-        listed = kept.get("endpoints", []) if kept.get("details_of") == known["versions_url"] else []
-        return Partner(**known, endpoints={(module, role): url for module, role, url in listed},
-                       is_registered=known["their_token"] is not None)
+        known: Registration | PartnerSettings = kept if kept.is_decided else settings
+        listed = self._state.query("SELECT module, role, url FROM endpoint WHERE party = ?", party_key(settings.party))
+        return Partner(settings.party, settings.kind, known.token, known.their_token, known.versions_url,
+                       settings.token_base64, settings.own_references,
+                       {(module, role): url for module, role, url in listed if kept.details_of == known.versions_url},
+                       known.their_token is not None)
 
     def register(self, party: str, token: str, their_token: str | None, versions_url: str | None,
                  endpoints: Endpoints, former: str | None = None) -> None:
@@ -135,14 +150,9 @@ class Partners:
                 self._state.query("INSERT INTO endpoint (party, module, role, url) VALUES (?, ?, ?, ?)",
                                   party_key(party), module, role, url)
 
-    def _kept(self, key: str) -> Members:
-        """What the state has of a partner: only the members that go before its configuration."""
-        for is_decided, *values in self._state.query(
-                f"SELECT is_decided, {', '.join(KEPT)} FROM registration WHERE party = ?", key):
-            kept: Members = {name: value for name, value in zip(KEPT, values) if is_decided or name not in DECIDED}
-            kept["endpoints"] = self._state.query("SELECT module, role, url FROM endpoint WHERE party = ?", key)
-            return kept
-        return {}
+    def _kept(self, key: str) -> Registration:
+        rows = self._state.query(f"SELECT {COLUMNS} FROM registration WHERE party = ?", key)
+        return Registration(*rows[0]) if rows else Registration()
 
     def _keep(self, party: str, **members: object) -> None:
         self._read_of = None
