@@ -21,7 +21,10 @@ from .ocpi.locations import Locations
 from .ocpi.objects import Objects
 from .ocpi.orders import Orders
 from .ocpi.partners import Partners
+from .ocpi.places import Places
 from .ocpi.pulling import Pulling
+from .ocpi.pushing import Pushing
+from .ocpi.receiving import Receiving
 from .ocpi.requests import Requests
 from .ocpi.server import Server
 from .ocpp.central_system import CentralSystem
@@ -47,19 +50,23 @@ class Bridge:
         self._requests = requests = Requests(state)
         self._exchange = exchange = Exchange(clock, metrics, state.synced)
         orders = Orders(configuration, state, events, objects, requests, feeder.feed)
-        self._client = Client(configuration, state, partners, exchange, requests, events, feeder.feed, orders)
-        self._pulling = Pulling(self._client, objects, state, configuration.is_operator)
         ocpp = configuration.ocpp
         self._central_system = central_system = CentralSystem(
             ocpp or OcppSettings("", {}), events, state, feeder, objects, metrics.count)
         self._locations = locations = None if configuration.site is None else Locations(
             state, clock, objects, configuration.node.party, configuration.site,
             central_system.evse_status if ocpp is not None else lambda _: None)
+        self._client = client = Client(configuration, state, partners, exchange, requests, events, feeder.feed, orders,
+                                       None if locations is None else locations.tariffs)
+        places = Places(state)
+        self._pulling = Pulling(client, objects, state, configuration.is_operator, places)
+        self._pushing = None if locations is None else Pushing(client, locations, state, central_system.connected_count)
         interfaces = Interfaces(
-            configuration.ocpi.url, events, objects, requests, locations, feeder.feed, self._client.takes_orders,
+            configuration.ocpi.url, events, objects, requests, locations, feeder.feed, client.takes_orders,
             feeder.revoke, *([central_system.expect_late] if ocpp is not None else ()))
-        server = Server(events, partners, Credentials(configuration, partners, exchange), interfaces, metrics, state)
-        admin = Admin(configuration, state, events, feeder, objects, self._client, metrics, locations, central_system,
+        server = Server(events, partners, Credentials(configuration, partners, exchange), interfaces, metrics, state,
+                        Receiving(clock, places) if locations is None else None)
+        admin = Admin(configuration, state, events, feeder, objects, client, metrics, locations, places, central_system,
                       self.reload)
         self._listeners = [Listener("ocpi", configuration.ocpi.listen, server.application()),
                            Listener("admin", configuration.admin, admin.application())]
@@ -89,6 +96,8 @@ class Bridge:
             self._configuration.become(configuration)
             if self._locations is not None and configuration.site is not None:
                 self._locations.take(configuration.site)
+            if self._pushing is not None:
+                self._pushing.tell_again()
             if configuration.ocpp is not None:
                 self._central_system.take(configuration.ocpp)
         await self._feeder.reload(configuration.node, take)
@@ -142,6 +151,8 @@ class Bridge:
         async with asyncio.TaskGroup() as group:
             group.create_task(self._client.run())
             group.create_task(self._pulling.run())
+            if self._pushing is not None:
+                group.create_task(self._pushing.run())
             group.create_task(self._requests.run())
             group.create_task(self._reload_each_time(asked))
 

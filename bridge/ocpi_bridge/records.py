@@ -75,6 +75,7 @@ class Body(Session, Answer, Command, total=False):
     session_id: str
     total_energy: int | Number
     credit: bool
+    tariffs: "list[Tariff]"
 
 
 PacketLine = TypedDict("PacketLine", {
@@ -114,8 +115,12 @@ class Connector(TypedDict, total=False):
     """A connector of a setup, or of OCPI's EVSE, which has what else OCPI wants."""
 
     id: str
+    standard: str
+    power_type: str
     max_voltage: int
     max_amperage: int
+    max_electric_power: int
+    tariff_ids: list[str]
     last_updated: str
 
 
@@ -123,6 +128,7 @@ class Evse(TypedDict, total=False):
     """An EVSE of a setup, or of OCPI's Location, which has its `status` too."""
 
     uid: str
+    evse_id: str
     connectors: list[Connector]
     status: str
     last_updated: str
@@ -131,19 +137,50 @@ class Evse(TypedDict, total=False):
 class Location(TypedDict, total=False):
     """A location of a setup, with `latitude` and `longitude`, or OCPI's Location."""
 
+    country_code: str
+    party_id: str
     id: str
     address: str
     city: str
     latitude: str
     longitude: str
-    country_code: str
-    party_id: str
-    coordinates: dict[str, str]
+    publish: bool
     evses: list[Evse]
     last_updated: str
 
 
-class Site(TypedDict):
+class PriceComponent(TypedDict):
+    type: str
+    price: int | Number
+    step_size: int
+
+
+class TariffElement(TypedDict):
+    price_components: list[PriceComponent]
+
+
+class Tariff(TypedDict, total=False):
+    country_code: str
+    party_id: str
+    id: str
+    currency: str
+    elements: list[TariffElement]
+    start_date_time: str
+    end_date_time: str
+    last_updated: str
+
+
+class PriceFrom(TypedDict):
+    """One of the `prices` of a site, from a moment on."""
+
+    start_date_time: str
+    price: int | Number
+
+
+class Site(TypedDict, total=False):
+    currency: str
+    price: int | Number
+    prices: list[PriceFrom]
     locations: list[Location]
 
 

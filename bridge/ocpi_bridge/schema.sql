@@ -60,8 +60,18 @@ CREATE TABLE IF NOT EXISTS list_under_way (
     party TEXT, module TEXT, page TEXT NOT NULL, pages INTEGER NOT NULL, latest INTEGER NOT NULL,
     PRIMARY KEY (party, module)) WITHOUT ROWID;
 
--- ocpi/locations.py
+-- ocpi/first_seen.py
 CREATE TABLE IF NOT EXISTS place (name TEXT PRIMARY KEY, text TEXT NOT NULL, since TEXT NOT NULL);
+
+-- ocpi/pushing.py
+CREATE TABLE IF NOT EXISTS place_told (
+    party TEXT, name TEXT, text TEXT NOT NULL, PRIMARY KEY (party, name)) WITHOUT ROWID;
+
+-- ocpi/places.py
+CREATE TABLE IF NOT EXISTS place_held (
+    module TEXT, party TEXT, identifier TEXT, last_updated INTEGER NOT NULL, body TEXT NOT NULL,
+    PRIMARY KEY (module, party, identifier)) WITHOUT ROWID;
+CREATE INDEX IF NOT EXISTS place_by_time ON place_held (module, last_updated);
 
 -- ocpp/site.py
 CREATE TABLE IF NOT EXISTS ocpp_evse (evse_uid TEXT PRIMARY KEY, status TEXT, service TEXT) WITHOUT ROWID;

@@ -148,6 +148,11 @@ class State:
             with closing(sqlite3.connect(self._path, timeout=0)) as connection, suppress(sqlite3.OperationalError):
                 connection.execute("PRAGMA wal_checkpoint(PASSIVE)").fetchall()
 
+    @property
+    def changes(self) -> int:
+        """Another number once this process has changed the file."""
+        return self._connection.total_changes
+
     def version(self) -> int:
         """Another number once another process has changed the file."""
         return int(self.query("PRAGMA data_version")[0][0])

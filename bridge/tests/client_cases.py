@@ -17,6 +17,7 @@ from ocpi_bridge.ocpi.objects import Objects
 from ocpi_bridge.ocpi.orders import Orders
 from ocpi_bridge.ocpi.partners import Partners
 from ocpi_bridge.ocpi.requests import Requests
+from ocpi_bridge.ocpi.tariffs import Tariffs
 from ocpi_bridge.records import Body, Event, Setup
 from ocpi_bridge.state import State
 
@@ -78,9 +79,13 @@ class ClientCase(unittest.IsolatedAsyncioTestCase):
         self.orders = Orders(self.configuration, self.state, events, Objects(self.state), self.requests, self.feed)
         self.client = Client(
             self.configuration, self.state, Partners(self.configuration, self.state), Exchange(clock, self.metrics),
-            self.requests, events, self.feed, self.orders)
+            self.requests, events, self.feed, self.orders, self.tariffs(clock))
         self.addAsyncCleanup(self.client.exchange.close)
         self.addCleanup(self.state.close)
+
+    def tariffs(self, clock: Clock) -> Tariffs | None:
+        """Those that the client names in bills."""
+        return None
 
     async def feed(self, event: Event) -> Outcome:
         """Takes an event, or fails in the ways that are named in `faults`, one after the other."""

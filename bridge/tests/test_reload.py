@@ -9,7 +9,7 @@ import aiohttp
 from .cases import PASSWORD, OperatorCase, ProviderCase
 from .charge_point_frames import ChargePoint
 from .ocpi_objects import start_session, token
-from .ocpi_party import now
+from .ocpi_party import Received, now
 from .running import Members, charge_point, eventually, operator, partner, provider
 
 
@@ -104,6 +104,25 @@ class OperatorReload(OperatorCase):
         setup = [operator("BE/BEC", ["E2", "E3"]), provider(self.provider.party), provider(self.other.party)]
         (self.bridge.folder / "setup.json").write_text(json.dumps({"nodes": setup}))
         self.bridge.configuration["ocpp"]["charge_points"] = [charge_point("CP1", ["E2"], PASSWORD)]
+
+    async def test_locations_and_tariffs_are_sent_anew(self) -> None:
+        def statuses(received: Received) -> dict[str, str]:
+            return {evse["uid"]: evse["status"] for evse in received.body["evses"]}
+        self.new.interfaces |= {"locations": "RECEIVER", "tariffs": "RECEIVER"}
+        self.change()
+        for _ in range(2):
+            self.assertEqual(200, (await self.reload())["status"])
+            self.assertEqual(0.25, (await self.new.came("tariffs")).body["elements"][0]["price_components"][0]["price"])
+            location = await self.new.came("locations")
+            self.assertEqual("PUT", location.method)
+            self.assertEqual(dict.fromkeys(("E1", "E2", "E4"), "OUTOFORDER"), statuses(location))
+        await self.begin_charge_point("CP3", ["Available"], None)
+        change = await self.new.came("locations")
+        self.assertEqual(("PATCH", "AVAILABLE"), (change.method, change.body["status"]))
+        self.assertTrue(change.path.endswith("/BE/BEC/LOC1/E4"))
+        # The other provider takes neither.
+        self.assertEqual([], [received for received in self.provider.requests
+                              if received.module in ("locations", "tariffs")])
 
     async def test_a_price_that_changed_counts(self) -> None:
         setup = [operator("BE/BEC", ["E1", "E2", "E3"], 0.5), provider(self.provider.party), provider(self.other.party)]

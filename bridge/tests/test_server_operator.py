@@ -141,7 +141,7 @@ class OperatorServer(ServerCase):
         self.assertNotIn("X-Serial", answer.headers)
 
     async def test_paths_and_methods_that_are_not_there(self) -> None:
-        for path in ("sender/sessions/", "receiver/sessions/NL/TNM/1", "receiver/tokens/NL/TNM", "sender/tariffs",
+        for path in ("sender/sessions/", "receiver/sessions/NL/TNM/1", "receiver/tokens/NL/TNM", "sender/tokens",
                      "sender/commands/results/1", "receiver/tokens/NL/TNM/AA01/x"):
             answer = await self.ask("node", "GET", path)
             self.assertEqual(answer.told, (404, 2000), path)

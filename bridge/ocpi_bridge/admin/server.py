@@ -28,6 +28,7 @@ from ..node.revocable import RevocableFeeder
 from ..ocpi.client import Client
 from ..ocpi.locations import Locations
 from ..ocpi.objects import Objects
+from ..ocpi.places import Places
 from ..ocpp.central_system import CentralSystem
 from ..room import NoRoom
 from ..state import State
@@ -61,16 +62,17 @@ class Admin:
     """All these addresses. What `feeding` and `outstanding` note of each outcome they have to be told."""
 
     def __init__(self, configuration: Configuration, state: State, events: Events, feeder: RevocableFeeder,
-                 objects: Objects, client: Client, metrics: Metrics, locations: Locations | None,
+                 objects: Objects, client: Client, metrics: Metrics, locations: Locations | None, places: Places,
                  central_system: CentralSystem, reload: Callable[[], Awaitable[None]]) -> None:
-        """`locations` are an operator's. `reload` has the configuration read again."""
+        """`locations` are an operator's, `places` a provider's. `reload` has the configuration read again."""
         self._clock, self._objects, self._reload = events.clock, objects, reload
         self._configuration, self._state, self._feeder, self._metrics = configuration, state, feeder, metrics
         self.feeding = Feeding(
             events, feeder, objects, Answers(state, events.clock), locations,
             None if configuration.ocpp is None else central_system, client.takes_orders)
         self.outstanding = outstanding = Outstanding(state, objects, lambda: feeder.is_open)
-        self._shown = Shown(configuration, objects, outstanding, client, locations, central_system)
+        self._shown = Shown(configuration, events.clock, objects, outstanding, client, locations, places,
+                            central_system)
         is_operator = configuration.is_operator
         metrics.gauge("ocpi_unacknowledged_pushes", outstanding.pushes)
         metrics.gauge("ocpi_open_commands",
@@ -78,7 +80,12 @@ class Admin:
         metrics.gauge("ocpi_charge_points_connected", central_system.connected_count)
         if is_operator:
             metrics.gauge("ocpi_silent_sessions", central_system.silent_count)
+        lists: dict[str, Callable[[], Sequence[object]]] = {
+            "/locations": partial(places.locations, MOST_LISTED), "/tariffs": partial(places.tariffs, MOST_LISTED)}
+        if locations is not None:
+            lists = {"/locations": locations.all, "/tariffs": locations.tariffs.all}
         self._lists: dict[str, Callable[[], Sequence[object]]] = {
+            **lists,
             **{f"/{module}": partial(objects.newest, module, MOST_LISTED) for module in ("sessions", "cdrs", "tokens")},
             "/commands": lambda: central_system.commands() if is_operator else outstanding.commands(),
             "/charge_points": central_system.charge_points, "/partners": client.told}

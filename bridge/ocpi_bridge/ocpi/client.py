@@ -26,6 +26,7 @@ from .orders import Orders
 from .packets import AGED, COMMANDS, FORMS, path_of
 from .partners import Endpoints, Partner, Partners
 from .requests import NODES_URL, RESULTS_PATH, Requests, SentOnce, number_in, number_of
+from .tariffs import Tariffs
 
 ONCE = ("start_session", "reserve_now", "stop_session")
 # How long a request waits for a partner that said `Retry-After`, before it is lost.
@@ -42,8 +43,9 @@ class Client:
 
     def __init__(self, configuration: Configuration, state: State, partners: Partners, exchange: Exchange,
                  requests: Requests, events: Events, feed: Callable[[Event], Awaitable[Outcome]],
-                 orders: Orders) -> None:
-        self._orders = orders
+                 orders: Orders, tariffs: Tariffs | None = None) -> None:
+        """`tariffs` are an operator's."""
+        self._orders, self._tariffs = orders, tariffs
         self._url, self._state, self._sent, self._feed = configuration.ocpi.url, state, SentOnce(state), feed
         self.partners, self.exchange, self.requests, self.events = partners, exchange, requests, events
         self._lanes: dict[str, Lanes] = {}
@@ -90,13 +92,15 @@ class Client:
             self._workers.cancel()
 
     async def endpoint(self, partner: Partner, module: str, role: str) -> str:
-        """Where a module of a partner stands. Its versions are asked where nothing is known yet, once for all that
-        wait for them. Raises NoResponse."""
-        key = party_key(partner.party)
-        endpoints = partner.endpoints or await asyncio.shield(self._looking_up.begin(self._look_up, key))
+        """Where a module of a partner stands. Raises NoResponse."""
+        endpoints = partner.endpoints or await self.look_up(partner)
         if (module, role) not in endpoints:
             raise NoAddress(f"it lists no {module} {role}")
         return endpoints[module, role]
+
+    async def look_up(self, partner: Partner) -> Endpoints:
+        """Asks where the modules of a partner stand by now, once for all that wait for it. Raises NoResponse."""
+        return await asyncio.shield(self._looking_up.begin(self._look_up, party_key(partner.party)))
 
     async def _look_up(self, party: str) -> Endpoints:
         partner = self.partners.of(party)
@@ -197,6 +201,8 @@ class Client:
             return url, url, {"result": body["result"]}
         if packet.kind in COMMANDS:
             body["response_url"] = self._url + RESULTS_PATH + body["response_url"].rpartition("/")[2]
+        if packet.kind == "post_cdr" and partner.kind == "ocpi" and self._tariffs is not None:
+            body = self._tariffs.in_bill(body)
         address = await self.endpoint(partner, form.module, form.role)
         hidden: JsonObject = {**packet.body, "uid": "...", "token_uid": "..."}
         url, told = (address.rstrip("/") + path_of(form.path, members) if form.path else address

@@ -23,8 +23,9 @@ from .exchange import VERSION, Exchange, NoResponse, OtherVersions, objects_of
 from .partners import Partner, Partners
 
 OPERATOR_MODULES = (("commands", "RECEIVER"), ("tokens", "RECEIVER"), ("sessions", "SENDER"), ("cdrs", "SENDER"),
-                    ("locations", "SENDER"))
-PROVIDER_MODULES = (("commands", "SENDER"), ("sessions", "RECEIVER"), ("cdrs", "RECEIVER"), ("tokens", "SENDER"))
+                    ("locations", "SENDER"), ("tariffs", "SENDER"))
+PROVIDER_MODULES = (("commands", "SENDER"), ("sessions", "RECEIVER"), ("cdrs", "RECEIVER"), ("tokens", "SENDER"),
+                    ("locations", "RECEIVER"), ("tariffs", "RECEIVER"))
 LOOK_UP_SECONDS = 8.0
 UNUSABLE = 3001
 UNSUPPORTED_VERSION = 3002

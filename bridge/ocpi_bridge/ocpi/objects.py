@@ -4,22 +4,27 @@ While a node runs nobody else can read its rows. So the bridge keeps the newest 
 sent or accepted. Beside these stand the EVSEs that commands claim.
 """
 import logging
+from collections.abc import Sequence
 from dataclasses import dataclass
 from decimal import Decimal
+from typing import TypeVar
 
 from ..clock import milliseconds_of
 from ..events import Outcome, Packet
 from ..json_text import JsonObject, Number, read_json, write_json
 from ..parties import party_key, party_of, same_party
-from ..records import Body
+from ..records import Body, Location, Tariff
 from ..state import State
 
 # The module of each packet that carries an object, and the member that identifies the object.
 OBJECTS = {"put_session": ("sessions", "id"), "post_cdr": ("cdrs", "id"), "put_token": ("tokens", "uid")}
+OBJECT_KINDS = {module: kind for kind, (module, _) in OBJECTS.items()}
 ACCEPTED = 1000
 LIVING = "module = 'sessions' AND status IN ('PENDING', 'ACTIVE')"
 # Milliseconds behind all moments.
 FOREVER = 2**62
+
+Listed = TypeVar("Listed", Location, Tariff)
 
 log = logging.getLogger(__name__)
 
@@ -33,6 +38,11 @@ class Part:
     date_to: int
     offset: int
     limit: int
+
+    def of(self, objects: Sequence[Listed]) -> tuple[int, list[Listed]]:
+        """How many of some objects there are by the dates, and those of the part."""
+        found = [each for each in objects if self.date_from <= milliseconds_of(each["last_updated"]) < self.date_to]
+        return len(found), found[self.offset:self.offset + self.limit]
 
 
 class Objects:

@@ -118,11 +118,14 @@ class Site:
         return self._kept(place.settings.evse_uid)[1] == "owner"
 
     def evse_status(self, evse_uid: str) -> str | None:
-        """`OUTOFORDER` where nothing can be charged, `INOPERATIVE` where the EVSE is out of service, else None."""
-        place = self.place(evse_uid)
-        if place is None or place.charge_point.connection is None or self.status(place) == "Faulted":
+        """`OUTOFORDER` where nothing can be charged, `INOPERATIVE` where the EVSE is out of service, `BLOCKED` where a
+        car is plugged in, else None."""
+        place, (status, service) = self.place(evse_uid), self._kept(evse_uid)
+        if place is None or place.charge_point.connection is None or status == "Faulted":
             return "OUTOFORDER"
-        return "INOPERATIVE" if self._kept(evse_uid)[1] in ("out", "owner") else None
+        if service in ("out", "owner"):
+            return "INOPERATIVE"
+        return None if status in (None, "Available", "Unavailable", "Reserved") else "BLOCKED"
 
     def id_tag_of(self, uid: str) -> str:
         """What a token is called at charge points: its uid, or a text of the bridge where that is too long for OCPP."""
