@@ -10,7 +10,7 @@ from ocpi_bridge.ocpi.locations import Locations
 from ocpi_bridge.ocpi.objects import Objects
 from ocpi_bridge.state import State
 
-from .running import operator
+from .running import Members, operator
 
 
 class Alone(unittest.TestCase):
@@ -69,12 +69,11 @@ class Alone(unittest.TestCase):
 
     def test_what_is_told_of_a_connector(self) -> None:
         """OCPI wants voltage and amperage: 0 where the setup does not tell them. The power may be left out."""
-        site = operator("BE/BEC", ["E1", "E2"])["site"]
-        site["locations"][0]["evses"][1]["connectors"] = [
-            {**site["locations"][0]["evses"][0]["connectors"][0], "max_voltage": 230, "max_amperage": 32,
-             "max_electric_power": 22000}]
-        locations = self.locations(2)
-        locations.take(site)
-        told = [evse["connectors"][0] for evse in locations.all()[0]["evses"]]
-        names = ("max_voltage", "max_amperage", "max_electric_power")
-        self.assertEqual([[0, 0, None], [230, 32, 22000]], [[each.get(name) for name in names] for each in told])
+        locations, told = self.locations(1), []
+        known: Members
+        for known in ({}, {"max_voltage": 230, "max_amperage": 32, "max_electric_power": 22000}):
+            locations.take(operator("BE/BEC", ["E1"], 0.25, **known)["site"])
+            connector = locations.all()[0]["evses"][0]["connectors"][0]
+            told.append([connector.get("max_voltage"), connector.get("max_amperage"),
+                         connector.get("max_electric_power")])
+        self.assertEqual([[0, 0, None], [230, 32, 22000]], told)

@@ -32,29 +32,33 @@ class Locations:
         """Takes a site in place of that of before."""
         with self._state.transaction():
             self.tariffs.take(site)
-        self._locations = {setup["id"].upper(): self._without_status(setup) for setup in site["locations"]}
-        self._evses = {(name, evse["uid"].upper()): evse for name, location in self._locations.items()
-                       for evse in location["evses"]}
-        # What each location is without statuses and moments.
+            self._locations = {setup["id"].upper(): self._without_status(setup) for setup in site["locations"]}
+            self._evses = {(name, evse["uid"].upper()): evse for name, location in self._locations.items()
+                           for evse in location["evses"]}
+            places = [(location, evse) for location in self._locations.values() for evse in location["evses"]]
+            self._seen.keep_only({
+                *self.tariffs.names(), *(location["id"] for location in self._locations.values()),
+                *(_name(location, evse) for location, evse in places),
+                *(_name(location, evse, connector) for location, evse in places for connector in evse["connectors"])})
+        # What each location is without statuses and moments of its EVSEs.
         self.marks = {name: mark_of(location) for name, location in self._locations.items()}
-        self._seen.keep_only({*self.tariffs.names(), *(location["id"] for location in self._locations.values()),
-                              *(_name(self._locations[name], evse) for (name, _), evse in self._evses.items())})
 
     def _without_status(self, setup: Location) -> Location:
-        """A location as it stands in the setup, with what no node reads, and what OCPI wants beside that.
-
-        OCPI wants `max_voltage` and `max_amperage` too: 0 says that nobody knows them.
-        """
+        """A location as it stands in the setup, with what no node reads, and what OCPI wants beside that."""
         country, identifier = codes(self._party)
         kept = {name: value for name, value in setup.items() if name not in ("latitude", "longitude")}
         evses = [evse.copy() for evse in setup["evses"]]
         for evse in evses:
-            evse["connectors"] = [
-                cast(Connector, {"max_voltage": 0, "max_amperage": 0, **connector, "tariff_ids": self.tariffs.named})
-                for connector in evse["connectors"]]
+            evse["connectors"] = [self._connector(setup, evse, connector) for connector in evse["connectors"]]
         return cast(Location, {
             "time_zone": "UTC", **kept, "country_code": country, "party_id": identifier, "publish": True,
             "coordinates": {"latitude": setup["latitude"], "longitude": setup["longitude"]}, "evses": evses})
+
+    def _connector(self, location: Location, evse: Evse, setup: Connector) -> Connector:
+        """A connector. OCPI wants `max_voltage` and `max_amperage` of it: 0 says that nobody knows them."""
+        made = cast(Connector, {"max_voltage": 0, "max_amperage": 0, **setup, "tariff_ids": self.tariffs.named})
+        made["last_updated"] = self._seen.moment(_name(location, evse, setup), made)
+        return made
 
     def has_evse(self, evse_uid: str) -> bool:
         """Whether the site has an EVSE of a uid."""
@@ -92,8 +96,7 @@ class Locations:
     def _evse(self, location: Location, evse: Evse) -> Evse:
         made = evse.copy()
         made["status"] = self._status(evse["uid"])
-        made["last_updated"] = since = self._seen.moment(_name(location, evse), made)
-        made["connectors"] = [cast(Connector, {**connector, "last_updated": since}) for connector in evse["connectors"]]
+        made["last_updated"] = self._seen.moment(_name(location, evse), made)
         return made
 
     def _status(self, evse_uid: str) -> str:
@@ -106,8 +109,8 @@ class Locations:
         return claim or told or "AVAILABLE"
 
 
-def _name(location: Location, evse: Evse) -> str:
-    return f"{location['id']}\n{evse['uid']}"
+def _name(location: Location, evse: Evse, connector: Connector | None = None) -> str:
+    return f"{location['id']}\n{evse['uid']}" + ("" if connector is None else f"\n{connector['id']}")
 
 
 def mark_of(thing: object) -> str:

@@ -5,8 +5,8 @@ from ..parties import codes
 from ..records import Body, PriceFrom, Site, Tariff
 from .first_seen import FirstSeen
 
-# Names of tariffs among all that is first seen: no place has two line ends in its own.
-NAME = "\n\n{}"
+# Names of tariffs among all that is first seen: no place has three line ends in its own.
+NAME = "\n\n\n{}"
 
 
 class Tariffs:
