@@ -168,7 +168,7 @@ class ProviderTest(AdminTest):
                 told = await self.next_event(events)
                 self.assertEqual(told["tokens"], [])
                 self.assertEqual(list(told), ["party", "is_operator", "sessions", "cdrs", "partners", "operators",
-                                              "tokens", "commands", "owed"])
+                                              "offers", "tokens", "commands", "owed"])
                 await self.bridge.admin_post("/tokens", TOKEN)
                 self.assertEqual((await self.next_event(events))["tokens"][0]["uid"], "AA01")
                 self.assertEqual(await self.bridge.stop(), 0)

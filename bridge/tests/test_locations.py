@@ -70,8 +70,8 @@ class Alone(unittest.TestCase):
     def test_what_is_told_of_a_connector(self) -> None:
         """OCPI wants voltage and amperage: 0 where the setup does not tell them. The power may be left out."""
         locations, told = self.locations(1), []
-        known: Members
-        for known in ({}, {"max_voltage": 230, "max_amperage": 32, "max_electric_power": 22000}):
+        unknown: Members = {}
+        for known in (unknown, {"max_voltage": 230, "max_amperage": 32, "max_electric_power": 22000}):
             locations.take(operator("BE/BEC", ["E1"], 0.25, **known)["site"])
             connector = locations.all()[0]["evses"][0]["connectors"][0]
             told.append([connector.get("max_voltage"), connector.get("max_amperage"),

@@ -15,9 +15,10 @@ class FirstSeen:
 
     def keep_only(self, names: set[str]) -> None:
         """Forgets all else: what comes back is new."""
-        for name, in self._state.query("SELECT name FROM place"):
-            if name not in names:
-                self._state.query("DELETE FROM place WHERE name = ?", name)
+        with suppress(NoRoom):
+            for name, in self._state.query("SELECT name FROM place"):
+                if name not in names:
+                    self._state.query("DELETE FROM place WHERE name = ?", name)
 
     def moment(self, name: str, thing: object) -> str:
         """The moment at which what has a name was first seen as it is now. It is later than that of what was before,

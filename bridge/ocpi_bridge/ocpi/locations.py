@@ -30,16 +30,15 @@ class Locations:
 
     def take(self, site: Site) -> None:
         """Takes a site in place of that of before."""
-        with self._state.transaction():
-            self.tariffs.take(site)
-            self._locations = {setup["id"].upper(): self._without_status(setup) for setup in site["locations"]}
-            self._evses = {(name, evse["uid"].upper()): evse for name, location in self._locations.items()
-                           for evse in location["evses"]}
-            places = [(location, evse) for location in self._locations.values() for evse in location["evses"]]
-            self._seen.keep_only({
-                *self.tariffs.names(), *(location["id"] for location in self._locations.values()),
-                *(_name(location, evse) for location, evse in places),
-                *(_name(location, evse, connector) for location, evse in places for connector in evse["connectors"])})
+        self.tariffs.take(site)
+        self._locations = {setup["id"].upper(): self._without_status(setup) for setup in site["locations"]}
+        self._evses = {(name, evse["uid"].upper()): evse for name, location in self._locations.items()
+                       for evse in location["evses"]}
+        places = [(location, evse) for location in self._locations.values() for evse in location["evses"]]
+        self._seen.keep_only({
+            *self.tariffs.names(), *(location["id"] for location in self._locations.values()),
+            *(_name(location, evse) for location, evse in places),
+            *(_name(location, evse, connector) for location, evse in places for connector in evse["connectors"])})
         # What each location is without statuses and moments of its EVSEs.
         self.marks = {name: mark_of(location) for name, location in self._locations.items()}
 

@@ -70,8 +70,8 @@ class Pushing:
 
     def tell_again(self) -> None:
         """Has all of it sent to each partner once more, as after the setup was read again."""
-        self._state.query("DELETE FROM place_told")
-        self._told, self._settled, self._asked, self._seen = {}, {}, {}, None
+        self._told = {party_key(partner.party): {} for partner in self._client.partners.all()}
+        self._settled, self._asked, self._seen = {}, {}, None
 
     async def run(self) -> None:
         """Pushes until it is cancelled."""
@@ -80,7 +80,8 @@ class Pushing:
             while True:
                 began, seen = time.monotonic(), (self._state.changes, self._connected())
                 if seen != self._seen or began >= looked + LOOK_AGAIN:
-                    self._look(began >= looked + LOOK_AGAIN)
+                    with suppress(NoRoom):
+                        self._look(began >= looked + LOOK_AGAIN)
                     # Whoever keeps something meanwhile is seen at the next look.
                     self._seen, looked = seen, began
                     pause = max(LOOK_EACH, (time.monotonic() - began) / MOST_OF_TIME)
@@ -124,6 +125,8 @@ class Pushing:
                     self._settled[party] = version
                     return
                 is_settled = await self._send(partner, endpoints[push.module, "RECEIVER"], push, told)
+            except NoRoom:
+                return
             except NoResponse as fault:
                 log.warning("locations and tariffs to %s: %s", partner.party, fault)
                 if isinstance(fault, NotSent):
