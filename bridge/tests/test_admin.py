@@ -236,7 +236,7 @@ class OperatorTest(AdminTest):
         listed = {(method.upper(), path) for path, methods in page["paths"].items() for method in methods}
         source = (REPOSITORY / "bridge" / "ocpi_bridge" / "admin" / "server.py").read_text()
         routed = {(method.upper(), path) for method, path in re.findall(r'web\.(get|post)\("(/[\w.]*)"', source)}
-        lists = ("/cdrs", "/charge_points", "/commands", "/partners", "/sessions", "/tokens")
+        lists = ("/cdrs", "/charge_points", "/commands", "/locations", "/partners", "/sessions", "/tariffs", "/tokens")
         self.assertEqual({*routed, *(("POST", path) for path in EVENTS), *(("GET", path) for path in lists)}, listed)
         names = set(re.findall(r'"#/components/schemas/(\w+)"', json.dumps(page)))
         self.assertEqual(set(page["components"]["schemas"]), names)
