@@ -6,7 +6,7 @@ from aiohttp import web
 
 from ocpi_bridge.ocpi.locations import Locations
 from ocpi_bridge.ocpi.objects import Objects
-from ocpi_bridge.ocpi.pushing import Pushing
+from ocpi_bridge.ocpi.pushing import CONNECTED_WITHIN, Pushing
 from ocpi_bridge.records import Site
 
 from .client_cases import ClientCase, fails
@@ -87,8 +87,8 @@ class Pushes(PushCase):
                          tariff["elements"])
         self.assertEqual([["ENERGY"]] * 2, [evse["connectors"][0]["tariff_ids"] for evse in location["evses"]])
         self.assertEqual(["AVAILABLE"] * 2, [evse["status"] for evse in location["evses"]])
-        self.set("E2", "OUTOFORDER")
-        change, = await self.come(self.patch("E2", "OUTOFORDER"))
+        self.set("E2", "BLOCKED")
+        change, = await self.come(self.patch("E2", "BLOCKED"))
         self.assertEqual({"status", "last_updated"}, set(change))
         self.assertGreater(change["last_updated"], location["last_updated"])
 
@@ -103,14 +103,14 @@ class Pushes(PushCase):
         self.party.answers["locations"] = waits
         self.set("E1", "INOPERATIVE")
         await came.wait()
-        for status in ("OUTOFORDER", "INOPERATIVE", "OUTOFORDER"):
+        for status in ("BLOCKED", "INOPERATIVE", "BLOCKED"):
             self.set("E1", status)
             self.set("E2", status)
             before = self.pushing._version
             await eventually(lambda: self.is_seen(before), "it was looked at")
         goes_on.set()
         await self.come(*(self.patch(*each) for each in (
-            ("E1", "INOPERATIVE"), ("E1", "OUTOFORDER"), ("E2", "OUTOFORDER"))))
+            ("E1", "INOPERATIVE"), ("E1", "BLOCKED"), ("E2", "BLOCKED"))))
 
     async def is_seen(self, version: int) -> bool:
         return self.pushing._version > version
@@ -126,13 +126,13 @@ class Pushes(PushCase):
             self.party.answers["locations"] = lost
             self.set("E1", "INOPERATIVE")
             await self.party.came("locations")
-            self.set("E1", "OUTOFORDER")
+            self.set("E1", "BLOCKED")
             # It may have been on its way once more as it was.
-            await self.party.came("locations", lambda received: bool(received.body["status"] == "OUTOFORDER"))
+            await self.party.came("locations", lambda received: bool(received.body["status"] == "BLOCKED"))
             self.party.answers.clear()
             self.party.requests.clear()
             await eventually(self.is_settled, "it is known that it was taken")
-            self.assertEqual({self.patch("E1", "OUTOFORDER")}, set(self.pushes()))
+            self.assertEqual({self.patch("E1", "BLOCKED")}, set(self.pushes()))
             self.party.requests.clear()
             self.set("E1", "AVAILABLE")
             await self.come(self.patch("E1", "AVAILABLE"))
@@ -146,6 +146,20 @@ class Pushes(PushCase):
         self.statuses["E2"] = "INOPERATIVE"
         await self.begin_again()
         await self.come(self.patch("E2", "INOPERATIVE"))
+
+    async def test_charge_points_may_connect_again_behind_a_start(self) -> None:
+        await self.come(*FIRST)
+        self.statuses["E1"] = "OUTOFORDER"
+        await self.begin_again()
+        self.set("E2", "INOPERATIVE")
+        await self.come(self.patch("E2", "INOPERATIVE"))
+        self.pushing._began -= CONNECTED_WITHIN
+        self.changed += 1
+        await eventually(self.is_told, "the charge point is away")
+        await self.come(self.patch("E1", "OUTOFORDER"))
+
+    async def is_told(self) -> bool:
+        return len(self.pushes()) > 0
 
     async def test_what_is_refused_is_sent_as_a_whole_and_then_not_again(self) -> None:
         await self.come(*FIRST)
@@ -196,7 +210,7 @@ class WithoutReceiver(PushCase):
 
     async def test_a_partner_that_takes_nothing_is_sent_nothing_until_it_does(self) -> None:
         await self.come()
-        self.set("E1", "OUTOFORDER")
+        self.set("E1", "BLOCKED")
         await self.come()
         self.party.interfaces["locations"] = "RECEIVER"
         await self.begin_again()

@@ -1,5 +1,5 @@
 """What a provider's page offers: connectors of operators, each with the status of its EVSE, its power and its price."""
-from collections.abc import Iterator
+from collections.abc import Callable, Iterator
 from decimal import Decimal
 
 from ..clock import Clock, seconds_in
@@ -14,15 +14,20 @@ PHASES = {"AC_3_PHASE": 3, "AC_2_PHASE": 2, "AC_2_PHASE_SPLIT": 2}
 
 
 class Offers:
-    def __init__(self, places: Places, clock: Clock) -> None:
-        self._places, self._clock = places, clock
+    """`is_partner` says of which operators they are: what others told before stays held."""
+
+    def __init__(self, places: Places, clock: Clock, is_partner: Callable[[str], bool]) -> None:
+        self._places, self._clock, self._is_partner = places, clock, is_partner
 
     def all(self) -> list[JsonObject]:
         """The offers, those that are free first."""
         now = self._clock.seconds()
         prices = {_key(tariff, tariff["id"]): tariff for tariff in self._places.tariffs() if _holds(tariff, now)}
-        found = [offer for location in self._places.locations(MOST_LOCATIONS) for offer in _offers(location, prices)]
-        return sorted(found, key=lambda offer: offer["status"] != "AVAILABLE")[:MOST_SHOWN]
+        found = [offer for location in self._places.locations(MOST_LOCATIONS)
+                 if self._is_partner(party_of(location["country_code"], location["party_id"]))
+                 for offer in _offers(location, prices)]
+        return sorted(found, key=lambda offer: (offer["status"] != "AVAILABLE", *(
+            str(offer[name]) for name in ("operator", "location_id", "evse_uid", "connector_id"))))[:MOST_SHOWN]
 
 
 def _offers(location: Location, tariffs: dict[tuple[str, str], Tariff]) -> Iterator[JsonObject]:

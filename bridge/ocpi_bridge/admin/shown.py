@@ -20,7 +20,7 @@ class Shown:
     def __init__(self, configuration: Configuration, clock: Clock, objects: Objects, outstanding: Outstanding,
                  client: Client, locations: Locations | None, places: Places, central_system: CentralSystem) -> None:
         self._configuration, self._objects, self._outstanding = configuration, objects, outstanding
-        self._offers = Offers(places, clock)
+        self._offers = Offers(places, clock, client.partners.has)
         self._client, self._locations, self._central_system = client, locations, central_system
 
     def all(self) -> JsonObject:

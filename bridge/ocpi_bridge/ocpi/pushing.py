@@ -28,6 +28,8 @@ from .partners import Endpoints, Partner
 LOOK_EACH, LOOK_AGAIN, MOST_OF_TIME = 0.25, 10.0, 0.05
 # In seconds: the longest pause behind pushes that fail, and until a partner without these modules is asked anew.
 LONGEST_PAUSE, LOOK_UP_EACH = 60.0, 3600.0
+# The seconds behind a start in which no partner is told that a charge point is away.
+CONNECTED_WITHIN = 60.0
 MODULES = ("tariffs", "locations")
 # The name under which it is kept at which address, and by which tokens, a partner was told all else.
 CONTACT = ""
@@ -67,6 +69,7 @@ class Pushing:
         self._settled: dict[str, int] = {}
         self._asked: dict[str, float] = {}
         self._seen: object = None
+        self._began = self._clock.passed()
 
     def tell_again(self) -> None:
         """Has all of it sent to each partner once more, as after the setup was read again."""
@@ -186,11 +189,15 @@ class Pushing:
             if told.get(name) != self._holds[name]:
                 return Push("locations", "PUT", self._path(location["id"]), location, self._tells(location))
             for evse in location["evses"]:
-                if told.get(_place(location, evse)) != evse["status"]:
+                if told.get(_place(location, evse)) != evse["status"] and not self._may_come_back(evse):
                     return Push("locations", "PATCH", self._path(location["id"], evse["uid"]),
                                 {"status": evse["status"], "last_updated": evse["last_updated"]},
                                 {_place(location, evse): evse["status"]}, name)
         return None
+
+    def _may_come_back(self, evse: Evse) -> bool:
+        """Whether an EVSE is out of order since its charge point did not connect again behind a start so far."""
+        return evse["status"] == "OUTOFORDER" and self._clock.passed() < self._began + CONNECTED_WITHIN
 
     def _end(self, name: str) -> Push:
         """Tells that something is no more, as OCPI has it: a tariff is deleted, and a place is shown to nobody."""
