@@ -39,10 +39,10 @@ class OffersTest(unittest.TestCase):
 
     def test_the_power_of_a_connector(self) -> None:
         usual = {**evse("E1")["connectors"][0], "max_voltage": 230, "max_amperage": 16}
-        changes: Members
-        for changes, kw in (({"standard": "CHADEMO"}, "11.04"), ({"power_type": "AC_1_PHASE"}, "3.68"), ({"power_type": "DC"}, "3.68"),
-                            ({"max_electric_power": 11000}, "11"), ({"max_amperage": 0}, None),
-                            ({"max_voltage": "high"}, None)):
+        cases: list[tuple[Members, str | None]] = [
+            ({}, "11.04"), ({"power_type": "AC_1_PHASE"}, "3.68"), ({"power_type": "DC"}, "3.68"),
+            ({"max_electric_power": 11000}, "11"), ({"max_amperage": 0}, None), ({"max_voltage": "high"}, None)]
+        for changes, kw in cases:
             self.hold("locations", location("BE/BEC", evse("E1", connectors=[usual | changes])))
             self.assertEqual([[kw]], self.told("kw"), changes)
 
