@@ -71,6 +71,8 @@ class ProviderPlaces(ServerCase):
             ("PUT", LOCATION, {**self.location, "last_updated": "today"}, "last_updated"),
             ("PUT", f"{LOCATION}/E1", evse("E2"), "uid"),
             ("PATCH", f"{LOCATION}/E1", {"status": "CHARGING"}, "last_updated"),
+            ("PATCH", LOCATION, {"party_id": "BEC", "last_updated": "2025-01-01T11:00:00Z"}, "party_id"),
+            ("PATCH", LOCATION, {"id": 7, "last_updated": "2025-01-01T11:00:00Z"}, "id"),
             ("PATCH", f"{LOCATION}/E1", {"status": 5, "last_updated": "2025-01-01T11:00:00Z"}, "status"),
             ("PUT", TARIFF, tariff("FR/CPX", elements=[{"price_components": 1}]), r"elements\[0\]\.price_components")]
         for method, path, body, member in wrong:

@@ -8,7 +8,6 @@ from .envelope import INVALID, UNKNOWN_LOCATION, Refusal, answer
 from .places import Places, check
 
 PATH = "{country_code:[^/]*}/{party_id:[^/]*}/{identifiers:[^/]*"
-NAMES = ("country_code", "party_id", "id")
 
 
 class Receiving:
@@ -34,11 +33,10 @@ class Receiving:
         """Takes a whole location or tariff, or an EVSE or a connector of a location that is held."""
         party, names = _asked(request)
         module, body = module_of(request), await members_of(request)
+        compare(_ids(request, names), body)
         if len(names) == 1:
-            compare(dict(zip(NAMES, segments_of(request))), body)
             self._places.take(module, check(module, body))
         else:
-            compare({"id" if len(names) == 3 else "uid": names[-1]}, body)
             self._change(party, names, check("connectors" if len(names) == 3 else "evses", body), True)
         return answer(self._clock.moment())
 
@@ -46,7 +44,7 @@ class Receiving:
         """Puts members into a location, an EVSE or a connector that is held, as the status of an EVSE."""
         party, names = _asked(request)
         members = await members_of(request)
-        compare({"uid" if len(names) == 2 else "id": names[-1]}, members)
+        compare(_ids(request, names), members)
         if members.get("last_updated") is None:
             raise Refusal(200, INVALID, "last_updated: missing")
         self._change(party, names, members, False)
@@ -68,6 +66,13 @@ def _asked(request: web.Request) -> tuple[str, list[str]]:
     if not same_party(party_of(country, identifier), request["partner"].party):
         raise Refusal(404, UNKNOWN_LOCATION, "country_code, party_id: wanted are your own")
     return request["partner"].party, names
+
+
+def _ids(request: web.Request, names: list[str]) -> dict[str, str]:
+    """The members of the object that is asked for, by which its path names it."""
+    if len(names) == 1:
+        return dict(zip(("country_code", "party_id", "id"), segments_of(request)))
+    return {"uid" if len(names) == 2 else "id": names[-1]}
 
 
 def _not_held(module: str) -> Refusal:
