@@ -68,12 +68,13 @@ class Alone(unittest.TestCase):
         self.assertLess(before["last_updated"], "2099")
 
     def test_what_is_told_of_a_connector(self) -> None:
-        """OCPI wants voltage and amperage: 0 where the setup does not tell them. The power may be left out."""
+        """OCPI wants voltage and amperage: 0 where the setup does not tell them. The power may be left out. Each connector
+        names the tariff."""
         locations, told = self.locations(1), []
         unknown: Members = {}
         for known in (unknown, {"max_voltage": 230, "max_amperage": 32, "max_electric_power": 22000}):
             locations.take(operator("BE/BEC", ["E1"], 0.25, **known)["site"])
             connector = locations.all()[0]["evses"][0]["connectors"][0]
             told.append([connector.get("max_voltage"), connector.get("max_amperage"),
-                         connector.get("max_electric_power")])
-        self.assertEqual([[0, 0, None], [230, 32, 22000]], told)
+                         connector.get("max_electric_power"), connector.get("tariff_ids")])
+        self.assertEqual([[0, 0, None, ["ENERGY"]], [230, 32, 22000, ["ENERGY"]]], told)

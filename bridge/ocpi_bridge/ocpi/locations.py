@@ -1,14 +1,12 @@
 """The locations of an operator, as OCPI has them: read off the setup, with the status of each EVSE."""
-import hashlib
 from collections.abc import Callable
 from typing import cast
 
 from ..clock import Clock, milliseconds_of
-from ..json_text import write_json
 from ..parties import codes
 from ..records import Connector, Evse, Location, Site
 from ..state import State
-from .first_seen import FirstSeen
+from .first_seen import FirstSeen, mark_of
 from .objects import Objects
 from .tariffs import Tariffs
 
@@ -23,7 +21,7 @@ class Locations:
                  evse_status: Callable[[str], str | None]) -> None:
         """`evse_status` tells of the uid of an EVSE OUTOFORDER or INOPERATIVE, or BLOCKED where a car is plugged in, or
         None."""
-        self._state, self._clock, self._objects = state, clock, objects
+        self._clock, self._objects = clock, objects
         self._party, self._evse_status, self._seen = party, evse_status, FirstSeen(state, clock)
         self.tariffs = Tariffs(self._seen, clock, party)
         self.take(site)
@@ -39,8 +37,9 @@ class Locations:
             *self.tariffs.names(), *(location["id"] for location in self._locations.values()),
             *(_name(location, evse) for location, evse in places),
             *(_name(location, evse, connector) for location, evse in places for connector in evse["connectors"])})
-        # What each location is without statuses and moments of its EVSEs.
+        # What says how each location and each EVSE is without statuses and moments of EVSEs.
         self.marks = {name: mark_of(location) for name, location in self._locations.items()}
+        self._evse_marks = {key: mark_of(evse) for key, evse in self._evses.items()}
 
     def _without_status(self, setup: Location) -> Location:
         """A location as it stands in the setup, with what no node reads, and what OCPI wants beside that."""
@@ -56,7 +55,7 @@ class Locations:
     def _connector(self, location: Location, evse: Evse, setup: Connector) -> Connector:
         """A connector. OCPI wants `max_voltage` and `max_amperage` of it: 0 says that nobody knows them."""
         made = cast(Connector, {"max_voltage": 0, "max_amperage": 0, **setup, "tariff_ids": self.tariffs.named})
-        made["last_updated"] = self._seen.moment(_name(location, evse, setup), made)
+        made["last_updated"] = self._seen.moment(_name(location, evse, setup), mark_of(made))
         return made
 
     def has_evse(self, evse_uid: str) -> bool:
@@ -65,8 +64,7 @@ class Locations:
 
     def all(self) -> list[Location]:
         """All locations, by `last_updated` and then by id."""
-        with self._state.transaction():
-            locations = [self._location(location) for location in self._locations.values()]
+        locations = [self._location(location) for location in self._locations.values()]
         return sorted(locations, key=lambda location: (location["last_updated"], location["id"].upper()))
 
     def find(self, *identifiers: str) -> Location | Evse | Connector | None:
@@ -75,18 +73,16 @@ class Locations:
         location, evse = self._locations.get(names[0]), self._evses.get((names[0], (*names, "")[1]))
         if location is None or len(names) > 1 and evse is None:
             return None
-        with self._state.transaction():
-            if len(names) == 1 or evse is None:
-                return self._location(location)
-            found = self._evse(location, evse)
+        if len(names) == 1 or evse is None:
+            return self._location(location)
+        found = self._evse(location, evse)
         if len(names) == 2:
             return found
         return next((connector for connector in found["connectors"] if connector["id"].upper() == names[2]), None)
 
     def _location(self, location: Location) -> Location:
         """A location with the statuses of its EVSEs. It is another one, too, where EVSEs come and go."""
-        without = [value for name, value in location.items() if name != "evses"]
-        since = self._seen.moment(location["id"], [*without, [evse["uid"] for evse in location["evses"]]])
+        since = self._seen.moment(location["id"], self.marks[location["id"].upper()])
         made = location.copy()
         made["evses"] = [self._evse(location, evse) for evse in location["evses"]]
         made["last_updated"] = max([since, *(evse["last_updated"] for evse in made["evses"])])
@@ -95,7 +91,8 @@ class Locations:
     def _evse(self, location: Location, evse: Evse) -> Evse:
         made = evse.copy()
         made["status"] = self._status(evse["uid"])
-        made["last_updated"] = self._seen.moment(_name(location, evse), made)
+        mark = self._evse_marks[location["id"].upper(), evse["uid"].upper()]
+        made["last_updated"] = self._seen.moment(_name(location, evse), f"{made['status']} {mark}")
         return made
 
     def _status(self, evse_uid: str) -> str:
@@ -110,8 +107,3 @@ class Locations:
 
 def _name(location: Location, evse: Evse, connector: Connector | None = None) -> str:
     return f"{location['id']}\n{evse['uid']}" + ("" if connector is None else f"\n{connector['id']}")
-
-
-def mark_of(thing: object) -> str:
-    """A short text that another thing does not have."""
-    return hashlib.blake2b(write_json(thing).encode(), digest_size=16).hexdigest()

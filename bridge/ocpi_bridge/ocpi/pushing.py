@@ -20,7 +20,8 @@ from ..tasks import Tasks
 from .client import TRANSIENT, Client
 from .envelope import SERVER_ERROR, SUCCESS, routing_headers
 from .exchange import NoResponse, NotSent
-from .locations import Locations, mark_of
+from .first_seen import mark_of
+from .locations import Locations
 from .partners import Endpoints, Partner
 
 # In seconds of real time: between two looks whether something changed, and after which one is taken in any case. The

@@ -3,7 +3,7 @@ from ..clock import Clock, milliseconds_of, moment_of
 from ..json_text import Number
 from ..parties import codes
 from ..records import Body, PriceFrom, Site, Tariff
-from .first_seen import FirstSeen
+from .first_seen import FirstSeen, mark_of
 
 # Names of tariffs among all that is first seen: no place has three line ends in its own.
 NAME = "\n\n\n{}"
@@ -38,7 +38,7 @@ class Tariffs:
             tariff["start_date_time"] = begin
         if end is not None:
             tariff["end_date_time"] = end
-        tariff["last_updated"] = self._seen.moment(NAME.format(tariff["id"]), tariff)
+        tariff["last_updated"] = self._seen.moment(NAME.format(tariff["id"]), mark_of(tariff))
         return tariff
 
     def names(self) -> list[str]:
