@@ -68,8 +68,7 @@ class Alone(unittest.TestCase):
         self.assertLess(before["last_updated"], "2099")
 
     def test_what_is_told_of_a_connector(self) -> None:
-        """OCPI wants voltage and amperage: 0 where the setup does not tell them. The power may be left out. Each connector
-        names the tariff."""
+        """OCPI wants voltage and amperage: 0 where the setup does not tell them. The power may be left out."""
         locations, told = self.locations(1), []
         unknown: Members = {}
         for known in (unknown, {"max_voltage": 230, "max_amperage": 32, "max_electric_power": 22000}):
