@@ -79,15 +79,16 @@ class Pushing:
 
     async def run(self) -> None:
         """Pushes until it is cancelled."""
-        looked, pause = float("-inf"), LOOK_EACH
+        looked_at_all, pause = float("-inf"), LOOK_EACH
         try:
             while True:
                 began, seen = time.monotonic(), (self._state.changes, self._connected())
-                if seen != self._seen or began >= looked + LOOK_AGAIN:
+                is_due = began >= looked_at_all + LOOK_AGAIN
+                if is_due or seen != self._seen:
                     with suppress(NoRoom):
-                        self._look(began >= looked + LOOK_AGAIN)
+                        self._look(is_due)
                     # Whoever keeps something meanwhile is seen at the next look.
-                    self._seen, looked = seen, began
+                    self._seen, looked_at_all = seen, began if is_due else looked_at_all
                     pause = max(LOOK_EACH, (time.monotonic() - began) / MOST_OF_TIME)
                 await asyncio.sleep(pause)
         finally:
@@ -134,7 +135,8 @@ class Pushing:
             except NoResponse as fault:
                 log.warning("locations and tariffs to %s: %s", partner.party, fault)
                 if isinstance(fault, NotSent):
-                    self._client.partners.set_endpoints(partner.party, partner.versions_url, {})
+                    with suppress(NoRoom):
+                        self._client.partners.set_endpoints(partner.party, partner.versions_url, {})
             failures = 0 if is_settled else failures + 1
             if failures:
                 await self._clock.sleep(min(2.0 ** min(failures - 1, 10), LONGEST_PAUSE))
