@@ -37,6 +37,12 @@ class OffersTest(unittest.TestCase):
         self.assertEqual([["AT/ABC", "E2", "AVAILABLE"], ["BE/BEC", "E2", "AVAILABLE"], ["BE/BEC", "E4", "AVAILABLE"],
                           ["BE/BEC", "E1", "CHARGING"]], self.told("operator", "evse_uid", "status"))
 
+    def test_an_operator_with_very_much_is_shown_in_part(self) -> None:
+        for number in range(6):
+            self.hold("locations", location("BE/BEC", evse(f"E{number}"), id=f"LOC{number}", name="N" * 900_000,
+                                            last_updated=f"2025-01-01T10:0{number}:00Z"))
+        self.assertEqual([["E2"], ["E3"], ["E4"], ["E5"]], self.told("evse_uid"))
+
     def test_the_power_of_a_connector(self) -> None:
         usual = {**evse("E1")["connectors"][0], "max_voltage": 230, "max_amperage": 16}
         cases: list[tuple[Members, str | None]] = [

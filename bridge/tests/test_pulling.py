@@ -190,8 +190,8 @@ class PlacesOfNodes(ClientCase):
             for number in range(3)]
         for module in ("tariffs", "locations"):
             await self.pull(module)
-        self.assertEqual(["T1"], [held["id"] for held in self.places.tariffs()])
-        self.assertEqual(["LOC2", "LOC1", "LOC0"], [held["id"] for held in self.places.locations()])
+        self.assertEqual(["T1"], [held["id"] for held in self.places.tariffs(9)])
+        self.assertEqual(["LOC2", "LOC1", "LOC0"], [held["id"] for held in self.places.locations(9)])
         self.assertEqual([], self.delivered)
         # What was pushed meanwhile is newer than what is listed.
         self.places.change("BE/BEC", ["LOC0", "E1"], {
@@ -201,7 +201,7 @@ class PlacesOfNodes(ClientCase):
         self.begin()
         await self.pull("locations")
         self.assertEqual(["CHARGING", "AVAILABLE", "AVAILABLE"],
-                         [held["evses"][0]["status"] for held in self.places.locations()])
+                         [held["evses"][0]["status"] for held in self.places.locations(9)])
 
     async def test_what_is_anothers_or_does_not_fit_is_passed_over(self) -> None:
         right = location("BE/BEC")
@@ -211,7 +211,7 @@ class PlacesOfNodes(ClientCase):
             self.party.answers["locations"] = gives
             self.state.query("DELETE FROM list_pulled")
             await self.pull("locations")
-        self.assertEqual({f"LOC{number}" for number in range(5)}, {held["id"] for held in self.places.locations()})
+        self.assertEqual({f"LOC{number}" for number in range(5)}, {held["id"] for held in self.places.locations(9)})
 
     async def test_an_operator_that_begins_to_list_its_tariffs(self) -> None:
         self.party.lists["tariffs"] = [tariff("BE/BEC")]

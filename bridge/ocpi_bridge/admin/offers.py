@@ -8,8 +8,9 @@ from ..ocpi.places import Places
 from ..parties import party_key, party_of
 from ..records import Connector, Location, Tariff
 
-# How many locations are looked at, those that changed last, and how many connectors are shown at most.
-MOST_LOCATIONS, MOST_SHOWN = 500, 500
+# How many locations and how many tariffs are looked at, those that changed last, and of how many bytes: no operator
+# keeps the bridge busy by these. How many connectors are shown at most.
+MOST_HELD, MOST_BYTES, MOST_SHOWN = 500, 4_000_000, 500
 PHASES = {"AC_3_PHASE": 3, "AC_2_PHASE": 2, "AC_2_PHASE_SPLIT": 2}
 
 
@@ -22,8 +23,9 @@ class Offers:
     def all(self) -> list[JsonObject]:
         """The offers, those that are free first."""
         now = self._clock.seconds()
-        prices = {_key(tariff, tariff["id"]): tariff for tariff in self._places.tariffs() if _holds(tariff, now)}
-        found = [offer for location in self._places.locations(MOST_LOCATIONS)
+        prices = {_key(tariff, tariff["id"]): tariff for tariff in self._places.tariffs(MOST_HELD, MOST_BYTES)
+                  if _holds(tariff, now)}
+        found = [offer for location in self._places.locations(MOST_HELD, MOST_BYTES)
                  if self._is_partner(party_of(location["country_code"], location["party_id"]))
                  for offer in _offers(location, prices)]
         return sorted(found, key=lambda offer: (offer["status"] != "AVAILABLE", *(

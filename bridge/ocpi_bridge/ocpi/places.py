@@ -4,6 +4,7 @@ No node reads them. Of each the newest version is held, as its `last_updated` te
 does what was overtaken.
 """
 from collections.abc import Sequence
+from itertools import accumulate
 from typing import cast
 
 from ..clock import milliseconds_of, seconds_in
@@ -97,18 +98,19 @@ class Places:
         self._state.query("DELETE FROM place_held WHERE module = 'tariffs' AND party = ? AND identifier = ?",
                           party_key(party), identifier.upper())
 
-    def locations(self, most: int = -1) -> list[Location]:
-        """The locations of all operators, those that changed last first: all of them, or so many at most."""
-        return cast("list[Location]", self._newest("locations", most))
+    def locations(self, most: int, most_bytes: int = 2**62) -> list[Location]:
+        """The locations of all operators, those that changed last first: so many at most, of so many bytes in all."""
+        return cast("list[Location]", self._newest("locations", most, most_bytes))
 
-    def tariffs(self, most: int = -1) -> list[Tariff]:
+    def tariffs(self, most: int, most_bytes: int = 2**62) -> list[Tariff]:
         """Their tariffs, likewise."""
-        return cast("list[Tariff]", self._newest("tariffs", most))
+        return cast("list[Tariff]", self._newest("tariffs", most, most_bytes))
 
-    def _newest(self, module: str, most: int) -> list[JsonObject]:
-        return [read_json(body) for body, in self._state.query(
-            "SELECT body FROM place_held WHERE module = ? ORDER BY last_updated DESC, party, identifier LIMIT ?",
-            module, most)]
+    def _newest(self, module: str, most: int, most_bytes: int) -> list[JsonObject]:
+        where = "FROM place_held WHERE module = ? ORDER BY last_updated DESC, party, identifier LIMIT ?"
+        sizes = accumulate(size for size, in self._state.query(f"SELECT length(body) {where}", module, most))
+        count = sum(size <= most_bytes for size in sizes)
+        return [read_json(body) for body, in self._state.query(f"SELECT body {where}", module, count)]
 
 
 def _chain(location: JsonObject, names: Sequence[str]) -> list[JsonObject]:
