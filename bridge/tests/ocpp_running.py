@@ -134,10 +134,15 @@ class Operating:
 class Station:
     """A charge point. It answers what it is asked by `answers`, and repeats its calls until they are answered."""
 
+    subprotocol = "ocpp1.6"
+
     def __init__(self, operating: Operating, name: str = "CP1") -> None:
         self.operating = operating
         self.name = name
         self.answers: dict[str, str] = {"UnlockConnector": "Unlocked", "TriggerMessage": "NotImplemented"}
+        # What it tells of the transaction that it is asked about, and how often it was asked.
+        self.transaction_status: Members = {"ongoingIndicator": True, "messagesInQueue": False}
+        self.asked_about = 0
         self.asked: "asyncio.Queue[tuple[str, Members]]" = asyncio.Queue()
         self.connected = asyncio.Event()
         self._calls: dict[str, tuple[str, "asyncio.Future[list[Any]]"]] = {}
@@ -153,7 +158,7 @@ class Station:
             while True:
                 try:
                     url = f"http://127.0.0.1:{self.operating.port}/ocpp/{self.name}"
-                    async with session.ws_connect(url, protocols=("ocpp1.6",)) as self.socket:
+                    async with session.ws_connect(url, protocols=(self.subprotocol,)) as self.socket:
                         self.connected.set()
                         for text, _ in self._calls.values():
                             await self.socket.send_str(text)
@@ -170,6 +175,10 @@ class Station:
                 self._calls.pop(frame[1])[1].set_result(frame)
             return
         status = self.answers.get(frame[2], "Accepted")
+        if frame[2] == "GetTransactionStatus":
+            await self.socket.send_str(json.dumps([3, frame[1], self.transaction_status]))
+            self.asked_about += 1
+            return
         if frame[2] != "TriggerMessage":
             self.asked.put_nowait((frame[2], frame[3]))
         if status != "silent":

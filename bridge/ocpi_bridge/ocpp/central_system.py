@@ -169,7 +169,8 @@ class CentralSystem:
         """Ends each PENDING session for which nobody plugged in."""
         for session in self._objects.pending_sessions():
             place = self._site.place(session["evse_uid"])
-            if place is not None and place.charge_point.connection is not None:
+            if (place is not None and place.charge_point.connection is not None
+                    and self._site.transactions.of_session(session["id"]) is None):
                 until = seconds_of(session["last_updated"]) + PLUGGED_IN_WITHIN
                 if self._clock.seconds() > max(until, place.charge_point.connection.since + TOLD_WITHIN):
                     self._spawn(self._end_session, place.charge_point, session["id"])

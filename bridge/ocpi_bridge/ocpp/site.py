@@ -202,9 +202,9 @@ class Site:
         return self.commands.find(command.provider, command.number)
 
     async def withdraw(self, session_id: str | None) -> None:
-        """Ends a session in which nobody charges so far."""
+        """Ends a session for which no transaction came so far."""
         session = self.living(session_id)
-        if session is not None and session["status"] == "PENDING":
+        if session is not None and session["status"] == "PENDING" and self.transactions.of_session(session_id) is None:
             await self.report("stops", evse_uid=session["evse_uid"])
 
     async def swipe(self, place: Place, token: IdToken, connector: int = 1) -> None:

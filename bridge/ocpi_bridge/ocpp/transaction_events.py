@@ -79,11 +79,12 @@ class TransactionEvents:
         has_ended = told.ended_at is not None
         last = max(readings, key=lambda reading: reading.register, default=None) if has_ended else None
         if transaction.state == CHARGING:
-            if told.charging_at is not None or any(one.register > transaction.meter_start for one in readings):
+            # What it had at its beginning is no energy.
+            risen = [reading for reading in readings if reading.register > transaction.meter_start]
+            if told.charging_at is not None or risen:
                 at = transaction.started if told.charging_at is None else told.charging_at
                 await self._charges.begin(transaction, at / 1000)
-            session = self._site.living(transaction.session_id)
-            for reading in readings if session is not None and session["status"] == "ACTIVE" else []:
+            for reading in risen:
                 if reading is not last:
                     await self._readings.take(transaction, reading.timestamp, reading.register)
         if told.ended_at is not None:
