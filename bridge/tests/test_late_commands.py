@@ -30,6 +30,7 @@ class AwayTest(OcppCase):
     """The clock goes as fast as the machine's: 30 s of a command are not over."""
 
     async def test_a_start_and_an_unlock_whose_charge_point_is_away_fail_at_once(self) -> None:
+        """One that was there is away at once, one of a new bridge behind ten seconds, where there is one at all."""
         place = {"location_id": "LOC1", "connector_id": "1"}
         await self.operating.start(2, evse_uid="E3")
         await self.operating.command("unlock_connector", 3, evse_uid="E3", **place)

@@ -154,6 +154,7 @@ class CentralSystem:
         if outcome.event["event"] == "tick":
             self._end_unused()
             self._watch.tick()
+            self._orders.begin()
         if outcome.event["event"] == "fault" and outcome.word in ("stepped", "idle") and (
                 place := self._site.place(outcome.event["evse_uid"])) is not None:
             self._watch.stop_all(place.charge_point)

@@ -2,10 +2,10 @@
 
 A charge point is asked once for each command, and that is kept right before. It is asked one thing at a time: what has
 ended when its turn comes is not asked for. Where it has no connection, or loses it before, a start or an unlock is
-refused at once; a stop is asked for when it has one again, if that is still open then. Where it does not answer nothing
-is fed, and the node ends the command at its time. Where a transaction starts nevertheless, as behind an answer that a
-stop of the bridge lost, that is the command's: it is let charge if the node still takes that the charge point accepted,
-and stopped if not.
+refused at once, or some seconds behind the start of the bridge; a stop is asked for when it has one again, if that is
+still open then. Where it does not answer nothing is fed, and the node ends the command at its time. Where a transaction
+starts nevertheless, as behind an answer that a stop of the bridge lost, that is the command's: it is let charge if the
+node still takes that the charge point accepted, and stopped if not.
 """
 from collections.abc import Callable
 from functools import partial
@@ -54,7 +54,7 @@ class Orders:
         if not names_evse:
             alone = repeated if place is None else place.charge_point.alone
             await alone(partial(self._site.withdraw, command.session_id))
-        elif place is None or write is None or place.charge_point.connection is None:
+        elif place is None or write is None or self._site.is_away(place.charge_point):
             self._commands.refuse(command)
             await self._refuse(provider, number)
 

@@ -22,6 +22,8 @@ from .transactions import Transactions
 OUT_OF_SERVICE = {"Unavailable", "Faulted"}
 # 2020 in seconds since 1970. What a charge point dates earlier was told without a clock.
 EARLIEST = 1_577_836_800.0
+# The seconds in which a charge point is awaited behind the start of the bridge.
+CONNECTS_WITHIN = 10.0
 # The seconds for which a node awaits what a provider says of a token.
 QUESTION_WITHIN = 10.0
 Result = TypeVar("Result")
@@ -41,7 +43,7 @@ class ChargePoint:
     # When its last call came since the bridge was started, and the errors that it told, by connector (0: its own).
     heard: float | None = None
     errors: dict[int, str] = field(default_factory=dict)
-    # Since when it has no connection, as the clock counts what passed, and what the connectors of each EVSE told.
+    # Since when it is away if it has no connection, as the clock counts what passed, and what connectors told, by EVSE.
     away_since: float = 0.0
     statuses: dict[tuple[int, int], str] = field(default_factory=dict)
     lock: asyncio.Lock = field(default_factory=asyncio.Lock)
@@ -79,11 +81,16 @@ class Site:
         """Takes charge points in place of those of before, whose connections stay. Gives those that are no more."""
         before, self.by_id, self._places = self.by_id, {}, dict[str, Place]()
         for name, of_point in settings.charge_points.items():
-            point = self.by_id[name] = before.get(name) or ChargePoint(of_point, away_since=self.clock.passed())
+            point = self.by_id[name] = before.get(name) or ChargePoint(
+                of_point, away_since=self.clock.passed() + CONNECTS_WITHIN)
             point.settings, point.places = of_point, {}
             for number, connector in of_point.connectors.items():
                 point.places[number] = self._places[connector.evse_uid.upper()] = Place(point, number, connector)
         return [point for name, point in before.items() if name not in self.by_id]
+
+    def is_away(self, charge_point: ChargePoint, seconds: float = 0) -> bool:
+        """Whether a charge point is away for so long. One that a new bridge has not seen so far may come at once."""
+        return charge_point.connection is None and self.clock.passed() >= charge_point.away_since + seconds
 
     def place(self, evse_uid: str | None) -> Place | None:
         """Where an EVSE is. None where no charge point has it."""

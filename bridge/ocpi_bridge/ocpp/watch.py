@@ -80,10 +80,10 @@ class Watch:
 
     def _absence(self, place: Place, words: dict[str, str]) -> bool | None:
         """Whether the charge point of an EVSE is away, where the EVSE has to go out of service for that, or back."""
-        word, point = words.get(place.settings.evse_uid.upper()), place.charge_point
-        if point.connection is not None:
+        word = words.get(place.settings.evse_uid.upper())
+        if place.charge_point.connection is not None:
             return False if word == "away" else None
-        return True if word is None and self._site.clock.passed() >= point.away_since + AWAY_FOR else None
+        return True if word is None and self._site.is_away(place.charge_point, AWAY_FOR) else None
 
     async def _change_service(self, place: Place) -> None:
         async def change() -> None:
