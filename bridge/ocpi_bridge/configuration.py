@@ -242,14 +242,15 @@ def _connector(connector: Members, path: str, evses: dict[str, list[str]]) -> Co
                 or refuse(f"{path}.evse_uid", "not in the site, or that of another connector"))
     known, others = evses.pop(evse_uid), connector.get("other_connectors", {})
 
-    def take(connector_id: str, path: str) -> str:
-        found = spelled(connector_id, known) or refuse(path, f"not at the EVSE {evse_uid}, or that of another number")
+    def take(connector_id: str, path: str, more: str = "") -> str:
+        found = spelled(connector_id, known) or refuse(path, f"not at the EVSE {evse_uid}{more}")
         known.remove(found)
         return found
     return ConnectorSettings(
         evse_uid, take(connector["connector_id"], f"{path}.connector_id"),
         Decimal(str(connector.get("max_kw", USUAL_MAX_KW))),
-        {int(number): take(others[number], f"{path}.other_connectors.{number}") for number in others})
+        {int(number): take(others[number], f"{path}.other_connectors.{number}", ", or that of another number")
+         for number in others})
 
 
 def _partners(entries: list[Members], missing: list[str]) -> tuple[PartnerSettings, ...]:

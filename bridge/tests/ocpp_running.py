@@ -25,7 +25,11 @@ from ocpi_bridge.state import State
 from .running import PROGRAM, operator, provider
 
 Result = TypeVar("Result")
-SETUP = json.dumps({"nodes": [operator("BE/BEC", ["E1", "E2", "E3", "E4"]), provider("NL/TNM")]})
+OPERATOR = operator("BE/BEC", ["E1", "E2", "E3", "E4"])
+# The second EVSE has a second connector.
+EVSE = OPERATOR["site"]["locations"][0]["evses"][1]
+EVSE["connectors"] += [{**EVSE["connectors"][0], "id": "B"}]
+SETUP = json.dumps({"nodes": [OPERATOR, provider("NL/TNM")]})
 TOKEN: Members = {
     "country_code": "NL", "party_id": "TNM", "uid": "AA01", "type": "RFID", "contract_id": "NL-TNM-000001",
     "issuer": "TNM", "valid": True, "whitelist": "ALWAYS", "last_updated": "2025-01-01T09:00:00Z"}
@@ -57,7 +61,8 @@ class Operating:
         self.metrics = Metrics()
         self.feeder = RevocableFeeder(self.settings, self.events, self.state, self.metrics)
         self.objects = Objects(self.state)
-        connectors = [ConnectorSettings(uid, "1", self.max_kw) for uid in ("E1", "E2", "E3")]
+        connectors = [ConnectorSettings(uid, "1", self.max_kw, {2: "B"} if uid == "E2" else {})
+                      for uid in ("E1", "E2", "E3")]
         charge_points = {"CP1": ChargePointSettings("CP1", "secret", {1: connectors[0], 2: connectors[1]}),
                          "CP2": ChargePointSettings("CP2", None, {1: connectors[2]})}
         self.central_system = CentralSystem(OcppSettings("127.0.0.1:0", charge_points), self.events,

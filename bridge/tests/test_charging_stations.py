@@ -155,6 +155,30 @@ class ReportTest(StationCase):
                     self.operating.central_system.charge_points()[0]["connectors"][0]["error"]))
 
 
+class ConnectorsTest(StationCase):
+    """E2 is an EVSE with two connectors: it is out of service where both are."""
+
+    async def test_statuses_of_several_connectors(self) -> None:
+        for connector, status, services, shown in (
+                (1, "Available", [], "Available"), (2, "Available", [], "Available"),
+                (1, "Faulted", [], "Available"), (2, "Occupied", [], "Occupied"),
+                (2, "Unavailable", [False], "Unavailable"), (1, "Unavailable", [False], "Unavailable"),
+                (2, "Available", [True], "Available"), (3, "Faulted", [], "Available")):
+            with self.subTest(connector=connector, status=status):
+                self.operating.outcomes.clear()
+                await self.station.call("StatusNotification", timestamp=moment(0), connectorStatus=status, evseId=2,
+                                        connectorId=connector)
+                self.assertEqual((services, shown), (
+                    [outcome.event["in_service"] for outcome in self.operating.fed("service")],
+                    self.operating.central_system.charge_points()[0]["connectors"][1]["status"]))
+
+    async def test_the_connector_is_told_to_the_node_and_by_it(self) -> None:
+        await self.started(next(self.names), evse={"id": 2, "connectorId": 2})
+        self.assertEqual("B", self.operating.objects.newest("sessions")[0]["connector_id"])
+        await self.operating.command("unlock_connector", 2, location_id="LOC1", evse_uid="E2", connector_id="b")
+        self.assertEqual({"evseId": 2, "connectorId": 2}, await self.station.was_asked("UnlockConnector"))
+
+
 class AfterConnectionTest(StationCase):
     """What a station is asked about its transactions once it is connected again. The clock goes 20 times as fast."""
 

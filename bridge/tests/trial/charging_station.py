@@ -1,4 +1,4 @@
-"""A charging station of OCPP 2.0.1 over JSON with one EVSE. What it tells of a transaction may come in another order."""
+"""A charging station of OCPP 2.0.1 over JSON with one EVSE. What it tells of a transaction comes in any order."""
 import itertools
 import uuid
 from collections.abc import Awaitable, Iterator

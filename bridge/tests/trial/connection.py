@@ -100,7 +100,7 @@ class Connection:
 
     async def _live(self, session: ClientSession, url: str) -> None:
         """One connection, from its beginning until it is lost."""
-        async with session.ws_connect(url, protocols=(self._subprotocol,), headers=self._headers, autoclose=True) as opened:
+        async with session.ws_connect(url, protocols=(self._subprotocol,), headers=self._headers) as opened:
             self._socket = opened
             beginning = asyncio.create_task(self._begin())
             life = asyncio.get_running_loop().call_later(self._chance.expovariate(1 / LIVES_FOR_ABOUT), self._lose)
