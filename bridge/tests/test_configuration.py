@@ -153,7 +153,8 @@ class ConfigurationTest(unittest.TestCase):
         self.assertEqual([10, None], [settings.number_of(name) for name in ("c", "D")])
         place = "ocpp.charge_points[0].connectors.1.other_connectors"
         for others, refusal in (({"1": "B"}, f"{place}.1: no number of a connector, from 2"),
-                                ([], f"{place}: no object"), ({"2": "1"}, f"{place}.2: not at the EVSE E1, or that of another number"),
+                                ([], f"{place}: no object"),
+                                ({"2": "1"}, f"{place}.2: not at the EVSE E1, or that of another number"),
                                 ({"2": "B", "3": "b"}, f"{place}.3: not at the EVSE E1, or that of another number")):
             self.refused(refusal, ("ocpp/charge_points", [charge_point("CP1", ["E1"], other_connectors=others)]))
 

@@ -3,7 +3,7 @@ import itertools
 
 from ocpi_bridge.json_text import Members
 
-from .ocpp_station import StationCase, event, meter, token
+from .ocpp_station import ChargingStation, StationCase, event, meter, token
 from .ocpp_running import TOKEN, moment, within
 
 EVSE: Members = {"id": 1, "connectorId": 1}
@@ -190,6 +190,18 @@ class EventTest(StationCase):
             await self.metered(name, 2, 2000, 2)
             await self.ended(name, 10**12, 3)
             self.assertEqual(("E1", "COMPLETED", "1.0000"), self.last(), order)
+
+    async def test_an_evse_that_is_told_later_or_is_the_only_one(self) -> None:
+        name = next(self.names)
+        self.assertEqual({"idTokenInfo": {"status": "Accepted"}}, await self.started(name, evse=None))
+        self.assertEqual([], self.operating.sessions())
+        await self.station.tell(event("Updated", 1, name, "CablePluggedIn", 1, "Charging", evse={"id": 2}))
+        self.assertEqual(("E2", "ACTIVE", "0.0000"), self.last())
+        other = ChargingStation(self.operating, "CP2")
+        self.addAsyncCleanup(other.close)
+        await other.tell(event("Started", 0, name, "Authorized", 0, "Charging", idToken=token(),
+                               meterValue=meter(0, 0)))
+        self.assertEqual(("E3", "ACTIVE", "0.0000"), self.last())
 
     async def test_an_evse_that_is_not_configured(self) -> None:
         name = next(self.names)

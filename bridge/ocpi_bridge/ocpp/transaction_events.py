@@ -4,6 +4,7 @@ So they may come again, in another order, or the end before all else. A transact
 who charged is billed once that is told.
 """
 from collections.abc import Callable
+from dataclasses import replace
 
 from ..json_text import Members
 from ..state import State
@@ -30,6 +31,8 @@ class TransactionEvents:
     async def take(self, charge_point: ChargePoint, version: Version, payload: Members) -> Members:
         """What an event is answered."""
         event = read_event(payload)
+        if not event.evse and len(charge_point.places) == 1:
+            event = replace(event, evse=next(iter(charge_point.places)))
         transaction, told = self._told.take(charge_point.settings.id, event)
         place = charge_point.places.get(transaction.connector)
         self._watch.note_transaction(place)
