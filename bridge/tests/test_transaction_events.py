@@ -191,6 +191,13 @@ class EventTest(StationCase):
             await self.ended(name, 10**12, 3)
             self.assertEqual(("E1", "COMPLETED", "1.0000"), self.last(), order)
 
+    async def test_what_charges_for_a_minute_without_a_token_is_asked_to_stop(self) -> None:
+        name = next(self.names)
+        await self.started(name, -10, idToken=None)
+        self.assertEqual({"transactionId": name}, await self.station.was_asked("RequestStopTransaction"))
+        await self.ended(name, 2000)
+        self.assertEqual(([], []), (self.operating.sessions(), self.operating.bills()))
+
     async def test_an_evse_that_is_told_later_or_is_the_only_one(self) -> None:
         name = next(self.names)
         self.assertEqual({"idTokenInfo": {"status": "Accepted"}}, await self.started(name, evse=None))

@@ -18,6 +18,9 @@ from .transactions import CHARGING, LOST, NEW, OVER, STOPPED, Transaction
 from .version_201 import ENDED, TransactionEvent, read_event
 from .watch import Watch
 
+# After how many seconds a transaction is stopped that charges, and of which no token was told.
+TOKEN_WITHIN = 60.0
+
 
 class TransactionEvents:
     """`stop` is called with each transaction that goes on without a session."""
@@ -43,6 +46,9 @@ class TransactionEvents:
         if transaction.state == NEW:
             highest = max(readings, key=lambda reading: reading.register, default=None)
             self._told.wait(charge_point.settings.id, transaction, told, highest)
+            charging = None if told.ended_at is not None else told.charging_at
+            if charging is not None and charging / 1000 + TOKEN_WITHIN < self._site.clock.seconds():
+                self._stop(transaction)
         elif transaction.state not in (STOPPED, OVER):
             transaction = await self._go_on(transaction, told, readings)
             self._told.wait(charge_point.settings.id, transaction, told, None)
