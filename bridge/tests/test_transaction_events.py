@@ -173,6 +173,14 @@ class EventTest(StationCase):
         await self.ended(second, 3000, 8)
         self.assertEqual(["0.5000", "1.0000"], sorted(self.operating.bills()))
 
+    async def test_an_end_that_comes_before_all_of_another_transaction(self) -> None:
+        first, second = next(self.names), next(self.names)
+        await self.ended(first, 2000, 2)
+        await self.started(second, 5, 2000)
+        await self.ended(second, 2500, 7)
+        await self.started(first)
+        self.assertEqual(["0.5000", "1.0000"], sorted(self.operating.bills()))
+
     async def test_a_station_that_uses_an_id_again_tells_of_another_transaction(self) -> None:
         for second in (0, 10):
             for _ in range(2):

@@ -111,9 +111,11 @@ class Watch:
 
     async def end_lost(self, charge_point: ChargePoint, connector: int, timestamp: object, before: int = 2**62) -> None:
         """Ends the transactions of a connector, those with numbers below one that is given: it was told of no end, and
-        will not be told. Their sessions end by their last readings, at a moment in seconds or as a message tells it."""
+        will not be told. Their sessions end by their last readings, at a moment in seconds or as a message tells it.
+        One of which it is not known who charges has none."""
         for transaction in self._transactions.running(charge_point.settings.id, connector):
-            if transaction.number < before:
+            is_undecided = transaction.state == NEW and transaction.session_id is None
+            if transaction.number < before and not is_undecided:
                 await self._end_one(transaction, timestamp)
 
     async def _end_one(self, transaction: Transaction, timestamp: object) -> None:
