@@ -181,7 +181,24 @@ class EventTest(StationCase):
         await self.started(first)
         self.assertEqual(["0.5000", "1.0000"], sorted(self.operating.bills()))
 
+    async def test_a_start_that_is_told_with_another_moment_is_the_same(self) -> None:
+        """As of a station whose clock was set meanwhile."""
+        name = next(self.names)
+        for second in (-10_000_000, 5):
+            self.assertEqual({"idTokenInfo": {"status": "Accepted"}}, await self.started(name, second))
+        await self.ended(name, 3000, 9)
+        self.assertEqual(([("E1", "COMPLETED", "2.0000")], ["2.0000"]), (
+            self.operating.sessions(), self.operating.bills()))
+
     async def test_a_station_that_uses_an_id_again_tells_of_another_transaction(self) -> None:
+        await self.operating.deliver("put_token", {**TOKEN, "uid": "AA02"}, 2)
+        await self.started("0")
+        await self.metered("0", 1, 2000)
+        await self.started("0", 5, 2500, idToken=token("AA02"))
+        await self.ended("0", 3000, 6)
+        self.assertEqual(["0.5000", "1.0000"], sorted(self.operating.bills()))
+
+    async def test_a_station_that_uses_an_id_behind_its_end_tells_of_another_transaction(self) -> None:
         for second in (0, 10):
             for _ in range(2):
                 self.assertEqual({"idTokenInfo": {"status": "Accepted"}}, await self.started("1", second))

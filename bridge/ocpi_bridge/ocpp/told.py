@@ -5,7 +5,7 @@ from decimal import Decimal
 
 from ..state import State
 from .messages import IdToken, MeterReading
-from .transactions import NEW, Transaction, Transactions
+from .transactions import LOST, NEW, OVER, STOPPED, Transaction, Transactions
 from .version_201 import STARTED, ENDED, TransactionEvent
 
 
@@ -56,6 +56,14 @@ class Told:
             charging_at=min(charging, default=None), ended_at=event.at if event.kind == ENDED else self.ended_at)
 
 
+def _is_another(event: TransactionEvent, transaction: Transaction, told: Told) -> bool:
+    """Whether an event tells that another transaction began than one of that id: at another moment, behind the end of
+    that, or by another token. (A station whose clock was set may tell another moment of the same.)"""
+    is_by_another = event.token is not None and told.token_uid not in (None, event.token.uid)
+    return (event.kind == STARTED and told.started_at not in (None, event.at)
+            and (is_by_another or transaction.state in (STOPPED, OVER, LOST)))
+
+
 COLUMNS = ", ".join(field.name for field in fields(Told))
 
 
@@ -68,24 +76,24 @@ class ToldTransactions:
     def take(self, charge_point: str, event: TransactionEvent) -> tuple[Transaction, Told]:
         """Keeps what an event tells. Gives the transaction, and all that is known of it then."""
         with self._state.transaction():
-            told = self._find(charge_point, event)
-            transaction = self._transactions.find(charge_point, told.number)
-            assert transaction is not None
+            transaction, told = self._find(charge_point, event)
             is_new = transaction.state == NEW
             begins = event.begins[1] if event.begins and told.begins_by(event, is_new) else transaction.meter_start
             transaction = self._transactions.complete(
                 transaction, transaction.connector or event.evse, min(transaction.started, event.at), begins)
             return transaction, self._keep(charge_point, event.transaction_id, told.behind(event, is_new))
 
-    def _find(self, charge_point: str, event: TransactionEvent) -> Told:
-        """What is known. A transaction that began at another moment is another: the numbers of a station began anew."""
+    def _find(self, charge_point: str, event: TransactionEvent) -> tuple[Transaction, Told]:
+        """What is known of a transaction. The next one may have its id, where a station counts anew."""
         for row in self._state.query(
                 f"SELECT {COLUMNS} FROM ocpp_told WHERE charge_point = ? AND transaction_id = ?", charge_point,
                 event.transaction_id):
             told = Told(*row)
-            if event.kind != STARTED or told.started_at in (None, event.at):
-                return told
-        return Told(self._transactions.name(charge_point, event.transaction_id, event.at).number)
+            transaction = self._transactions.find(charge_point, told.number)
+            if transaction is not None and not _is_another(event, transaction, told):
+                return transaction, told
+        transaction = self._transactions.name(charge_point, event.transaction_id, event.at)
+        return transaction, Told(transaction.number)
 
     def _keep(self, charge_point: str, transaction_id: str, told: Told) -> Told:
         values = astuple(told)
