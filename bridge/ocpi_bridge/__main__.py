@@ -17,7 +17,7 @@ from .state import WrongState
 
 def main() -> int:
     """Reads the command line and the configuration. Gives the status."""
-    parser = argparse.ArgumentParser("ocpi_bridge", description="A node behind OCPI 2.2.1 and OCPP 1.6.")
+    parser = argparse.ArgumentParser("ocpi_bridge", description="A node behind OCPI 2.2.1 and OCPP 1.6 and 2.0.1.")
     parser.add_argument("configuration", metavar="CONFIG", type=Path, help="the configuration, a JSON file")
     parser.add_argument("--json-logs", action="store_true", help="write logs as JSON, an object a line")
     parser.add_argument("--register", nargs=2, metavar=("PARTY", "URL"),

@@ -7,7 +7,7 @@ import json
 import os
 import re
 from collections.abc import Iterable
-from dataclasses import dataclass, replace
+from dataclasses import dataclass, field, replace
 from decimal import Decimal
 from pathlib import Path
 from typing import Any, NoReturn, TypedDict
@@ -82,12 +82,24 @@ class OcpiSettings:
 class ConnectorSettings:
     """The EVSE and the connector of the site, as the setup spells them, that a connector of a charge point is.
 
-    `max_kw` is the most that it can give.
+    `max_kw` is the most that it can give. Of OCPP 2.0.1 an EVSE of a charge point is that, and its connector 1; it may
+    have `other_connectors`.
     """
 
     evse_uid: str
     connector_id: str
     max_kw: Decimal = Decimal(USUAL_MAX_KW)
+    other_connectors: dict[int, str] = field(default_factory=dict)
+
+    @property
+    def connector_ids(self) -> dict[int, str]:
+        """The connectors of the EVSE, by their numbers at the charge point."""
+        return {1: self.connector_id, **self.other_connectors}
+
+    def number_of(self, connector_id: str | None) -> int | None:
+        """The number of a connector, whose id is compared without case."""
+        return next((number for number, known in self.connector_ids.items()
+                     if known.upper() == str(connector_id).upper()), None)
 
 
 @dataclass(frozen=True)
@@ -258,9 +270,17 @@ def _connector(connector: ConnectorEntry, path: str, evses: dict[str, list[str]]
     """Takes the EVSE out of those of the site that are free, so that none is used twice."""
     evse_uid = (spelled(connector["evse_uid"], evses)
                 or refuse(f"{path}.evse_uid", "not in the site, or that of another connector"))
-    connector_id = (spelled(connector["connector_id"], evses.pop(evse_uid))
-                    or refuse(f"{path}.connector_id", f"not at the EVSE {evse_uid}"))
-    return ConnectorSettings(evse_uid, connector_id, Decimal(str(connector.get("max_kw", USUAL_MAX_KW))))
+    known, others = evses.pop(evse_uid), connector.get("other_connectors", {})
+
+    def take(connector_id: str, path: str, more: str = "") -> str:
+        found = spelled(connector_id, known) or refuse(path, f"not at the EVSE {evse_uid}{more}")
+        known.remove(found)
+        return found
+    return ConnectorSettings(
+        evse_uid, take(connector["connector_id"], f"{path}.connector_id"),
+        Decimal(str(connector.get("max_kw", USUAL_MAX_KW))),
+        {int(number): take(others[number], f"{path}.other_connectors.{number}", ", or that of another number")
+         for number in others})
 
 
 def _partners(entries: list[PartnerEntry], missing: list[str]) -> tuple[PartnerSettings, ...]:

@@ -83,7 +83,7 @@ PacketLine = TypedDict("PacketLine", {
 
 
 class Event(TypedDict, total=False):
-    """An event line. `owner` and `idempotency` are the bridge's own, and nodes read past them."""
+    """An event line. `owner`, `away` and `idempotency` are the bridge's own, and nodes read past them."""
 
     event: str
     node: str
@@ -95,6 +95,7 @@ class Event(TypedDict, total=False):
     number: int
     in_service: bool
     owner: bool
+    away: bool
     idempotency: list[str]
 
 

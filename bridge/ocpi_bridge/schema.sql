@@ -88,14 +88,24 @@ CREATE INDEX IF NOT EXISTS ocpp_command_evse ON ocpp_command (evse_uid, state);
 CREATE INDEX IF NOT EXISTS ocpp_command_reference ON ocpp_command (provider, reference);
 CREATE TABLE IF NOT EXISTS late_command (
     provider TEXT COLLATE NOCASE, number INTEGER, PRIMARY KEY (provider, number)) WITHOUT ROWID;
+CREATE TABLE IF NOT EXISTS ocpp_remote_start (
+    remote_start INTEGER PRIMARY KEY AUTOINCREMENT, provider TEXT COLLATE NOCASE, number INTEGER, token_type TEXT,
+    UNIQUE (provider, number));
 
--- ocpp/transactions.py
+-- ocpp/transactions.py (id_tag is the transactionId of one of OCPP 2.0.1)
 CREATE TABLE IF NOT EXISTS ocpp_transaction (
     number INTEGER PRIMARY KEY AUTOINCREMENT, charge_point TEXT NOT NULL, connector INTEGER NOT NULL,
     started INTEGER NOT NULL, id_tag TEXT NOT NULL, meter_start INTEGER NOT NULL, session_id TEXT UNIQUE,
     state TEXT NOT NULL, UNIQUE (charge_point, connector, started, id_tag, meter_start));
 CREATE INDEX IF NOT EXISTS ocpp_transaction_running ON ocpp_transaction (charge_point)
     WHERE state IN ('new', 'charging', 'refused');
+
+-- ocpp/told.py (moments are milliseconds since 1970)
+CREATE TABLE IF NOT EXISTS ocpp_told (
+    charge_point TEXT, transaction_id TEXT, number INTEGER NOT NULL UNIQUE, started_at INTEGER,
+    connector INTEGER NOT NULL, token_uid TEXT, token_type TEXT, remote_start INTEGER, begun_by INTEGER,
+    charging_at INTEGER, ended_at INTEGER, register TEXT, register_at TEXT,
+    PRIMARY KEY (charge_point, transaction_id)) WITHOUT ROWID;
 
 -- ocpp/readings.py
 CREATE TABLE IF NOT EXISTS ocpp_reading (number INTEGER PRIMARY KEY, at INTEGER NOT NULL, register TEXT NOT NULL);

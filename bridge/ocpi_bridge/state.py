@@ -91,10 +91,11 @@ class State:
             self.renumber_transactions()
 
     def renumber_transactions(self) -> None:
-        """Has the next transaction numbered as none was that this file does not know: by the seconds since 2020."""
-        self.query("DELETE FROM sqlite_sequence WHERE name = 'ocpp_transaction'")
-        self.query("INSERT INTO sqlite_sequence (name, seq) VALUES ('ocpp_transaction', ?)",
-                   int(time.time()) - BEGINNING)
+        """Has the next transaction, and the next remote start, numbered as none was that this file does not know: by
+        the seconds since 2020."""
+        for table in ("ocpp_transaction", "ocpp_remote_start"):
+            self.query("DELETE FROM sqlite_sequence WHERE name = ?", table)
+            self.query("INSERT INTO sqlite_sequence (name, seq) VALUES (?, ?)", table, int(time.time()) - BEGINNING)
 
     @contextmanager
     def transaction(self) -> Iterator[None]:

@@ -60,7 +60,7 @@ class ReadingTest(OcppCase):
         await self.station.meter(self.transaction, "5000", 36)
         with self.assertLogs("ocpp", "WARNING") as logged:
             await self.station.end(self.transaction, 4000, 40)
-        self.assertIn("meterStop is below a reading, which is billed: 4.0000 kWh", logged.output[0])
+        self.assertIn("its last reading is below another one, which is billed: 4.0000 kWh", logged.output[0])
         self.assertEqual(["4.0000"], self.operating.bills())
 
     async def test_a_reading_that_is_not_at_the_outlet_is_read_past(self) -> None:

@@ -15,11 +15,12 @@ from ..running import RunningBridge
 from . import checks
 from .chance import stream
 from .charge_point import ChargePoint
+from .charging_station import ChargingStation
 from .charges import drawn
 from .disk import Disk
 from .drivers import Drivers
 from .kills import Kills
-from .parties import CLOCK_FACTOR, OPERATORS, PARTIES, PLACES, PROVIDERS, Secrets, bridges
+from .parties import CLOCK_FACTOR, OPERATORS, PARTIES, PLACES, PROVIDERS, Place, Secrets, bridges
 from .proxy import Budget, Proxy
 from .records import records_of
 from .restore import restore
@@ -58,18 +59,18 @@ class Trial:
         self._proxies = {party: Proxy(stream(seed, "proxy", party), self._budget, SLOW if party == self._slow else 0.0)
                          for party in PARTIES}
         self._restored = [stream(seed, "restored").choice(parties) for parties in (OPERATORS, PROVIDERS)]
-        self._charge_points = {place.charge_point: self._charge_point(seed, place.operator, place.charge_point)
-                               for place in PLACES}
+        self._charge_points = {place.charge_point: self._charge_point(seed, place) for place in PLACES}
         self._bridges: dict[str, RunningBridge] = {}
         self._seed = seed
         self.faults: list[str] = []
 
-    def _charge_point(self, seed: int, operator: str, identifier: str) -> ChargePoint:
+    def _charge_point(self, seed: int, place: Place) -> ChargePoint:
         def address() -> str | None:
-            bridge = self._bridges[operator]
+            bridge = self._bridges[place.operator]
             return bridge.ocpp_url if "ocpp" in bridge.addresses else None
-        return ChargePoint(identifier, self._secrets.passwords[identifier], address,
-                           stream(seed, "charge point", identifier), CLOCK_FACTOR)
+        kind = ChargePoint if place.version == "1.6" else ChargingStation
+        return kind(place.charge_point, self._secrets.passwords[place.charge_point], address,
+                    stream(seed, "charge point", place.charge_point), CLOCK_FACTOR)
 
     async def carry_out(self) -> str:
         """Runs the trial, and gives what it had in words. Its faults are in `faults`."""
