@@ -10,44 +10,16 @@ from collections.abc import Iterable
 from dataclasses import dataclass, field, replace
 from decimal import Decimal
 from pathlib import Path
-from typing import Any, NoReturn, TypedDict
+from typing import Any, NoReturn
 
 import fastjsonschema
 
+from .entries import ConnectorEntry, OcppEntry, PartnerEntry
 from .json_text import NotJson, Number, NumberTooLarge, read_json, write_json
 from .records import Setup, Site
 
 USUAL_MAX_KW = 400
 SCHEMA = Path(__file__).parents[1] / "configuration.schema.json"
-
-
-class ConnectorEntry(TypedDict, total=False):
-    """A connector in the file, as the schema wants it. So are the other entries."""
-
-    evse_uid: str
-    connector_id: str
-    max_kw: int | Number
-
-
-class ChargePointEntry(TypedDict, total=False):
-    id: str
-    password: str
-    connectors: dict[str, ConnectorEntry]
-
-
-class OcppEntry(TypedDict):
-    listen: str
-    charge_points: list[ChargePointEntry]
-
-
-class PartnerEntry(TypedDict, total=False):
-    party: str
-    kind: str
-    token: str
-    their_token: str
-    versions_url: str
-    token_base64: bool
-    own_references: bool
 
 
 class WrongConfiguration(Exception):
