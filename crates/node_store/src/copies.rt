@@ -1,5 +1,7 @@
 //! What a store keeps, read from its bytes in memory, so that its file stays as it is.
 
+ghost use Rattle.std.specs.Prelude.{IfOk, IsTrue};
+
 use crate::fault::StoreFault;
 use crate::keep::{Keep, Kept};
 use crate::table_keep::{TableKeep, fault_of};
@@ -8,7 +10,9 @@ use sqlite_disk::{Disk, Memory};
 use std::alloc::Global;
 
 /// A file in memory with these bytes. An error is want of memory.
-fn disk_of(alloc: Global, bytes: &[u8]) -> Result<Memory, StoreFault> {
+fn disk_of(alloc: Global, bytes: &[u8]) -> Result<Memory, StoreFault>
+    ensures usable { IfOk result (λ disk. IsTrue disk.usable) }
+{
     let mut disk = Memory::new(alloc);
     if bytes.is_empty() {
         return Ok(disk);
