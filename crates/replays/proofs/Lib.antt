@@ -1,1 +1,17 @@
 pub mod OneValue
+pub mod Lists
+pub mod Cut
+pub mod CutLemmas
+pub mod RunLemmas
+pub mod Going
+pub mod Told
+pub mod Lines
+pub mod Led
+pub mod Seen
+pub mod Sound
+pub mod Known
+pub mod Only
+pub mod OnlyRuns
+pub mod Comes
+pub mod Blame
+pub mod Before

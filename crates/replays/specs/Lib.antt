@@ -1,7 +1,12 @@
 pub mod LineTurns
 pub mod Happenings
 pub mod Openings
-pub mod Printed
-pub mod Transcripts
 pub mod Cutting
+pub mod CutRuns
+pub mod Fronts
+pub mod Printed
+pub mod Telling
+pub mod Walks
+pub mod Reading
+pub mod Transcripts
 pub mod Laws

@@ -8,6 +8,7 @@ use Rattle.node_runs.specs.DoneLines.{malformed_line}
 use Rattle.node_runs.specs.SetupLines.{numbered_setup_in}
 use Rattle.stored_nodes.specs.Transactions.{changes_of_each}
 use Rattle.world_steps.specs.Steps.{NodeEvent as Deed}
+use Rattle.replays.specs.Cutting.{ArePrintedBy}
 use Rattle.replays.specs.Happenings.{Happening, Opened, Placed, came_by}
 use Rattle.replays.specs.LineTurns.{Held, IsLeftBy, IsLine, LineGives, Running, echo_of}
 use Rattle.replays.specs.Openings.{Opens, begun, opened_by, opening_of}
@@ -56,15 +57,6 @@ pub data Prints (wanted : List ℕ) (found : Held) : List ℕ → List Happening
 
 -- ---- runs, one behind the other
 
--- no two line feeds follow one another
-abbrev pub HasNoEmptyLine : List ℕ → Type 0
-HasNoEmptyLine text = (before after : List ℕ) → text ≢ before ++ 10 ∷ 10 ∷ after
-
--- What runs print over a store, each behind two line feeds, and what of that is told, one behind the other. None prints
--- an empty line besides.
-pub data ArePrinted (wanted : List ℕ) : Held → List ℕ → List Happening → Type 0 where
-  NoMore : {held : Held} → ArePrinted wanted held [] []
-  -- one was stopped behind its first line feed
-  AtOnce : {held : Held} {rest : List ℕ} {told : List Happening} → ArePrinted wanted held rest told → ArePrinted wanted held (10 ∷ rest) told
-  OneMore : {held left : Held} {run rest : List ℕ} {told later : List Happening} → Prints wanted held run told left → HasNoEmptyLine run
-      → ArePrinted wanted left rest later → ArePrinted wanted held (10 ∷ 10 ∷ (run ++ rest)) (told ++ later)
+-- what runs print over a store, each behind two line feeds, and what of that is told, one behind the other
+abbrev pub ArePrinted : List ℕ → Held → List ℕ → List Happening → Type 0
+ArePrinted wanted = ArePrintedBy (Prints wanted)

@@ -20,10 +20,6 @@ use Rattle.replays.specs.declared.transcript.Source.TheVariants.{Echoed, Restart
 
 -- ---- what a file was printed by
 
--- none of these parties is that one, in whichever case
-abbrev pub IsOther : List (List ℕ) → List ℕ → Type 0
-IsOther parties wanted = (p : List ℕ) → Contains parties p → key p ≢ key wanted
-
 -- Runs of one node, of none of those parties, over a store that had that, printed the text, and what of it is told is that
 -- history. The text may begin without the first run's two line feeds, which a run of an earlier program did not print:
 -- with two more in front, those that stand there are those of a run that was stopped behind them.
@@ -66,39 +62,14 @@ pub record IsTranscript (t : Transcript) : Type 0 where
   pub size : length t.sources ≡ length t.entries
   pub runs : (x : Source) → Contains t.sources x → opening_of x < length t.openings
 
--- the member at a place of a setup
-abbrev pub IsRunOf : OpenedRun → Opening → Type 0
-IsRunOf o x = (o.line ≡ x.line.bytes.now) × (o.setup ≡ x.setup) × (slice_get x.setup x.member ≡ Some o.member) × (o.rows ≡ x.rows) × (o.serial ≡ x.serial)
-
-abbrev pub AreRunsOf : List OpenedRun → List Opening → Type 0
-AreRunsOf [] [] = Unit {0}
-AreRunsOf [] (x ∷ xs) = ⊥
-AreRunsOf (o ∷ os) [] = ⊥
-AreRunsOf (o ∷ os) (x ∷ xs) = IsRunOf o x × AreRunsOf os xs
-
--- the entries of a history, each with where it comes from: its text, and the place of its run among those that were
--- opened, of which there were so many before
-abbrev pub AreSourcesOf : ℕ → List Happening → List Source → Type 0
-AreSourcesOf before [] [] = Unit {0}
-AreSourcesOf before [] (x ∷ xs) = ⊥
-AreSourcesOf zero (Opened o ∷ hs) xs = AreSourcesOf 1 hs xs
-AreSourcesOf (suc n) (Opened o ∷ hs) [] = ⊥
-AreSourcesOf (suc n) (Opened o ∷ hs) (Echoed at line ∷ xs) = ⊥
-AreSourcesOf (suc n) (Opened o ∷ hs) (Restarted at ∷ xs) = (at ≡ suc n) × AreSourcesOf (suc (suc n)) hs xs
-AreSourcesOf before (Came line e ∷ hs) [] = ⊥
-AreSourcesOf before (Came line e ∷ hs) (Echoed at text ∷ xs) = (suc at ≡ before) × IsTextAt line e.place text.bytes.now × AreSourcesOf before hs xs
-AreSourcesOf before (Came line e ∷ hs) (Restarted at ∷ xs) = ⊥
-
 -- it tells that history, in which some run was opened
-pub record Tells (t : Transcript) (told : List Happening) : Type 0 where
-  pub openings : AreRunsOf (openings_in told) t.openings
+pub record TellsOf (t : Transcript) (told : List Happening) : Type 0 where
+  pub tells : Tells told t.openings t.entries t.sources
   pub some : openings_in told ≢ []
-  pub entries : t.entries ≡ entries_in told
-  pub sources : AreSourcesOf 0 told t.sources
 
 -- the text tells it
 abbrev pub IsTranscriptOf : List (List ℕ) → Held → List ℕ → Transcript → Type 0
-IsTranscriptOf earlier start text t = (told : List Happening) × PrintedBy earlier start text told × Tells t told
+IsTranscriptOf earlier start text t = (told : List Happening) × PrintedBy earlier start text told × TellsOf t told
 
 -- ---- a refusal
 
@@ -123,12 +94,6 @@ line_of (fault.Wrong n) = n
 line_of (fault.BegunLater n) = n
 line_of (fault.LinesMissing n) = n
 line_of fault.Memory = 0
-
--- what stands in front of so many line feeds, and they
-unfoldable pub lines_front : ℕ → List ℕ → List ℕ
-lines_front zero text = []
-lines_front (suc n) [] = []
-lines_front (suc n) (c ∷ text) = c ∷ cond (c == 10) (lines_front n text) (lines_front (suc n) text)
 
 -- no line before the one that is named can be blamed: some runs print them all
 abbrev pub BlamesNoLineBefore : List (List ℕ) → Held → List ℕ → ReplayFault → Type 0

@@ -1,7 +1,9 @@
 //! A file, cut at its empty lines: what stands between is the text of one run.
 
-ghost use Rattle.std.specs.Prelude.{◌≡◌, ◌≢◌, ◌++◌, ◌∷◌, All, IfNone, IfSome, ℕ};
-ghost use Rattle.replays.specs.Cutting.{IsNextRun, feeds};
+ghost use Rattle.std.specs.Prelude.{◌≡◌, ◌≢◌, ◌≤◌, ◌+◌, ◌^◌, ◌↔◌, ◌++◌, ◌∷◌, All, IfNone, IfSome, IsTrue, List, false, true, length, ℕ};
+ghost use Rattle.replays.specs.Cutting.{BeginsAnew, EndsRun, GoesFurther, GoesPast, feeds};
+ghost use Rattle.replays.specs.Fronts.{feeds_of};
+ghost use Rattle.replays.specs.CutRuns.{HasNumbers, IsNextRun};
 
 use memchr::memchr;
 
@@ -40,58 +42,105 @@ pub(crate) fn split_feed(text: &[u8]) -> Option<(&[u8], &[u8])>
     ensures none { IfNone result (All (λ b. b ≢ 10) text.now) }
 {
     let end = memchr(b'\n', text)?;
-    let (front, _) = text.split_at(end);
-    let (_, behind) = text.split_at(end + 1);
+    let (front, rest) = text.split_at(end);
+    let (_, behind) = rest.split_first()?;
     Some((front, behind))
 }
 
-/// How many line feeds a text begins with.
-fn feeds_in_front(text: &[u8]) -> usize {
-    for (count, byte) in text.iter().enumerate() {
-        if *byte != b'\n' {
-            return count;
+/// How many line feeds a text begins with, and what stands behind them.
+#[tactic(auto, using(crate::proofs::CutLemmas::other_first, crate::proofs::CutLemmas::none_left))]
+fn behind_feeds(text: &[u8]) -> (usize, &[u8])
+    ensures is { text.now ≡ feeds result.0 ++ result.1.now }
+    ensures anew { BeginsAnew result.1.now }
+{
+    let mut count: usize = 0;
+    let mut rest = text;
+    while let Some((first, behind)) = rest.split_first() {
+        if *first != b'\n' {
+            return (count, rest);
         }
+        rest = behind;
+        count += 1;
     }
-    text.len()
+    (count, rest)
 }
 
 /// How many line feeds a text has.
-pub(crate) fn feeds_in(text: &[u8]) -> usize {
+#[tactic(auto, using(crate::proofs::CutLemmas::feed_counts, crate::proofs::CutLemmas::other_counts, crate::proofs::CutLemmas::none_counts))]
+pub(crate) fn feeds_in(text: &[u8]) -> usize
+    ensures is { result ≡ feeds_of text.now }
+    ensures few { result ≤ length text.now }
+{
     let mut count: usize = 0;
-    for byte in text {
-        if *byte == b'\n' {
-            count = count.saturating_add(1);
+    let mut rest = text;
+    while let Some((first, behind)) = rest.split_first() {
+        if *first == b'\n' {
+            count += 1;
         }
+        rest = behind;
     }
     count
 }
 
 /// Whether a text begins with a line feed, or has nothing.
-fn ends_there(text: &[u8]) -> bool {
+#[tactic(auto, using(crate::proofs::CutLemmas::feed_ends, crate::proofs::CutLemmas::end_ends))]
+fn ends_there(text: &[u8]) -> bool
+    ensures yes { result ≡ true → EndsRun (10 ∷ text.now) }
+    ensures not { result ≡ false → (c : ℕ) × ((more : List ℕ) × (text.now ≡ c ∷ more) × (c ≢ 10)) }
+{
     match text.split_first() {
-        Some((first, _)) => *first == b'\n',
+        Some((first, _)) => {
+            if *first == b'\n' {
+                return true;
+            }
+            false
+        }
         None => true,
     }
 }
 
-/// How many bytes stand in front of the first empty line of a text; where there is none, in front of a line feed at its
-/// end.
-fn length_of_run(text: &[u8]) -> usize {
-    for (length, byte) in text.iter().enumerate() {
-        let (_, rest) = text.split_at(length);
-        if let Some((_, behind)) = rest.split_first() {
-            if *byte == b'\n' && ends_there(behind) {
-                return length;
+/// Whether a run ends in front of a text: where nothing stands there, or an empty line, or one line feed.
+#[tactic(auto, using(crate::proofs::CutLemmas::none_end, crate::proofs::CutLemmas::there_ends))]
+fn ends_run(text: &[u8]) -> bool
+    ensures yes { result ≡ true → EndsRun text.now }
+    ensures not { result ≡ false → GoesPast text.now }
+{
+    match text.split_first() {
+        Some((first, behind)) => {
+            if *first == b'\n' {
+                return ends_there(behind);
             }
+            false
         }
+        None => true,
     }
-    text.len()
+}
+
+/// What stands in front of the first empty line of a text, or where there is none, of a line feed at its end; and what
+/// stands behind that.
+#[tactic(auto, using(crate::proofs::CutLemmas::not_far, crate::proofs::CutLemmas::none_end, crate::proofs::CutLemmas::further))]
+fn split_run(text: &[u8]) -> (&[u8], &[u8])
+    ensures is { text.now ≡ result.0.now ++ result.1.now }
+    ensures further { GoesFurther result.0.now result.1.now }
+    ensures ends { EndsRun result.1.now }
+{
+    let mut length: usize = 0;
+    let mut rest = text;
+    while let Some((_, behind)) = rest.split_first() {
+        if ends_run(rest) {
+            return text.split_at(length);
+        }
+        rest = behind;
+        length += 1;
+    }
+    (text, rest)
 }
 
 impl<'a> Runs<'a> {
     /// A whole file.
     pub(crate) fn new(text: &'a [u8]) -> Runs<'a>
-        ensures { result.rest.now ≡ text.now }
+        ensures rest { result.rest.now ≡ text.now }
+        ensures number { result.number ≡ 1 }
     {
         Runs {
             rest: text,
@@ -101,22 +150,24 @@ impl<'a> Runs<'a> {
 
     /// The text of the next run that has some.
     pub(crate) fn next(&mut self) -> Option<RunText<'a>>
-        ensures some { IfSome result (λ r. IsNextRun self.old.rest.now r self.new.rest.now) }
+        requires { HasNumbers self.old.number self.old.rest.now }
+        ensures some { IfSome result (λ r. IsNextRun self.old r self.new) }
         ensures none { IfNone result ((count : ℕ) × (self.old.rest.now ≡ feeds count)) }
+        ensures numbers { HasNumbers self.new.number self.new.rest.now }
     {
-        let front = feeds_in_front(self.rest);
-        let (_, text) = self.rest.split_at(front);
+        let (front, text) = behind_feeds(self.rest);
         if text.is_empty() {
             return None;
         }
-        let (bytes, behind) = text.split_at(length_of_run(text));
+        let (bytes, behind) = split_run(text);
+        let (after, _) = behind_feeds(behind);
         let number = self.number + front;
         self.rest = behind;
         self.number = number + feeds_in(bytes);
         Some(RunText {
             bytes,
             number,
-            is_ended: feeds_in_front(behind) >= 3,
+            is_ended: after >= 3,
         })
     }
 }
