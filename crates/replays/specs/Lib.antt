@@ -8,5 +8,7 @@ pub mod Printed
 pub mod Telling
 pub mod Walks
 pub mod Reading
+pub mod Ways
+pub mod Answering
 pub mod Transcripts
 pub mod Laws

@@ -1,8 +1,18 @@
 //! What a node prints for a line behind the setup, which is carried out.
 
+ghost use Rattle.std.specs.Prelude.{◌≡◌, ◌<◌, ◌++◌, ◌∷◌, [], List, Ok, OnOk, Some, length, map, slice_get, string_bytes, ℕ};
+ghost use Rattle.json_text.specs.Fault.{Read};
+ghost use Rattle.node_lines.specs.NodeLines.{node_line_in};
+ghost use Rattle.node_lines.specs.declared.node_line.NodeLine.TheVariants.{Several};
+ghost use Rattle.ocpi_types.specs.declared.node_events.NodeEvent.{NodeEvent as NodeEventOf};
+ghost use Rattle.histories.specs.declared.entry.Entry.{Entry as EntryOf};
+ghost use Rattle.node_replay.specs.Replayed.{restart_entry};
+ghost use Rattle.replays.specs.declared.transcript.Source.TheVariants.{Restarted};
+ghost use Rattle.replays.specs.Answering.{AreAllDone, EventDone, IsLineRead, IsStepTold, LineDone};
+
 use crate::cutting::EchoedLine;
 use crate::transcript::Source;
-use histories::Entry;
+use histories::{Entry, Packets};
 use node_lines::{Elements, NodeLine, element_texts, read_node_line};
 use node_replay::{NodeReplay, ReplayFault as StepFault, Replayed};
 use node_runs::{
@@ -11,7 +21,7 @@ use node_runs::{
 use node_steps::NodeFault;
 use ocpi_json::{JsonFault, Scratch};
 use ocpi_text::{Party, Whole};
-use ocpi_types::{NodeEvent, Packet};
+use ocpi_types::{NodeEvent, NodeEventKind, Packet};
 use std::alloc::{AllocError, Global};
 
 /// A node that runs again.
@@ -38,8 +48,50 @@ pub(crate) struct Happened<'a> {
     pub sources: Vec<Source<'a>>,
 }
 
+impl<'a> Happened<'a> {
+    /// Adds what happened behind. An error is want of memory.
+    pub(crate) fn add(&mut self, later: Happened<'a>) -> Result<(), AllocError>
+        ensures entries { OnOk result (self.new.entries.items ≡ self.old.entries.items ++ later.entries.items) }
+        ensures sources { OnOk result (self.new.sources.items ≡ self.old.sources.items ++ later.sources.items) }
+    {
+        let Happened { entries, sources } = later;
+        match add_entries(&mut self.entries, entries) {
+            Ok(()) => self.sources.extend_from_slice(sources.as_slice()),
+            Err(_) => {
+                drop(sources);
+                Err(AllocError)
+            }
+        }
+    }
+
+    /// The node started again, in the run of that place. An error is want of memory.
+    pub(crate) fn restart(&mut self, alloc: Global, opening: usize) -> Result<(), AllocError>
+        ensures entries { OnOk result (self.new.entries.items ≡ self.old.entries.items ++ restart_entry ∷ []) }
+        ensures sources { OnOk result (self.new.sources.items ≡ self.old.sources.items ++ Restarted opening ∷ []) }
+    {
+        self.entries.push(Entry {
+            event: NodeEventKind::Restart,
+            packets: Packets::new(Vec::new(alloc)),
+        })?;
+        self.sources.push(Source::Restarted { opening })?;
+        Ok(())
+    }
+}
+
+/// Adds entries behind others. An error is want of memory.
+fn add_entries(entries: &mut Vec<Entry>, later: Vec<Entry>) -> Result<(), AllocError>
+    ensures { OnOk result (entries.new.items ≡ entries.old.items ++ later.items) }
+{
+    for entry in later {
+        entries.push(entry)?;
+    }
+    Ok(())
+}
+
 /// The packets of the last entry.
-fn last_packets(entries: &[Entry]) -> &[Packet] {
+fn last_packets(entries: &[Entry]) -> &[Packet]
+    ensures { (before : List EntryOf) (entry : EntryOf) → entries.now ≡ before ++ entry ∷ [] → result.now ≡ entry.packets }
+{
     match entries.last() {
         Some(entry) => entry.packets.as_slice(),
         None => &[],
@@ -54,7 +106,9 @@ impl Running {
         line: EchoedLine<'a>,
         happened: &mut Happened<'a>,
         text: &mut String,
-    ) -> Result<(), AllocError> {
+    ) -> Result<(), AllocError>
+        ensures { OnOk result (LineDone self.old self.new line.bytes.now (string_bytes text.new) happened.old happened.new) }
+    {
         text.clear();
         let Some(number) = self.number.next() else {
             return write_refused(Whole::MAX, None, NodeFault::NumbersUsedUp, text);
@@ -74,7 +128,12 @@ impl Running {
         line: EchoedLine<'a>,
         happened: &mut Happened<'a>,
         text: &mut String,
-    ) -> Result<(), AllocError> {
+    ) -> Result<(), AllocError>
+        requires text { string_bytes text.old ≡ [] }
+        requires number { self.old.number ≡ number }
+        requires new { self.old.known < number }
+        ensures { OnOk result (IsLineRead self.old self.new line.bytes.now (string_bytes text.new) happened.old happened.new) }
+    {
         match read_node_line(self.alloc, scratch, line.bytes) {
             Ok(NodeLine::One(event)) => {
                 self.answer_event(event, number, None, line, happened, text)
@@ -97,7 +156,11 @@ impl Running {
         line: EchoedLine<'a>,
         happened: &mut Happened<'a>,
         text: &mut String,
-    ) -> Result<(), AllocError> {
+    ) -> Result<(), AllocError>
+        requires text { string_bytes text.old ≡ [] }
+        ensures { OnOk result (node_line_in line.bytes.now ≡ Ok (Several elements.now)
+            → AreAllDone self.old self.new number line.bytes.now elements.now (string_bytes text.new) happened.old happened.new) }
+    {
         let texts = element_texts(self.alloc, line.bytes)?;
         for place in 0..elements.len() {
             let element = EchoedLine {
@@ -118,9 +181,12 @@ impl Running {
         line: EchoedLine<'a>,
         happened: &mut Happened<'a>,
         text: &mut String,
-    ) -> Result<(), AllocError> {
-        let read = elements.read(self.alloc, place);
-        match read {
+    ) -> Result<(), AllocError>
+        requires { place < length elements.now }
+        ensures { OnOk result ((read : Read NodeEventOf) → slice_get elements.now place ≡ Some read
+            → EventDone self.old self.new number (Some place) read line.bytes.now (string_bytes text.old) (string_bytes text.new) happened.old happened.new) }
+    {
+        match elements.read(self.alloc, place) {
             Ok(event) => self.answer_event(event, number, Some(place), line, happened, text),
             Err(JsonFault::Memory) => Err(AllocError),
             Err(fault) => write_malformed(number.value(), Some(place), fault, text),
@@ -136,7 +202,10 @@ impl Running {
         line: EchoedLine<'a>,
         happened: &mut Happened<'a>,
         text: &mut String,
-    ) -> Result<(), AllocError> {
+    ) -> Result<(), AllocError>
+        ensures { OnOk result ((read : Read NodeEventOf) → read ≡ Ok event
+            → EventDone self.old self.new number place read line.bytes.now (string_bytes text.old) (string_bytes text.new) happened.old happened.new) }
+    {
         let NodeEvent { node, kind } = event;
         if !node.is_same(&self.party) {
             drop(kind);
@@ -153,7 +222,7 @@ impl Running {
         }
     }
 
-    /// Writes what the node sent for the event of the last entry.
+    /// Notes where the last entry comes from, and writes what the node sent for its event.
     fn tell_step<'a>(
         &mut self,
         changed: bool,
@@ -162,7 +231,9 @@ impl Running {
         line: EchoedLine<'a>,
         happened: &mut Happened<'a>,
         text: &mut String,
-    ) -> Result<(), AllocError> {
+    ) -> Result<(), AllocError>
+        ensures { OnOk result (IsStepTold self.old self.new changed number place line (string_bytes text.old) (string_bytes text.new) happened.old happened.new) }
+    {
         let source = Source::Echoed {
             opening: self.opening,
             line,
@@ -180,7 +251,9 @@ impl Running {
 }
 
 /// The text at a place.
-fn text_at<'a>(texts: &[&'a [u8]], place: usize) -> &'a [u8] {
+fn text_at<'a>(texts: &[&'a [u8]], place: usize) -> &'a [u8]
+    ensures { (text : List ℕ) → slice_get (map (λ t. t.now) texts.now) place ≡ Some text → result.now ≡ text }
+{
     match texts.get(place) {
         Some(text) => *text,
         None => &[],

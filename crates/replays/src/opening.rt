@@ -1,8 +1,13 @@
 //! How a run is opened, by what stands behind its setup line.
 
+ghost use Rattle.std.specs.Prelude.{◌≡◌, ◌≢◌, ◌<◌, ◌+◌, ◌++◌, All, Contains, IfOk, List, false, length, string_bytes, take, ℕ};
+ghost use Rattle.replays.specs.Reading.{Fits, IsBehind};
+ghost use Rattle.replays.specs.Ways.{IsClosed, IsFit, IsNodeTried, IsTried};
+ghost use Rattle.node_runs.specs.DoneLines.{opened_line};
+ghost use Rattle.world_laws.specs.Laws.{IsSetup};
+
 use crate::cutting::{EchoedLine, split_feed};
 use crate::held::Held;
-use crate::history::Fits;
 use node_replay::NodeReplay;
 use node_runs::write_opened;
 use ocpi_text::{Party, Whole};
@@ -21,7 +26,7 @@ pub(crate) struct Piece<'a> {
 
 /// How what stands there fits a line.
 #[derive(Clone, Copy, PartialEq, Eq)]
-enum Fit {
+pub(crate) enum Fit {
     /// It does not.
     No,
     /// It is a beginning of it.
@@ -49,6 +54,15 @@ pub(crate) struct Opened {
     pub serial: Whole,
 }
 
+/// In which ways a node may have been opened over what a store has.
+#[derive(Drop)]
+pub(crate) enum Ways {
+    /// The node at that place in the setup was.
+    Was(usize, Opened),
+    /// One of these parties may have been, of which the line is cut. Where there are none, no node was.
+    May(Vec<Party>),
+}
+
 /// What stands behind a setup line.
 #[derive(Clone, Copy)]
 pub(crate) struct Behind<'a> {
@@ -60,28 +74,13 @@ pub(crate) struct Behind<'a> {
     pub is_ended: bool,
 }
 
-/// In which way the node was opened.
-#[derive(Drop)]
-pub(crate) struct Way {
-    pub opened: Opened,
-    /// The place of the node in the setup.
-    pub member: usize,
-    /// Whether the line in doubt had taken hold.
-    pub took_hold: bool,
-}
-
-/// In which ways it may have been.
-#[derive(Drop)]
-pub(crate) struct Found {
-    /// The parties of the nodes that fit a line which was cut.
-    pub parties: Vec<Party>,
-    pub fits: Fits,
-    /// Where the line is whole.
-    pub opened: Option<Way>,
-}
-
 /// What stands behind a setup line.
-pub(crate) fn behind_setup<'a>(line: EchoedLine<'a>, rest: &'a [u8], is_ended: bool) -> Behind<'a> {
+pub(crate) fn behind_setup<'a>(line: EchoedLine<'a>, rest: &'a [u8], is_ended: bool) -> Behind<'a>
+    ensures line { result.line ≡ line }
+    ensures ended { result.is_ended ≡ is_ended }
+    ensures plain { All (λ b. b ≢ 10) result.piece.bytes.now }
+    ensures is { IsBehind rest.now result.piece.bytes.now result.piece.is_closed result.rest.now }
+{
     match split_feed(rest) {
         Some((bytes, rest)) => Behind {
             line,
@@ -106,7 +105,11 @@ pub(crate) fn behind_setup<'a>(line: EchoedLine<'a>, rest: &'a [u8], is_ended: b
 
 impl Piece<'_> {
     /// How it fits a line, which is given with its line feed.
-    fn fit(&self, line: &[u8]) -> Fit {
+    fn fit(&self, line: &[u8]) -> Fit
+        requires line { IsClosed line.now }
+        requires piece { All (λ b. b ≢ 10) self.now.bytes.now }
+        ensures { IsFit self.now.is_closed self.now.bytes.now line.now result }
+    {
         if !line.starts_with(self.bytes) {
             return Fit::No;
         }
@@ -117,8 +120,16 @@ impl Piece<'_> {
     }
 
     /// Whether it may fit a line of which that is the front.
-    fn may_fit(&self, front: &[u8]) -> bool {
-        self.bytes.starts_with(front) || (!self.is_closed && front.starts_with(self.bytes))
+    fn may_fit(&self, front: &[u8]) -> bool
+        ensures { result ≡ false → (rest : List ℕ) → 1 < length rest → Fits self.now.is_closed self.now.bytes.now (front.now ++ rest) → ⊥ }
+    {
+        if self.bytes.starts_with(front) {
+            return true;
+        }
+        if self.is_closed {
+            return false;
+        }
+        front.starts_with(self.bytes)
     }
 }
 
@@ -126,20 +137,25 @@ impl Piece<'_> {
 const END_BYTES: usize = 3;
 
 /// The serial of a node that sent nothing.
-fn no_serial() -> Whole {
+fn no_serial() -> Whole
+    ensures { result ≡ 0 }
+{
     match Whole::new(0) {
         Some(serial) => serial,
         None => unreachable!(),
     }
 }
 
-/// The line of an opening up to its serial.
+/// The line of an opening, but for its last bytes if its serial is 0: the line of each serial begins so.
 fn write_front(
     alloc: Global,
     held: &Held,
     party: &Party,
     text: &mut String,
-) -> Result<usize, AllocError> {
+) -> Result<usize, AllocError>
+    ensures { IfOk result (λ length_of. (serial : ℕ) → (rest : List ℕ) × (1 < length rest)
+        × (opened_line held.now.line party.now (length held.now.rows) serial ≡ take length_of (string_bytes text.new) ++ rest)) }
+{
     text.clear();
     write_opened(
         alloc,
@@ -153,7 +169,9 @@ fn write_front(
 }
 
 /// The first bytes of a text.
-fn front_of(text: &str, length: usize) -> &[u8] {
+fn front_of(text: &str, length: usize) -> &[u8]
+    ensures { result.now ≡ take length text.now }
+{
     let bytes = text.as_bytes();
     if length > bytes.len() {
         return bytes;
@@ -171,7 +189,12 @@ pub(crate) fn try_member(
     held: &Held,
     piece: Piece<'_>,
     text: &mut String,
-) -> Result<Tried, AllocError> {
+) -> Result<Tried, AllocError>
+    requires setup { IsSetup nodes.now }
+    requires member { Contains nodes.now member.now }
+    requires piece { All (λ b. b ≢ 10) piece.bytes.now }
+    ensures { IfOk result (IsTried nodes.now member.now held.now piece.is_closed piece.bytes.now) }
+{
     let front = write_front(alloc, held, member.party(), text)?;
     if !piece.may_fit(front_of(text.as_str(), front)) {
         return Ok(Tried::No);
@@ -184,7 +207,7 @@ pub(crate) fn try_member(
     }
 }
 
-/// Whether a node that was made of these rows was opened.
+/// Whether a node that was made of these rows was opened. An error is want of memory.
 fn try_node(
     alloc: Global,
     member: &Node,
@@ -192,7 +215,10 @@ fn try_node(
     node: NodeReplay,
     piece: Piece<'_>,
     text: &mut String,
-) -> Result<Tried, AllocError> {
+) -> Result<Tried, AllocError>
+    requires piece { All (λ b. b ≢ 10) piece.bytes.now }
+    ensures { IfOk result (IsNodeTried member.now held.now node piece.is_closed piece.bytes.now) }
+{
     let serial = node.last_serial();
     text.clear();
     let written = write_opened(

@@ -7,9 +7,9 @@ use crate::answering::Running;
 use crate::cutting::{EchoedLine, RunText, Runs, feeds_in, split_feed};
 use crate::explaining::{ToldOpening, tell_difference, tell_earlier, tell_older, told_opening};
 use crate::fault::ReplayFault;
-use crate::held::Start;
-use crate::history::{Fits, History};
-use crate::opening::{Behind, Found, Opened, Piece, Tried, Way, behind_setup, try_member};
+use crate::held::{Held, Start};
+use crate::history::History;
+use crate::opening::{Behind, Opened, Piece, Tried, Ways, behind_setup, try_member};
 use crate::transcript::{Opening, Transcript};
 use node_core::nodes_of;
 use node_runs::{read_numbered_setup, write_malformed};
@@ -29,10 +29,8 @@ struct Reading<'a, 'b> {
     /// The parties of other files.
     earlier: &'b [Party],
     /// The parties of which the node may be, where anything tells.
-    parties: Option<Vec<Party>>,
+    parties: Vec<Party>,
     history: History<'a>,
-    /// Room for what the node prints.
-    text: String,
 }
 
 /// The text behind its first bytes.
@@ -52,9 +50,8 @@ impl<'a, 'b> Reading<'a, 'b> {
             seed,
             is_given,
             earlier,
-            parties: None,
+            parties: Vec::new(alloc),
             history: History::new(alloc, held),
-            text: String::new(alloc),
         }
     }
 
@@ -67,9 +64,7 @@ impl<'a, 'b> Reading<'a, 'b> {
             earlier: _,
             parties,
             history,
-            text,
         } = self;
-        drop(text);
         drop(parties);
         history.into_transcript()
     }
@@ -77,8 +72,9 @@ impl<'a, 'b> Reading<'a, 'b> {
     /// Reads what one run printed.
     fn take_run(
         &mut self,
-        scratch: &mut Scratch,
         run: RunText<'a>,
+        scratch: &mut Scratch,
+        text: &mut String,
         words: &mut String,
     ) -> Result<(), ReplayFault> {
         let Some((first, rest)) = split_feed(run.bytes) else {
@@ -91,26 +87,27 @@ impl<'a, 'b> Reading<'a, 'b> {
         match read_numbered_setup(self.alloc, scratch, first) {
             Ok((setup, base)) => {
                 let behind = behind_setup(line, rest, run.is_ended);
-                self.take_setup(scratch, setup, base, behind, words)
+                self.take_setup(setup, base, behind, scratch, text, words)
             }
             Err(JsonFault::Memory) => Err(ReplayFault::Memory),
-            Err(fault) => self.take_malformed(fault, line, rest, words),
+            Err(fault) => self.take_malformed(fault, line, rest, text, words),
         }
     }
 
     /// Reads what stands behind a first line that is no setup.
     fn take_malformed(
-        &mut self,
+        &self,
         fault: JsonFault,
         line: EchoedLine<'a>,
         rest: &'a [u8],
+        text: &mut String,
         words: &mut String,
     ) -> Result<(), ReplayFault> {
-        self.text.clear();
-        if write_malformed(1, None, fault, &mut self.text).is_err() {
+        text.clear();
+        if write_malformed(1, None, fault, text).is_err() {
             return Err(ReplayFault::Memory);
         }
-        let told = self.text.as_bytes();
+        let told = text.as_bytes();
         if told.starts_with(rest) {
             return Ok(());
         }
@@ -125,14 +122,15 @@ impl<'a, 'b> Reading<'a, 'b> {
     /// Reads what stands behind a setup line.
     fn take_setup(
         &mut self,
-        scratch: &mut Scratch,
         setup: Setup,
         base: Option<Whole>,
         behind: Behind<'a>,
+        scratch: &mut Scratch,
+        text: &mut String,
         words: &mut String,
     ) -> Result<(), ReplayFault> {
-        match self.open(setup, base, behind, words) {
-            Ok(Some(running)) => self.take_lines(scratch, running, behind, words),
+        match self.open(setup, base, behind, text, words) {
+            Ok(Some(running)) => self.take_lines(running, behind, scratch, text, words),
             Ok(None) => Ok(()),
             Err(fault) => Err(fault),
         }
@@ -140,15 +138,10 @@ impl<'a, 'b> Reading<'a, 'b> {
 
     /// Whether the node may be of that party.
     fn may_be(&self, party: &Party) -> bool {
-        for other in self.earlier {
-            if other.is_same(party) {
-                return false;
-            }
+        if is_among(self.earlier, party) {
+            return false;
         }
-        match &self.parties {
-            None => true,
-            Some(parties) => is_among(parties.as_slice(), party),
-        }
+        self.parties.is_empty() || is_among(self.parties.as_slice(), party)
     }
 
     /// Begins with the node that was opened, if one was.
@@ -157,130 +150,152 @@ impl<'a, 'b> Reading<'a, 'b> {
         setup: Setup,
         base: Option<Whole>,
         behind: Behind<'a>,
+        text: &mut String,
         words: &mut String,
     ) -> Result<Option<Running>, ReplayFault> {
-        let found = self.find_opened(&setup, behind.piece)?;
-        let Found {
-            parties,
-            fits,
-            opened,
-        } = found;
-        if let Some(way) = opened {
-            drop(parties);
-            let running = self.begin(setup, way, base, behind)?;
-            return Ok(Some(running));
-        }
-        if !fits.before && !fits.behind {
-            drop(parties);
-            return Err(self.explain_opening(&setup, behind, words));
-        }
-        self.parties = Some(parties);
-        self.history.settle(fits);
-        Ok(None)
-    }
-
-    /// Finds in which ways the node may have been opened.
-    fn find_opened(&mut self, setup: &Setup, piece: Piece<'a>) -> Result<Found, AllocError> {
-        let mut found = Found {
-            parties: Vec::new(self.alloc),
-            fits: Fits {
-                before: false,
-                behind: false,
-            },
-            opened: None,
-        };
-        for member in 0..setup.as_slice().len() {
-            if self.may_be(setup.as_slice()[member].party()) {
-                self.try_way(setup, member, piece, false, &mut found)?;
-                self.try_way(setup, member, piece, true, &mut found)?;
+        match self.ways_over(&setup, self.history.held(), behind.piece, text)? {
+            Ways::Was(member, opened) => {
+                self.history.leave_out();
+                let running = self.begin(setup, member, opened, base, behind)?;
+                Ok(Some(running))
             }
+            Ways::May(parties) => self.open_behind(setup, parties, base, behind, text, words),
         }
-        Ok(found)
     }
 
-    /// Tries one way: one member of a setup, over what the store has before or behind the line in doubt.
-    fn try_way(
+    /// Begins with the node that was opened over what the line in doubt left, if one was.
+    fn open_behind(
         &mut self,
-        setup: &Setup,
-        member: usize,
-        piece: Piece<'a>,
-        took_hold: bool,
-        found: &mut Found,
-    ) -> Result<(), AllocError> {
-        match self.try_over(setup, member, piece, took_hold)? {
-            Tried::No => Ok(()),
-            Tried::May => {
-                found.fits = Fits {
-                    before: found.fits.before || !took_hold,
-                    behind: found.fits.behind || took_hold,
-                };
-                found.parties.push(*setup.as_slice()[member].party())?;
-                Ok(())
+        setup: Setup,
+        before: Vec<Party>,
+        base: Option<Whole>,
+        behind: Behind<'a>,
+        text: &mut String,
+        words: &mut String,
+    ) -> Result<Option<Running>, ReplayFault> {
+        match self.ways_behind(&setup, behind.piece, text) {
+            Ok(Ways::Was(member, opened)) => {
+                drop(before);
+                self.history.take_in()?;
+                let running = self.begin(setup, member, opened, base, behind)?;
+                Ok(Some(running))
             }
-            Tried::Was(opened) => {
-                found.opened = Some(Way {
-                    opened,
-                    member,
-                    took_hold,
-                });
-                Ok(())
+            Ok(Ways::May(after)) => {
+                self.settle(&setup, before, after, behind, words)?;
+                Ok(None)
+            }
+            Err(_) => {
+                drop(before);
+                Err(ReplayFault::Memory)
             }
         }
     }
 
-    /// Tries one member of a setup over what the store has; with `took_hold`, over that behind the line in doubt.
-    fn try_over(
-        &mut self,
+    /// Finds in which ways the node may have been opened over what the line in doubt left.
+    fn ways_behind(
+        &self,
         setup: &Setup,
-        member: usize,
-        piece: Piece<'a>,
-        took_hold: bool,
-    ) -> Result<Tried, AllocError> {
+        piece: Piece<'_>,
+        text: &mut String,
+    ) -> Result<Ways, AllocError> {
+        match self.history.behind() {
+            Some(held) => self.ways_over(setup, held, piece, text),
+            None => Ok(Ways::May(Vec::new(self.alloc))),
+        }
+    }
+
+    /// Finds in which ways the node may have been opened over what a store has.
+    fn ways_over(
+        &self,
+        setup: &Setup,
+        held: &Held,
+        piece: Piece<'_>,
+        text: &mut String,
+    ) -> Result<Ways, AllocError> {
+        let mut parties = Vec::new(self.alloc);
+        for place in 0..setup.as_slice().len() {
+            match self.try_at(setup, place, held, piece, text, &mut parties) {
+                Ok(None) => {}
+                Ok(Some(opened)) => {
+                    drop(parties);
+                    return Ok(Ways::Was(place, opened));
+                }
+                Err(_) => {
+                    drop(parties);
+                    return Err(AllocError);
+                }
+            }
+        }
+        Ok(Ways::May(parties))
+    }
+
+    /// Whether the node at a place in a setup was opened over what a store has. Where it may have been, its party is
+    /// added to those. An error is want of memory.
+    fn try_at(
+        &self,
+        setup: &Setup,
+        place: usize,
+        held: &Held,
+        piece: Piece<'_>,
+        text: &mut String,
+        parties: &mut Vec<Party>,
+    ) -> Result<Option<Opened>, AllocError> {
         let nodes = nodes_of(setup);
-        if took_hold {
-            return match self.history.behind() {
-                Some(held) => try_member(
-                    self.alloc,
-                    self.seed,
-                    nodes,
-                    &nodes[member],
-                    held,
-                    piece,
-                    &mut self.text,
-                ),
-                None => Ok(Tried::No),
-            };
+        let member = &nodes[place];
+        if !self.may_be(member.party()) {
+            return Ok(None);
         }
-        try_member(
-            self.alloc,
-            self.seed,
-            nodes,
-            &nodes[member],
-            self.history.held(),
-            piece,
-            &mut self.text,
-        )
+        match try_member(self.alloc, self.seed, nodes, member, held, piece, text)? {
+            Tried::No => Ok(None),
+            Tried::May => {
+                parties.push(*member.party())?;
+                Ok(None)
+            }
+            Tried::Was(opened) => Ok(Some(opened)),
+        }
     }
 
-    /// A run was opened.
+    /// Settles of which of these parties the node may be, and whether the line in doubt took hold, where one way is left.
+    fn settle(
+        &mut self,
+        setup: &Setup,
+        before: Vec<Party>,
+        after: Vec<Party>,
+        behind: Behind<'a>,
+        words: &mut String,
+    ) -> Result<(), ReplayFault> {
+        if after.is_empty() {
+            drop(after);
+            if before.is_empty() {
+                drop(before);
+                return Err(self.explain_opening(setup, behind, words));
+            }
+            self.history.leave_out();
+            self.parties = before;
+            return Ok(());
+        }
+        if before.is_empty() {
+            drop(before);
+            self.parties = after;
+            self.history.take_in()?;
+            return Ok(());
+        }
+        drop(after);
+        self.parties = before;
+        Ok(())
+    }
+
+    /// A run was opened, over what the store has.
     fn begin(
         &mut self,
         setup: Setup,
-        way: Way,
+        member: usize,
+        opened: Opened,
         base: Option<Whole>,
         behind: Behind<'a>,
     ) -> Result<Running, AllocError> {
-        let Way {
-            opened,
-            member,
-            took_hold,
-        } = way;
-        self.history.settle(Fits {
-            before: !took_hold,
-            behind: took_hold,
-        });
         let party = *setup.as_slice()[member].party();
-        self.parties = Some(only(self.alloc, party)?);
+        self.parties = only(self.alloc, party)?;
         let Opened { node, serial } = opened;
         let known = self.history.held().line;
         let rows = self.history.held().rows.len();
@@ -357,9 +372,10 @@ impl<'a, 'b> Reading<'a, 'b> {
     /// Reads the lines behind an opening.
     fn take_lines(
         &mut self,
-        scratch: &mut Scratch,
         running: Running,
         behind: Behind<'a>,
+        scratch: &mut Scratch,
+        text: &mut String,
         words: &mut String,
     ) -> Result<(), ReplayFault> {
         let mut running = running;
@@ -372,17 +388,17 @@ impl<'a, 'b> Reading<'a, 'b> {
                     bytes: rest,
                 };
                 let is_in_doubt = behind.is_ended && !rest.is_empty();
-                return self.end_run(scratch, running, line, is_in_doubt);
+                return self.end_run(running, line, is_in_doubt, scratch, text);
             };
             let line = EchoedLine { number, bytes };
-            self.answer(scratch, &mut running, line)?;
-            let told = self.text.as_bytes();
+            self.history.answer(scratch, &mut running, line, text)?;
+            let told = text.as_bytes();
             if more.starts_with(told) {
                 rest = text_behind(more, told.len());
                 number = number + 1 + feeds_in(told);
             } else if told.starts_with(more) {
                 let nothing = EchoedLine { number, bytes: &[] };
-                return self.end_run(scratch, running, nothing, false);
+                return self.end_run(running, nothing, false, scratch, text);
             } else {
                 let _ = tell_difference(told, more, words);
                 let _ = tell_earlier(self.alloc, scratch, rest, words);
@@ -391,29 +407,19 @@ impl<'a, 'b> Reading<'a, 'b> {
         }
     }
 
-    /// Carries out a line, and writes what the node prints for it.
-    fn answer(
-        &mut self,
-        scratch: &mut Scratch,
-        running: &mut Running,
-        line: EchoedLine<'a>,
-    ) -> Result<(), AllocError> {
-        self.history.answer(scratch, running, line, &mut self.text)
-    }
-
     /// A run ended, or was stopped. With `is_in_doubt`, at that line: it was carried out, or was not.
     fn end_run(
         &mut self,
-        scratch: &mut Scratch,
         running: Running,
         line: EchoedLine<'a>,
         is_in_doubt: bool,
+        scratch: &mut Scratch,
+        text: &mut String,
     ) -> Result<(), ReplayFault> {
         let mut running = running;
         self.history.leave(&running)?;
         if is_in_doubt {
-            self.history
-                .doubt(scratch, &mut running, line, &mut self.text)?;
+            self.history.doubt(scratch, &mut running, line, text)?;
         }
         drop(running);
         Ok(())
@@ -454,9 +460,10 @@ pub fn read_transcript<'a>(
     ensures line { IfErr result (BlamesNoLineBefore earlier.now start.held text.now) }
 {
     let mut reading = Reading::new(alloc, seed, start, earlier);
+    let mut printed = String::new(alloc);
     let mut runs = Runs::new(text);
     while let Some(run) = runs.next() {
-        match reading.take_run(scratch, run, words) {
+        match reading.take_run(run, scratch, &mut printed, words) {
             Ok(()) => {}
             Err(fault) => return Err(fault),
         }

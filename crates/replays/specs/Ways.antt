@@ -1,0 +1,58 @@
+-- In which ways a node may have been opened, by what stands behind its setup line.
+use Rattle.std.specs.Prelude.{◌≡◌, ◌≢◌, ◌<◌, ℕ, List, [], ◌∷◌, ◌++◌, Some, All, Bool, IsFalse, length, slice_get}
+use Rattle.ocpi_types.specs.declared.setup.Node.{Node}
+use Rattle.stored_laws.specs.Nodes.{last_serial}
+use Rattle.world_steps.specs.World.{NodeState}
+use Rattle.replays.specs.LineTurns.{Held}
+use Rattle.replays.specs.Reading.{AreCut, Fits, OpensOver, Reader, WasOpened, told_line}
+use Rattle.replays.specs.declared.opening.Fit.{Fit}
+use Rattle.replays.specs.declared.opening.Fit.TheVariants as fit
+use Rattle.replays.specs.declared.opening.Opened.{Opened}
+use Rattle.replays.specs.declared.opening.Tried.{Tried}
+use Rattle.replays.specs.declared.opening.Tried.TheVariants as tried
+use Rattle.replays.specs.declared.opening.Ways.{Ways}
+use Rattle.replays.specs.declared.opening.Ways.TheVariants as ways
+
+-- a line that ends where it ends
+abbrev pub IsClosed : List ℕ → Type 0
+IsClosed line = (body : List ℕ) × (line ≡ body ++ 10 ∷ []) × All (λ b. b ≢ 10) body
+
+-- a beginning of a line stands there, behind which nothing does
+abbrev pub IsBegun : Bool → List ℕ → List ℕ → Type 0
+IsBegun closed piece line = IsFalse closed × ((missing : List ℕ) × (line ≡ piece ++ missing) × (1 < length missing))
+
+-- how what stands behind a setup line fits a line
+abbrev pub IsFit : Bool → List ℕ → List ℕ → Fit → Type 0
+IsFit closed piece line fit.No = Fits closed piece line → ⊥
+IsFit closed piece line fit.Begins = IsBegun closed piece line
+IsFit closed piece line fit.Is = line ≡ piece ++ 10 ∷ []
+
+-- a node that was opened over what a store has
+pub record IsOpened (setup : List Node) (member : Node) (held : Held) (piece : List ℕ) (o : Opened) : Type 0 where
+  pub opens : OpensOver setup member held o.node
+  pub tells : told_line held member o.node ≡ piece ++ 10 ∷ []
+  pub serial : o.serial ≡ last_serial o.node
+
+-- whether the node of a member was
+abbrev pub IsTried : List Node → Node → Held → Bool → List ℕ → Tried → Type 0
+IsTried setup member held closed piece tried.No = (state : NodeState) → OpensOver setup member held state → Fits closed piece (told_line held member state) → ⊥
+IsTried setup member held closed piece tried.May = (state : NodeState) × OpensOver setup member held state × IsBegun closed piece (told_line held member state)
+IsTried setup member held closed piece (tried.Was o) = IsOpened setup member held piece o
+
+-- one that was is at its place in the setup
+pub record IsWay (r : Reader) (setup : List Node) (piece : List ℕ) (held : Held) (place : ℕ) (o : Opened) : Type 0 where
+  pub way : WasOpened r setup piece held
+  pub there : slice_get setup place ≡ Some way.member
+  pub state : o.node ≡ way.state
+  pub serial : o.serial ≡ last_serial way.state
+
+-- the ways over what a store has
+abbrev pub AreWays : Reader → List Node → Bool → List ℕ → Held → Ways → Type 0
+AreWays r setup closed piece held (ways.Was place o) = IsWay r setup piece held place o
+AreWays r setup closed piece held (ways.May parties) = AreCut r setup closed piece held parties.items
+
+-- whether the node that was made was opened
+abbrev pub IsNodeTried : Node → Held → NodeState → Bool → List ℕ → Tried → Type 0
+IsNodeTried member held state closed piece tried.No = Fits closed piece (told_line held member state) → ⊥
+IsNodeTried member held state closed piece tried.May = IsBegun closed piece (told_line held member state)
+IsNodeTried member held state closed piece (tried.Was o) = (o.node ≡ state) × (told_line held member state ≡ piece ++ 10 ∷ []) × (o.serial ≡ last_serial state)
