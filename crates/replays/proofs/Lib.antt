@@ -15,3 +15,6 @@ pub mod OnlyRuns
 pub mod Comes
 pub mod Blame
 pub mod Before
+pub mod AnswerLemmas
+pub mod LineLemmas
+pub mod LineFacts

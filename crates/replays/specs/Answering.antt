@@ -1,10 +1,13 @@
 -- How a line is carried out, event by event, and what is entered of it.
-use Rattle.std.specs.Prelude.{◌≡◌, ◌≢◌, ℕ, suc, List, [], ◌∷◌, ◌++◌, Bool, cond, Option, length}
+use Rattle.std.specs.Prelude.{◌≡◌, ◌≢◌, ℕ, suc, List, [], ◌∷◌, ◌++◌, Bool, true, false, cond, Option, length}
 use Rattle.histories.specs.declared.entry.Entry.{Entry}
 use Rattle.json_text.specs.Fault.{Read}
 use Rattle.line_runs.specs.declared.run.Turn.{Turn}
+use Rattle.line_runs.specs.declared.run.Turn.TheVariants.{Refused, Taken}
+use Rattle.node_replay.specs.declared.outcome.Replayed.{Replayed}
+use Rattle.node_replay.specs.declared.outcome.Replayed.TheVariants.{Skipped, Stepped}
 use Rattle.node_runs.specs.LineAnswers.{Answers, AreDone, PlacedTurn, step_line}
-use Rattle.node_runs.specs.DoneLines.{all_line}
+use Rattle.node_runs.specs.DoneLines.{all_line, skipped_line}
 use Rattle.ocpi_types.specs.declared.node_events.NodeEvent.{NodeEvent}
 use Rattle.program_lines.specs.Writing.{packet_lines}
 use Rattle.stored_nodes.specs.Transactions.{changes_of_each}
@@ -37,17 +40,23 @@ pub record IsSameRun (before after : RunningOf) : Type 0 where
   pub number : after.number ≡ before.number
   pub opening : after.opening ≡ before.opening
 
+-- how an event is answered
+abbrev pub turn_of : Bool → Turn
+turn_of true = Taken
+turn_of false = Refused
+
 -- An event at a place of the line of a number was carried out: what was read of it, what is written and what is entered.
 pub record EventDone (before after : RunningOf) (number : ℕ) (place : Option ℕ) (read : Read NodeEvent) (element : List ℕ)
     (text_before text_after : List ℕ) (entered_before entered_after : Happened) : Type 0 where
-  pub turn : Turn
+  pub taken : Bool
   pub out : List ℕ
   pub did : List Deed
-  pub turns : PlacedTurn before.party before.node number place read turn out did after.node
+  pub turns : (party : List ℕ) → party ≡ before.party → PlacedTurn party before.node number place read (turn_of taken) out did after.node
   pub written : text_after ≡ text_before ++ out
   pub last : after.last ≡ last_behind (changes_of_each did) before.last number
   pub same : IsSameRun before after
-  pub enters : (line : List ℕ) → IsTextAt line place element → Enters (suc before.opening) (came_by line (entries_of_turn turns)) entered_before entered_after
+  pub enters : (party : List ℕ) (is : party ≡ before.party) (line : List ℕ) → IsTextAt line place element
+      → Enters (suc before.opening) (came_by line (entries_of_turn (turns party is))) entered_before entered_after
 
 -- The first events of a line were.
 pub record EventsDone (before after : RunningOf) (number : ℕ) (line : List ℕ) (reads : List (Read NodeEvent))
@@ -71,12 +80,14 @@ pub record LineDone (before after : RunningOf) (line : List ℕ) (text : List �
 
 -- ---- within a line
 
--- a line that is read, of the number that the node has by now
-pub record IsLineRead (before after : RunningOf) (line : List ℕ) (text : List ℕ) (entered_before entered_after : Happened) : Type 0 where
+-- a line of a number, which is read
+pub record IsLineRead (before after : RunningOf) (number : ℕ) (line : List ℕ) (text : List ℕ) (entered_before entered_after : Happened) : Type 0 where
   pub turn : Turn
+  pub out : List ℕ
   pub did : List Deed
-  pub answers : Answers before.party before.node before.number line turn text did after.node
-  pub last : after.last ≡ last_behind (changes_of_each did) before.last before.number
+  pub answers : Answers before.party before.node number line turn out did after.node
+  pub written : text ≡ out
+  pub last : after.last ≡ last_behind (changes_of_each did) before.last number
   pub same : IsSameRun before after
   pub enters : Enters (suc before.opening) (came_by line (entries_of_line answers)) entered_before entered_after
 
@@ -96,6 +107,13 @@ pub record IsStepTold (before after : RunningOf) (changed : Bool) (number : ℕ)
   pub sources : entered_after.sources.items ≡ entered_before.sources.items ++ Echoed before.opening line ∷ []
   pub written : (entries : List Entry) (entry : Entry) → entered_before.entries.items ≡ entries ++ entry ∷ []
       → text_after ≡ text_before ++ (packet_lines entry.packets ++ step_line number place entry.packets changed)
+
+-- what became of an event is told
+abbrev pub IsReplayTold : Replayed → RunningOf → RunningOf → ℕ → Option ℕ → EchoedLine → List ℕ → List ℕ → Happened → Happened → Type 0
+IsReplayTold Skipped before after number place line text_before text_after entered_before entered_after =
+    (text_after ≡ text_before ++ skipped_line number place) × (after ≡ before) × (entered_after ≡ entered_before)
+IsReplayTold (Stepped changed) before after number place line text_before text_after entered_before entered_after =
+    IsStepTold before after changed number place line text_before text_after entered_before entered_after
 
 -- ---- in a history
 

@@ -11,7 +11,10 @@ use Rattle.ocpi_types.specs.declared.stored.SentCommand.{SentCommand}
 use Rattle.provider_steps.specs.Acts.{own_url}
 use Rattle.replays.specs.Happenings.{Came, Happening, IsTextAt, Opened, OpenedRun, entries_in, openings_in}
 use Rattle.replays.specs.LineTurns.{Held}
+use Rattle.replays.specs.Fronts.{lines_front}
 use Rattle.replays.specs.Printed.{ArePrinted}
+use Rattle.replays.specs.Reading.{IsOther}
+use Rattle.replays.specs.Telling.{Tells}
 use Rattle.replays.specs.declared.fault.ReplayFault.{ReplayFault}
 use Rattle.replays.specs.declared.fault.ReplayFault.TheVariants as fault
 use Rattle.replays.specs.declared.transcript.Opening.{Opening}

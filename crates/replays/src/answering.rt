@@ -1,14 +1,19 @@
 //! What a node prints for a line behind the setup, which is carried out.
 
-ghost use Rattle.std.specs.Prelude.{◌≡◌, ◌<◌, ◌++◌, ◌∷◌, [], List, Ok, OnOk, Some, length, map, slice_get, string_bytes, ℕ};
+ghost use Rattle.std.specs.Prelude.{◌≡◌, ◌≢◌, ◌<◌, ◌++◌, ◌∷◌, [], List, None, Ok, OnOk, Some, length, map, slice_get, string_bytes, ℕ};
 ghost use Rattle.json_text.specs.Fault.{Read};
 ghost use Rattle.node_lines.specs.NodeLines.{node_line_in};
+ghost use Rattle.node_runs.specs.DoneLines.{malformed_line, refused_line};
 ghost use Rattle.node_lines.specs.declared.node_line.NodeLine.TheVariants.{Several};
 ghost use Rattle.ocpi_types.specs.declared.node_events.NodeEvent.{NodeEvent as NodeEventOf};
 ghost use Rattle.histories.specs.declared.entry.Entry.{Entry as EntryOf};
 ghost use Rattle.node_replay.specs.Replayed.{restart_entry};
 ghost use Rattle.replays.specs.declared.transcript.Source.TheVariants.{Restarted};
-ghost use Rattle.replays.specs.Answering.{AreAllDone, EventDone, IsLineRead, IsStepTold, LineDone};
+ghost use Rattle.node_replay.specs.declared.outcome.ReplayFault.TheVariants as stepping;
+ghost use Rattle.node_steps.specs.declared.fault.NodeFault.{NodeFault as NodeFaultOf};
+ghost use Rattle.node_steps.specs.declared.fault.NodeFault.TheVariants.{NumbersUsedUp};
+ghost use Rattle.ocpi_text.specs.Whole.{max_whole};
+ghost use Rattle.replays.specs.Answering.{AreAllDone, EventDone, IsLineRead, IsReplayTold, IsStepTold, LineDone};
 
 use crate::cutting::EchoedLine;
 use crate::transcript::Source;
@@ -51,8 +56,8 @@ pub(crate) struct Happened<'a> {
 impl<'a> Happened<'a> {
     /// Adds what happened behind. An error is want of memory.
     pub(crate) fn add(&mut self, later: Happened<'a>) -> Result<(), AllocError>
-        ensures entries { OnOk result (self.new.entries.items ≡ self.old.entries.items ++ later.entries.items) }
-        ensures sources { OnOk result (self.new.sources.items ≡ self.old.sources.items ++ later.sources.items) }
+        ensures entries { OnOk result (self.new.entries.items ≡ self.old.entries.items ++ later.entry.entries.items) }
+        ensures sources { OnOk result (self.new.sources.items ≡ self.old.sources.items ++ later.entry.sources.items) }
     {
         let Happened { entries, sources } = later;
         match add_entries(&mut self.entries, entries) {
@@ -107,14 +112,16 @@ impl Running {
         happened: &mut Happened<'a>,
         text: &mut String,
     ) -> Result<(), AllocError>
-        ensures { OnOk result (LineDone self.old self.new line.bytes.now (string_bytes text.new) happened.old happened.new) }
+        ensures { OnOk result (LineDone self.old self.new line.entry.bytes.now (string_bytes text.new) happened.old happened.new) }
     {
         text.clear();
-        let Some(number) = self.number.next() else {
-            return write_refused(Whole::MAX, None, NodeFault::NumbersUsedUp, text);
+        let (known, last) = (self.known.value(), self.number.value());
+        let number = match self.number.next() {
+            Some(number) => number,
+            None => return tell_beyond(text),
         };
         self.number = number;
-        if number.value() <= self.known.value() {
+        if last < known {
             return write_known(number.value(), text);
         }
         self.answer_new(scratch, number, line, happened, text)
@@ -130,21 +137,34 @@ impl Running {
         text: &mut String,
     ) -> Result<(), AllocError>
         requires text { string_bytes text.old ≡ [] }
-        requires number { self.old.number ≡ number }
-        requires new { self.old.known < number }
-        ensures { OnOk result (IsLineRead self.old self.new line.bytes.now (string_bytes text.new) happened.old happened.new) }
+        ensures { OnOk result (IsLineRead self.old self.new number line.entry.bytes.now (string_bytes text.new) happened.old happened.new) }
     {
         match read_node_line(self.alloc, scratch, line.bytes) {
-            Ok(NodeLine::One(event)) => {
-                self.answer_event(event, number, None, line, happened, text)
-            }
-            Ok(NodeLine::Several(elements)) => {
+            Ok(held) => self.answer_held(held, number, line, happened, text),
+            Err(fault) => tell_malformed(fault, number, None, text),
+        }
+    }
+
+    /// Carries out what a line holds. An error is want of memory.
+    fn answer_held<'a>(
+        &mut self,
+        held: NodeLine<'_>,
+        number: Whole,
+        line: EchoedLine<'a>,
+        happened: &mut Happened<'a>,
+        text: &mut String,
+    ) -> Result<(), AllocError>
+        requires text { string_bytes text.old ≡ [] }
+        ensures { OnOk result (node_line_in line.entry.bytes.now ≡ Ok held.entry
+            → IsLineRead self.old self.new number line.entry.bytes.now (string_bytes text.new) happened.old happened.new) }
+    {
+        match held {
+            NodeLine::One(event) => self.answer_event(event, number, None, line, happened, text),
+            NodeLine::Several(elements) => {
                 let answered = self.answer_all(&elements, number, line, happened, text);
                 drop(elements);
                 answered
             }
-            Err(JsonFault::Memory) => Err(AllocError),
-            Err(fault) => write_malformed(number.value(), None, fault, text),
         }
     }
 
@@ -158,8 +178,8 @@ impl Running {
         text: &mut String,
     ) -> Result<(), AllocError>
         requires text { string_bytes text.old ≡ [] }
-        ensures { OnOk result (node_line_in line.bytes.now ≡ Ok (Several elements.now)
-            → AreAllDone self.old self.new number line.bytes.now elements.now (string_bytes text.new) happened.old happened.new) }
+        ensures { OnOk result (node_line_in line.entry.bytes.now ≡ Ok (Several elements.now)
+            → AreAllDone self.old self.new number line.entry.bytes.now elements.now (string_bytes text.new) happened.old happened.new) }
     {
         let texts = element_texts(self.alloc, line.bytes)?;
         for place in 0..elements.len() {
@@ -184,12 +204,11 @@ impl Running {
     ) -> Result<(), AllocError>
         requires { place < length elements.now }
         ensures { OnOk result ((read : Read NodeEventOf) → slice_get elements.now place ≡ Some read
-            → EventDone self.old self.new number (Some place) read line.bytes.now (string_bytes text.old) (string_bytes text.new) happened.old happened.new) }
+            → EventDone self.old self.new number (Some place) read line.entry.bytes.now (string_bytes text.old) (string_bytes text.new) happened.old happened.new) }
     {
         match elements.read(self.alloc, place) {
             Ok(event) => self.answer_event(event, number, Some(place), line, happened, text),
-            Err(JsonFault::Memory) => Err(AllocError),
-            Err(fault) => write_malformed(number.value(), Some(place), fault, text),
+            Err(fault) => tell_malformed(fault, number, Some(place), text),
         }
     }
 
@@ -204,21 +223,36 @@ impl Running {
         text: &mut String,
     ) -> Result<(), AllocError>
         ensures { OnOk result ((read : Read NodeEventOf) → read ≡ Ok event
-            → EventDone self.old self.new number place read line.bytes.now (string_bytes text.old) (string_bytes text.new) happened.old happened.new) }
+            → EventDone self.old self.new number place read line.entry.bytes.now (string_bytes text.old) (string_bytes text.new) happened.old happened.new) }
     {
         let NodeEvent { node, kind } = event;
         if !node.is_same(&self.party) {
             drop(kind);
             return write_skipped(number.value(), place, text);
         }
-        let applied = self.node.apply(kind, &mut happened.entries);
-        match applied {
-            Ok(Replayed::Skipped) => write_skipped(number.value(), place, text),
-            Ok(Replayed::Stepped { changed }) => {
+        match self.node.apply(kind, &mut happened.entries) {
+            Ok(replayed) => self.tell_replayed(replayed, number, place, line, happened, text),
+            Err(fault) => tell_declined(fault, number, place, text),
+        }
+    }
+
+    /// Writes what became of an event. An error is want of memory.
+    fn tell_replayed<'a>(
+        &mut self,
+        replayed: Replayed,
+        number: Whole,
+        place: Option<usize>,
+        line: EchoedLine<'a>,
+        happened: &mut Happened<'a>,
+        text: &mut String,
+    ) -> Result<(), AllocError>
+        ensures { OnOk result (IsReplayTold replayed self.old self.new number place line.entry (string_bytes text.old) (string_bytes text.new) happened.old happened.new) }
+    {
+        match replayed {
+            Replayed::Skipped => write_skipped(number.value(), place, text),
+            Replayed::Stepped { changed } => {
                 self.tell_step(changed, number, place, line, happened, text)
             }
-            Err(StepFault::Core(fault)) => write_refused(number.value(), place, fault, text),
-            Err(StepFault::Memory) => Err(AllocError),
         }
     }
 
@@ -232,7 +266,7 @@ impl Running {
         happened: &mut Happened<'a>,
         text: &mut String,
     ) -> Result<(), AllocError>
-        ensures { OnOk result (IsStepTold self.old self.new changed number place line (string_bytes text.old) (string_bytes text.new) happened.old happened.new) }
+        ensures { OnOk result (IsStepTold self.old self.new changed number place line.entry (string_bytes text.old) (string_bytes text.new) happened.old happened.new) }
     {
         let source = Source::Echoed {
             opening: self.opening,
@@ -247,6 +281,43 @@ impl Running {
         }
         let packets = last_packets(happened.entries.as_slice());
         write_step(self.alloc, packets, changed, number.value(), place, text)
+    }
+}
+
+/// Writes that a line was not read, since its number is beyond the last one. An error is want of memory.
+fn tell_beyond(text: &mut String) -> Result<(), AllocError>
+    ensures { OnOk result (string_bytes text.new ≡ string_bytes text.old ++ refused_line max_whole None NumbersUsedUp) }
+{
+    write_refused(Whole::MAX, None, NodeFault::NumbersUsedUp, text)
+}
+
+/// Writes why what stands there is no event. An error is want of memory, also for reading it.
+fn tell_malformed(
+    fault: JsonFault,
+    number: Whole,
+    place: Option<usize>,
+    text: &mut String,
+) -> Result<(), AllocError>
+    ensures { OnOk result ((fault ≢ JsonFault.Memory) × (string_bytes text.new ≡ string_bytes text.old ++ malformed_line number place fault)) }
+{
+    match fault {
+        JsonFault::Memory => Err(AllocError),
+        _ => write_malformed(number.value(), place, fault, text),
+    }
+}
+
+/// Writes why the node refused an event. An error is want of memory, also in the node.
+fn tell_declined(
+    fault: StepFault,
+    number: Whole,
+    place: Option<usize>,
+    text: &mut String,
+) -> Result<(), AllocError>
+    ensures { OnOk result ((why : NodeFaultOf) × (fault ≡ stepping.Core why) × (string_bytes text.new ≡ string_bytes text.old ++ refused_line number place why)) }
+{
+    match fault {
+        StepFault::Core(why) => write_refused(number.value(), place, why, text),
+        StepFault::Memory => Err(AllocError),
     }
 }
 

@@ -173,7 +173,7 @@ impl<'a> History<'a> {
     /// want of memory.
     pub(crate) fn open(&mut self, opening: Opening<'a>) -> Result<usize, AllocError>
         ensures place { IfOk result (λ place. place ≡ length self.old.openings) }
-        ensures is { OnOk result ((run : OpenedRun) → IsRunOf run opening → IsOpenedIn self.old self.new run) }
+        ensures is { OnOk result ((run : OpenedRun) → IsRunOf run opening.entry → IsOpenedIn self.old self.new run) }
         ensures doubt { OnOk result (self.new.doubt ≡ self.old.doubt) }
     {
         let place = self.openings.len();
@@ -192,7 +192,7 @@ impl<'a> History<'a> {
         line: EchoedLine<'a>,
         text: &mut String,
     ) -> Result<(), AllocError>
-        ensures { OnOk result (IsEntered running.old running.new line.bytes.now (string_bytes text.new) self.old self.new) }
+        ensures { OnOk result (IsEntered running.old running.new line.entry.bytes.now (string_bytes text.new) self.old self.new) }
     {
         running.answer(scratch, line, &mut self.happened, text)
     }
@@ -215,7 +215,7 @@ impl<'a> History<'a> {
         line: EchoedLine<'a>,
         text: &mut String,
     ) -> Result<(), AllocError>
-        ensures doubts { OnOk result (MayHaveTaken running.old self.old.held line.bytes.now self.new.doubt) }
+        ensures doubts { OnOk result (MayHaveTaken running.old self.old.held line.entry.bytes.now self.new.doubt) }
         ensures same { OnOk result (IsOtherwise self.old self.new) }
         ensures held { OnOk result (self.new.held ≡ self.old.held) }
     {
@@ -233,7 +233,7 @@ fn doubt_of<'a>(
     happened: Happened<'a>,
 ) -> Result<Option<Doubt<'a>>, AllocError>
     ensures none { IfOk result (λ doubt. IfNone doubt (running.now.last ≡ line)) }
-    ensures some { IfOk result (λ doubt. IfSome doubt (IsDoubtOf running.now line happened)) }
+    ensures some { IfOk result (λ doubt. IfSome doubt (IsDoubtOf running.now line happened.entry)) }
 {
     if running.last == line {
         drop(happened);

@@ -76,7 +76,7 @@ pub(crate) struct Behind<'a> {
 
 /// What stands behind a setup line.
 pub(crate) fn behind_setup<'a>(line: EchoedLine<'a>, rest: &'a [u8], is_ended: bool) -> Behind<'a>
-    ensures line { result.line ≡ line }
+    ensures line { result.line ≡ line.entry }
     ensures ended { result.is_ended ≡ is_ended }
     ensures plain { All (λ b. b ≢ 10) result.piece.bytes.now }
     ensures is { IsBehind rest.now result.piece.bytes.now result.piece.is_closed result.rest.now }
@@ -193,7 +193,7 @@ pub(crate) fn try_member(
     requires setup { IsSetup nodes.now }
     requires member { Contains nodes.now member.now }
     requires piece { All (λ b. b ≢ 10) piece.bytes.now }
-    ensures { IfOk result (IsTried nodes.now member.now held.now piece.is_closed piece.bytes.now) }
+    ensures { IfOk result (IsTried nodes.now member.now held.now piece.entry.is_closed piece.entry.bytes.now) }
 {
     let front = write_front(alloc, held, member.party(), text)?;
     if !piece.may_fit(front_of(text.as_str(), front)) {
@@ -217,7 +217,7 @@ fn try_node(
     text: &mut String,
 ) -> Result<Tried, AllocError>
     requires piece { All (λ b. b ≢ 10) piece.bytes.now }
-    ensures { IfOk result (IsNodeTried member.now held.now node piece.is_closed piece.bytes.now) }
+    ensures { IfOk result (IsNodeTried member.now held.now node piece.entry.is_closed piece.entry.bytes.now) }
 {
     let serial = node.last_serial();
     text.clear();
