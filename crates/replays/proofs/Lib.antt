@@ -18,3 +18,5 @@ pub mod Before
 pub mod AnswerLemmas
 pub mod LineLemmas
 pub mod LineFacts
+pub mod HistoryLemmas
+pub mod FitLemmas

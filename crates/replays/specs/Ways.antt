@@ -1,5 +1,5 @@
 -- In which ways a node may have been opened, by what stands behind its setup line.
-use Rattle.std.specs.Prelude.{◌≡◌, ◌≢◌, ◌<◌, ℕ, List, [], ◌∷◌, ◌++◌, Some, All, Bool, IsFalse, length, slice_get}
+use Rattle.std.specs.Prelude.{◌≡◌, ◌<◌, ℕ, List, [], ◌∷◌, ◌++◌, Some, Bool, IsFalse, length, slice_get}
 use Rattle.ocpi_types.specs.declared.setup.Node.{Node}
 use Rattle.stored_laws.specs.Nodes.{last_serial}
 use Rattle.world_steps.specs.World.{NodeState}
@@ -13,9 +13,9 @@ use Rattle.replays.specs.declared.opening.Tried.TheVariants as tried
 use Rattle.replays.specs.declared.opening.Ways.{Ways}
 use Rattle.replays.specs.declared.opening.Ways.TheVariants as ways
 
--- a line that ends where it ends
+-- it ends with its line feed
 abbrev pub IsClosed : List ℕ → Type 0
-IsClosed line = (body : List ℕ) × (line ≡ body ++ 10 ∷ []) × All (λ b. b ≢ 10) body
+IsClosed line = (body : List ℕ) × (line ≡ body ++ 10 ∷ [])
 
 -- a beginning of a line stands there, behind which nothing does
 abbrev pub IsBegun : Bool → List ℕ → List ℕ → Type 0
@@ -56,3 +56,9 @@ abbrev pub IsNodeTried : Node → Held → NodeState → Bool → List ℕ → T
 IsNodeTried member held state closed piece tried.No = Fits closed piece (told_line held member state) → ⊥
 IsNodeTried member held state closed piece tried.May = IsBegun closed piece (told_line held member state)
 IsNodeTried member held state closed piece (tried.Was o) = (o.node ≡ state) × (told_line held member state ≡ piece ++ 10 ∷ []) × (o.serial ≡ last_serial state)
+
+-- by the line that says so
+abbrev pub IsLineTried : List ℕ → NodeState → ℕ → Bool → List ℕ → Tried → Type 0
+IsLineTried line state serial closed piece tried.No = Fits closed piece line → ⊥
+IsLineTried line state serial closed piece tried.May = IsBegun closed piece line
+IsLineTried line state serial closed piece (tried.Was o) = (o.node ≡ state) × (line ≡ piece ++ 10 ∷ []) × (o.serial ≡ serial)

@@ -95,6 +95,13 @@ impl Model for Held {
 }
 
 impl Held {
+    /// The number of the last line that took hold.
+    pub(crate) fn line(&self) -> Whole
+        ensures { result ≡ self.now.line }
+    {
+        self.line
+    }
+
     /// Equal rows. An error is want of memory.
     pub(crate) fn copy_rows(&self, alloc: Global) -> Result<Vec<Row>, AllocError>
         ensures { IfOk result (λ rows. rows.items ≡ self.now.rows) }

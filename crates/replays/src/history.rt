@@ -219,9 +219,10 @@ impl<'a> History<'a> {
         ensures same { OnOk result (IsOtherwise self.old self.new) }
         ensures held { OnOk result (self.new.held ≡ self.old.held) }
     {
+        let before = self.held.line();
         let mut happened = nothing(self.alloc);
         running.answer(scratch, line, &mut happened, text)?;
-        self.doubt = doubt_of(running, self.held.line, happened)?;
+        self.doubt = doubt_of(running, before, happened)?;
         Ok(())
     }
 }

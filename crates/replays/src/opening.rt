@@ -1,8 +1,8 @@
 //! How a run is opened, by what stands behind its setup line.
 
-ghost use Rattle.std.specs.Prelude.{◌≡◌, ◌≢◌, ◌<◌, ◌+◌, ◌++◌, All, Contains, IfOk, List, false, length, string_bytes, take, ℕ};
+ghost use Rattle.std.specs.Prelude.{◌≡◌, ◌≢◌, ◌<◌, ◌+◌, ◌++◌, All, Contains, IfOk, List, OnOk, false, length, string_bytes, take, ℕ};
 ghost use Rattle.replays.specs.Reading.{Fits, IsBehind};
-ghost use Rattle.replays.specs.Ways.{IsClosed, IsFit, IsNodeTried, IsTried};
+ghost use Rattle.replays.specs.Ways.{IsClosed, IsFit, IsLineTried, IsNodeTried, IsTried};
 ghost use Rattle.node_runs.specs.DoneLines.{opened_line};
 ghost use Rattle.world_laws.specs.Laws.{IsSetup};
 
@@ -146,6 +146,27 @@ fn no_serial() -> Whole
     }
 }
 
+/// Writes the line of an opening over what a store has, in place of a text. An error is want of memory.
+fn write_over(
+    alloc: Global,
+    held: &Held,
+    party: &Party,
+    serial: Whole,
+    text: &mut String,
+) -> Result<(), AllocError>
+    ensures { OnOk result (string_bytes text.new ≡ opened_line held.now.line party.now (length held.now.rows) serial) }
+{
+    text.clear();
+    write_opened(
+        alloc,
+        held.line.value(),
+        party,
+        held.rows.len(),
+        serial,
+        text,
+    )
+}
+
 /// The line of an opening, but for its last bytes if its serial is 0: the line of each serial begins so.
 fn write_front(
     alloc: Global,
@@ -156,16 +177,8 @@ fn write_front(
     ensures { IfOk result (λ length_of. (serial : ℕ) → (rest : List ℕ) × (1 < length rest)
         × (opened_line held.now.line party.now (length held.now.rows) serial ≡ take length_of (string_bytes text.new) ++ rest)) }
 {
-    text.clear();
-    write_opened(
-        alloc,
-        held.line.value(),
-        party,
-        held.rows.len(),
-        no_serial(),
-        text,
-    )?;
-    Ok(text.len().saturating_sub(END_BYTES))
+    write_over(alloc, held, party, no_serial(), text)?;
+    Ok(text.as_bytes().len().saturating_sub(END_BYTES))
 }
 
 /// The first bytes of a text.
@@ -201,7 +214,10 @@ pub(crate) fn try_member(
     }
     let rows = held.copy_rows(alloc)?;
     match NodeReplay::from_rows(alloc, seed, nodes, member, rows) {
-        Ok(node) => try_node(alloc, member, held, node, piece, text),
+        Ok(node) => {
+            node.can_start_again();
+            try_node(alloc, member, held, node, piece, text)
+        }
         Err(RowsFault::BadRows(_)) => Ok(Tried::No),
         Err(RowsFault::Memory) => Err(AllocError),
     }
@@ -220,28 +236,30 @@ fn try_node(
     ensures { IfOk result (IsNodeTried member.now held.now node piece.entry.is_closed piece.entry.bytes.now) }
 {
     let serial = node.last_serial();
-    text.clear();
-    let written = write_opened(
-        alloc,
-        held.line.value(),
-        member.party(),
-        held.rows.len(),
-        serial,
-        text,
-    );
-    if written.is_err() {
-        drop(node);
-        return Err(AllocError);
+    match write_over(alloc, held, member.party(), serial, text) {
+        Ok(()) => Ok(fit_node(node, serial, piece, text.as_bytes())),
+        Err(_) => {
+            drop(node);
+            Err(AllocError)
+        }
     }
-    match piece.fit(text.as_bytes()) {
-        Fit::Is => Ok(Tried::Was(Opened { node, serial })),
+}
+
+/// Whether a node was opened of which this line says so.
+fn fit_node(node: NodeReplay, serial: Whole, piece: Piece<'_>, line: &[u8]) -> Tried
+    requires line { IsClosed line.now }
+    requires piece { All (λ b. b ≢ 10) piece.bytes.now }
+    ensures { IsLineTried line.now node serial piece.entry.is_closed piece.entry.bytes.now result }
+{
+    match piece.fit(line) {
+        Fit::Is => Tried::Was(Opened { node, serial }),
         Fit::Begins => {
             drop(node);
-            Ok(Tried::May)
+            Tried::May
         }
         Fit::No => {
             drop(node);
-            Ok(Tried::No)
+            Tried::No
         }
     }
 }
