@@ -11,4 +11,5 @@ pub mod Reading
 pub mod Ways
 pub mod Answering
 pub mod Transcripts
+pub mod RunParts
 pub mod Laws
