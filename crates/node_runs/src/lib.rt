@@ -36,6 +36,7 @@
 #![tactic(auto)]
 
 mod beginning;
+mod begun_run;
 mod behind_setup;
 mod done_lines;
 mod event_lines;
