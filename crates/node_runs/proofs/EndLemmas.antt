@@ -1,5 +1,5 @@
 -- What is known of a run that the node may have stopped, from what is known of the run over its lines.
-use Rattle.std.proofs.Common.{◌≡◌, ◌≢◌, ◌⊎◌, ◌∙◌, inl, inr, ℕ, false, true, Bool, List, Option, Some, None, IfErr, IfOk, Result, Ok, Err, refl, sym, ap, subst}
+use Rattle.std.proofs.Common.{◌≡◌, ◌≢◌, ◌∙◌, ℕ, false, true, Bool, List, Option, Some, None, IfErr, IfOk, Result, Ok, Err, refl, sym, ap, subst}
 use Rattle.std.specs.Prelude.{IsOk}
 use Rattle.std.specs.Str.Lines.{lines}
 use Rattle.line_runs.specs.Numbered.{AreNumbered, IsNumberedRun, NumberedBegins, NumberedOutputs, NumberedStops, empty_line, none_numbered, numbered_end, numbered_stop, refused_line, taken_line}
