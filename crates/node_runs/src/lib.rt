@@ -28,9 +28,9 @@
 //!
 //! # How it is built
 //!
-//! `run_node` is `run_numbered` over one node and its keeper (`StoredNode` of `stored_nodes`). A line's answer and its
-//! `done` are one constructor of `EventTurn` each, so that what the lines make of the node is a chain of its steps by
-//! a walk over them (`runs_are_histories`). Which keepers were to be opened is a ghost list of `Keeps` (`opened`),
+//! `run_node` is `run_numbered` over one node and its keeper (`StoredNode` of `stored_nodes`), behind what an echo begins
+//! with (`run_begun`). A line's answer and its `done` are one constructor of `EventTurn` each, so that what the lines
+//! make of the node is a chain of its steps by a walk over them (`runs_are_histories`). Which keepers were to be opened is a ghost list of `Keeps` (`opened`),
 //! without which a body that opens one twice would be proved. `two_runs_are_one` is `reopen`'s clause `again` at what
 //! the first run kept, which the type `StoredNode` has as the rows of its node.
 #![tactic(auto)]
