@@ -22,7 +22,8 @@ fn write_beginning<W: Write>(writer: &mut W, echo: bool) -> Result<(), RunFault>
     write_flushed(writer, b"\n\n")
 }
 
-/// Writes that, and behind it what the lines of the input give. Where it was not written whole, the machine is as before.
+/// Writes that, and behind it what the lines of the input give. Where it was not written whole, the machine is as
+/// before.
 pub fn run_begun<M: AnswerNumbered, R: BufRead, W: Write>(
     alloc: Global,
     machine: &mut M,
