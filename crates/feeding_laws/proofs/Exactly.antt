@@ -11,7 +11,7 @@ use Rattle.stored_nodes.proofs.Together.{alike_by_events}
 use Rattle.stored_nodes.specs.Transactions.{changes_of_each}
 use Rattle.world_steps.specs.Steps.{NodeEvent as Deed}
 use Rattle.world_steps.specs.World.{NodeState}
-use Rattle.feeding_laws.specs.Feeding.{AreBehind, AreRuns, Behind, CameOnce, FeedingIsExact, Held, IsExact, Leaves, One_more, Ran, Rise, next_came, none_came, none_ran, none_rises, one_ran, one_rises, restarts}
+use Rattle.feeding_laws.specs.Feeding.{AreBehind, AreRuns, Behind, CameOnce, FeedingIsExact, Held, Leaves, One_more, Rise, next_came, none_came, none_ran, none_rises, one_ran, one_rises, restarts}
 
 -- ---- numbers and lists
 

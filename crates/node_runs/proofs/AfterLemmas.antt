@@ -1,5 +1,5 @@
 -- What a line behind the setup left, from what its parts give, and how the program goes on with it.
-use Rattle.std.proofs.Common.{◌≡◌, ◌≢◌, ◌⊎◌, ◌++◌, ◌∙◌, ◌≤◌, ℕ, suc, Bool, true, false, List, [], Option, Some, None, Result, Ok, Err, OnOk, refl, sym, ap, subst, inl, inr}
+use Rattle.std.proofs.Common.{◌≡◌, ◌⊎◌, ◌++◌, ◌∙◌, ◌≤◌, ℕ, suc, true, false, List, [], Option, Some, None, Result, Ok, Err, OnOk, refl, sym, ap, subst, inl, inr}
 use Rattle.std.proofs.lemmas.List.{append-nil}
 use Rattle.ocpi_text.specs.Whole.{max_whole}
 use Rattle.ocpi_types.specs.declared.node_events.NodeEvent.{NodeEvent}
@@ -21,7 +21,7 @@ use Rattle.stored_nodes.specs.declared.stored_node.Applied.TheVariants.{Skipped,
 use Rattle.node_steps.specs.declared.fault.NodeFault.TheVariants.{NumbersUsedUp}
 use Rattle.node_store.specs.Faults.{counted_fault}
 use Rattle.node_store.specs.declared.fault.StoreFault.{StoreFault}
-use Rattle.node_runs.specs.Afters.{CommitsAll, CommitsNone, DoesAll, IfRuns, IsAfter, IsAnswered, IsCommitted, IsDeclinedFor, IsTold}
+use Rattle.node_runs.specs.Afters.{CommitsAll, DoesAll, IfRuns, IsAfter, IsAnswered, IsCommitted, IsDeclinedFor, IsTold}
 use Rattle.node_runs.specs.declared.event_lines.Answered.TheVariants.{Declined, Starved, Told, Untold}
 use Rattle.std.specs.declared.alloc.AllocError.{AllocError}
 use Rattle.std.specs.Prelude.{IsOk}

@@ -1,5 +1,5 @@
 -- What is known of a run that the node may have stopped, from what is known of the run over its lines.
-use Rattle.std.proofs.Common.{◌≡◌, ◌≢◌, ◌⊎◌, ◌∙◌, inl, inr, ℕ, false, true, Bool, List, Option, Some, None, IfErr, IfOk, Result, Ok, Err, refl, sym, ap, subst}
+use Rattle.std.proofs.Common.{◌≡◌, ◌≢◌, ◌∙◌, ℕ, false, true, Bool, List, Option, Some, None, IfErr, IfOk, Result, Ok, Err, refl, sym, ap, subst}
 use Rattle.std.specs.Prelude.{IsOk}
 use Rattle.std.specs.Str.Lines.{lines}
 use Rattle.line_runs.specs.Numbered.{AreNumbered, IsNumberedRun, NumberedBegins, NumberedOutputs, NumberedStops, empty_line, none_numbered, numbered_end, numbered_stop, refused_line, taken_line}
@@ -11,9 +11,7 @@ use Rattle.line_runs.specs.declared.run.Turn.{Turn}
 use Rattle.line_runs.specs.declared.run.Turn.TheVariants.{Taken, Refused, Ended}
 use Rattle.node_keepers.specs.Opening.{Source}
 use Rattle.stored_nodes.specs.Keepers.{Keeper}
-use Rattle.node_runs.specs.NodeOutputs.{BeginsSo, IsKept, NodeBegins, NodeOutputs, NodeStops, asked_for, begin_bytes}
-use Rattle.node_runs.specs.NodeOutputs as outputs
-use Rattle.std.specs.Io.KnownBytes.{Appends}
+use Rattle.node_runs.specs.NodeOutputs.{BeginsSo, IsBehind, IsKept, NodeBegins, NodeOutputs, NodeStops, asked_for}
 use Rattle.node_runs.specs.NodeAnswers.{BehindTurn, NodeEndGives, NodeLineGives, NodeTurn}
 use Rattle.node_runs.specs.NodeAnswers as answers
 use Rattle.node_runs.specs.NodeTurns.{Running, Stage, keep_in, opening}
@@ -78,53 +76,60 @@ module _ {K : Type 0} (keeper : Keeper K) (source : Source K) where
   ended_writes echo first (Some t) (Some before) new last ran stop none is wrote =
       (wrote.0, subst (λ r. IsNumberedRun (NodeLineGives keeper source) NodeEndGives echo first (lines t) r wrote.0 last) (was_ended wrote.1 none stop is) wrote.1, wrote.2)
 
+  abbrev Begins : Bool → Stage K → Option (List ℕ) → Option (List ℕ) → Option (List ℕ) → Stage K → Type 0
+  Begins echo first text old new last = NumberedBegins (NodeLineGives keeper source) NodeEndGives echo first text old new last
+
+  abbrev Stops : Bool → Stage K → RunFault → Option (List ℕ) → Option (List ℕ) → Option (List ℕ) → Option (List ℕ) → Stage K → Type 0
+  Stops echo first fault text rest old new last = NumberedStops (NodeLineGives keeper source) echo first fault text rest old new last
+
   -- of a run from a stage that is the opening, behind what an echo begins with, and of what it left
-  module _ (opened word : List ℕ) (echo : Bool) (text old begun new : Option (List ℕ)) (begins : Appends old begun (begin_bytes echo)) (first last : Stage K)
+  module _ (opened word : List ℕ) (echo : Bool) (text old new : Option (List ℕ)) (first last : Stage K)
       (begun_is : first ≡ opening (asked_for word) opened) (kept : Option K) (kept_is : keep_in last.running last.spare ≡ kept) (stored : IsKept keeper last.running) where
-    begins_so : (fault : RunFault) → NumberedBegins (NodeLineGives keeper source) NodeEndGives echo first text begun new last
-        → NodeBegins keeper source opened word echo text old new kept
-    begins_so fault is = record {
-      last = last;
-      begins = outputs.Whole begun begins (subst (λ (s : Stage K). NumberedBegins (NodeLineGives keeper source) NodeEndGives echo s text begun new last) begun_is is);
-      left = kept_is;
-      stored = stored;
-    }
+    abbrev BeginsAt : Stage K → Type 0
+    BeginsAt s = BeginsSo (Begins echo s text) s echo old new last
+
+    begins_so : (fault : RunFault) → BeginsAt first → NodeBegins keeper source opened word echo text old new kept
+    begins_so fault is = record { last = last; begins = subst BeginsAt begun_is is; left = kept_is; stored = stored }
 
     pub broken_off : (result : Result Ran NodeRunFault) (ran : Result Ran RunFault) → IfErr result (IfRun (λ fault. ran ≡ Err fault))
-        → IfErr ran (λ fault. NumberedBegins (NodeLineGives keeper source) NodeEndGives echo first text begun new last)
+        → IfErr ran (λ fault. BeginsAt first)
         → IfErr result (IfRun (λ fault. NodeBegins keeper source opened word echo text old new kept))
     broken_off result ran is broken =
-        stopped result ran (λ fault. NumberedBegins (NodeLineGives keeper source) NodeEndGives echo first text begun new last)
-        (λ fault. NodeBegins keeper source opened word echo text old new kept) begins_so is broken
+        stopped result ran (λ fault. BeginsAt first) (λ fault. NodeBegins keeper source opened word echo text old new kept) begins_so is broken
 
-    stops_so : (rest : Option (List ℕ)) (fault : RunFault) → (fault ≢ WriteFailed → NumberedStops (NodeLineGives keeper source) echo first fault text rest begun new last)
+    stops_so : (rest : Option (List ℕ)) (fault : RunFault) → (fault ≢ WriteFailed → IsBehind echo old (λ begun. Stops echo first fault text rest begun new last))
         → fault ≢ WriteFailed → NodeStops keeper source opened word echo fault text rest old new kept
-    stops_so rest fault stops other = record {
-      begun = begun;
-      begins = begins;
-      last = last;
-      stops = subst (λ (s : Stage K). NumberedStops (NodeLineGives keeper source) echo s fault text rest begun new last) begun_is (stops other);
-      left = kept_is;
-      stored = stored;
-    }
+    stops_so rest fault stops other =
+        let behind = stops other in
+        record {
+          begun = behind.0;
+          begins = behind.1;
+          last = last;
+          stops = subst (λ (s : Stage K). Stops echo s fault text rest behind.0 new last) begun_is behind.2;
+          left = kept_is;
+          stored = stored;
+        }
 
     pub read_to : (rest : Option (List ℕ)) (result : Result Ran NodeRunFault) (ran : Result Ran RunFault) → IfErr result (IfRun (λ fault. ran ≡ Err fault))
-        → IfErr ran (λ fault. fault ≢ WriteFailed → NumberedStops (NodeLineGives keeper source) echo first fault text rest begun new last)
+        → IfErr ran (λ fault. fault ≢ WriteFailed → IsBehind echo old (λ begun. Stops echo first fault text rest begun new last))
         → IfErr result (IfRun (λ fault. fault ≢ WriteFailed → NodeStops keeper source opened word echo fault text rest old new kept))
     read_to rest result ran is stops =
-        stopped result ran (λ fault. fault ≢ WriteFailed → NumberedStops (NodeLineGives keeper source) echo first fault text rest begun new last)
+        stopped result ran (λ fault. fault ≢ WriteFailed → IsBehind echo old (λ begun. Stops echo first fault text rest begun new last))
         (λ fault. fault ≢ WriteFailed → NodeStops keeper source opened word echo fault text rest old new kept) (stops_so rest) is stops
 
+    abbrev WritesBehind : Ran → Type 0
+    WritesBehind r = IsBehind echo old (λ begun. Writes echo first text begun new last r)
+
     pub went : (stop : Option NodeStop) → stop ≡ last.stop → (result : Result Ran NodeRunFault) (ran : Result Ran RunFault)
-        → IfOk result (λ r. (ran ≡ Ok r) × (stop ≡ None)) → IfOk ran (Writes echo first text begun new last)
+        → IfOk result (λ r. (ran ≡ Ok r) × (stop ≡ None)) → IfOk ran WritesBehind
         → IfOk result (λ r. NodeOutputs keeper source opened word echo text r None old new kept)
     went stop left (Ok r) ran is wrote =
-        let writes = subst (λ (x : Result Ran RunFault). IfOk x (Writes echo first text begun new last)) is.0 wrote in
+        let behind = subst (λ (x : Result Ran RunFault). IfOk x WritesBehind) is.0 wrote in
         record {
-          begun = begun;
-          begins = begins;
+          begun = behind.0;
+          begins = behind.1;
           last = last;
-          outputs = subst (λ (s : Stage K). Writes echo s text begun new last r) begun_is writes;
+          outputs = subst (λ (s : Stage K). Writes echo s text behind.0 new last r) begun_is behind.2;
           stopped_by = sym left ∙ is.1;
           left = kept_is;
           stored = stored;
@@ -132,7 +137,7 @@ module _ {K : Type 0} (keeper : Keeper K) (source : Source K) where
     went stop left (Err e) ran is wrote = tt
 
     pub stopped_off : (stop : Option NodeStop) → stop ≡ last.stop → (result : Result Ran NodeRunFault) (ran : Result Ran RunFault)
-        → IfErr result (IfStop (λ s. IsOk ran × (stop ≡ Some s))) → IfOk ran (Writes echo first text begun new last)
+        → IfErr result (IfStop (λ s. IsOk ran × (stop ≡ Some s))) → IfOk ran WritesBehind
         → IfErr result (IfStop (λ s. NodeOutputs keeper source opened word echo text WithRefusals (Some s) old new kept))
     stopped_off stop left (Ok r) ran is wrote = tt
     stopped_off stop left (Err (Run e)) ran is wrote = tt
@@ -140,5 +145,13 @@ module _ {K : Type 0} (keeper : Keeper K) (source : Source K) where
     stopped_off stop left (Err (Stop s)) (Ok r) is wrote =
         let stopped_by = sym left ∙ is.1 in
         let none = ap (λ (t : Stage K). t.stop) begun_is in
-        let writes = subst (λ (t : Stage K). Writes echo t text begun new last WithRefusals) begun_is (ended_writes echo first text begun new last r s none stopped_by wrote) in
-        record { begun = begun; begins = begins; last = last; outputs = writes; stopped_by = stopped_by; left = kept_is; stored = stored }
+        let ends = ended_writes echo first text wrote.0 new last r s none stopped_by wrote.2 in
+        record {
+          begun = wrote.0;
+          begins = wrote.1;
+          last = last;
+          outputs = subst (λ (t : Stage K). Writes echo t text wrote.0 new last WithRefusals) begun_is ends;
+          stopped_by = stopped_by;
+          left = kept_is;
+          stored = stored;
+        }

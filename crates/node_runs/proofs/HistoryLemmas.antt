@@ -1,5 +1,5 @@
 -- What the lines of a run make of its node.
-use Rattle.std.proofs.Common.{◌≡◌, ◌≢◌, ◌⊎◌, ◌++◌, ◌∙◌, ◌+◌, ◌<◌, ◌≤◌, ℕ, suc, Bool, List, [], ◌∷◌, Option, Some, None, refl, sym, ap, subst, inl, inr, arith, length, length-append, append_assoc, append-nil}
+use Rattle.std.proofs.Common.{◌≡◌, ◌≢◌, ◌++◌, ◌∙◌, ◌+◌, ◌<◌, ◌≤◌, ℕ, suc, Bool, List, [], ◌∷◌, Option, Some, None, refl, sym, ap, subst, inl, inr, arith, length, length-append, append_assoc, append-nil}
 use Rattle.std.proofs.lemmas.List.Concat.{flat_map-append}
 use Rattle.ocpi_text.specs.Whole.{max_whole}
 use Rattle.node_laws.specs.Runs.{Run}
@@ -20,10 +20,10 @@ use Rattle.line_runs.specs.declared.run.Turn.{Turn}
 use Rattle.line_runs.specs.declared.run.Turn.TheVariants.{Ended, Refused, Taken}
 use Rattle.node_keepers.specs.Opening.{Source}
 use Rattle.stored_nodes.specs.Keepers.{Commits, IsLine, IsSettled, Keeper, KeepsOn, Nothing, Taken as TakenBy}
-use Rattle.stored_nodes.specs.Stored.{IsStored, Stored}
+use Rattle.stored_nodes.specs.Stored.{IsStored}
 use Rattle.stored_nodes.specs.Transactions.{changes_of_each}
-use Rattle.stored_nodes.proofs.Staying.{marked_holds, numbered_behind}
-use Rattle.stored_nodes.proofs.Together.{alike_by_events, held_by_events, starts_by_events}
+use Rattle.stored_nodes.proofs.Staying.{marked_holds}
+use Rattle.stored_nodes.proofs.Together.{held_by_events, starts_by_events}
 use Rattle.node_core.specs.Members.{IsMadeOfRows}
 use Rattle.node_rows.specs.Holds.{HoldsRows}
 use Rattle.node_rows.specs.Laws.{AreClasses, ChangesAreHeld, RestartsAreHeld}

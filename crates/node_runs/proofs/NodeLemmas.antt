@@ -1,5 +1,5 @@
 -- What a line of `node` gives, from what its parts give.
-use Rattle.std.proofs.Common.{◌≡◌, ◌≢◌, ◌++◌, ◌∙◌, ℕ, List, [], ◌∷◌, Bool, true, false, Option, Some, None, Ok, Err, refl, sym, ap, subst, inl, inr}
+use Rattle.std.proofs.Common.{◌≡◌, ◌≢◌, ◌++◌, ◌∙◌, ℕ, List, [], ◌∷◌, Bool, true, Option, Some, None, Ok, Err, refl, sym, ap, subst, inl, inr}
 use Rattle.std.proofs.lemmas.List.{append-nil}
 use Rattle.ocpi_text.specs.Text.{key}
 use Rattle.ocpi_types.specs.declared.node_events.NodeEvent.{NodeEvent}
@@ -15,16 +15,15 @@ use Rattle.node_lines.specs.declared.node_line.NodeLine.TheVariants.{One}
 use Rattle.line_runs.specs.declared.run.Turn.{Turn}
 use Rattle.line_runs.specs.declared.run.Turn.TheVariants.{Refused, Taken}
 use Rattle.node_steps.specs.declared.fault.NodeFault.{NodeFault}
-use Rattle.node_store.specs.Faults.{IsCommitFault, counted_fault}
+use Rattle.node_store.specs.Faults.{counted_fault}
 use Rattle.node_store.specs.declared.fault.StoreFault.{StoreFault}
 use Rattle.stored_nodes.specs.Keepers.{Commits, Declines, Keeper, Nothing}
-use Rattle.stored_nodes.specs.Stored.{Applies, Fails as FailsToApply, Loses, Passes, Refuses, Stored}
+use Rattle.stored_nodes.specs.Stored.{Applies, Fails as FailsToApply, Refuses, Stored}
 use Rattle.stored_nodes.specs.Transactions.{changes_of_each}
 use Rattle.stored_nodes.specs.declared.fault.ApplyFault.TheVariants as apply
 use Rattle.stored_nodes.specs.declared.stored_node.Applied.{Applied}
 use Rattle.stored_nodes.specs.declared.stored_node.Applied.TheVariants.{Skipped, Stepped}
 use Rattle.world_steps.specs.Steps.{NodeEvent as Deed, changes_of, packets_of}
-use Rattle.world_steps.specs.World.{NodeState}
 use Rattle.program_lines.specs.Writing.{packet_lines}
 use Rattle.node_runs.specs.Afters.{IsAnswered, IsFaultTold, IsToldAs}
 use Rattle.node_runs.specs.declared.event_lines.Answered.{Answered}

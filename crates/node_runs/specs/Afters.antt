@@ -1,5 +1,5 @@
 -- What a line behind the setup left, and how the program goes on with it.
-use Rattle.std.specs.Prelude.{◌≡◌, ◌≢◌, ◌⊎◌, ℕ, List, [], ◌++◌, Bool, true, false, Option, None, Some, Result, Ok, Err}
+use Rattle.std.specs.Prelude.{◌≡◌, ◌≢◌, ◌⊎◌, ℕ, List, [], ◌++◌, Bool, true, false, None, Some, Result, Ok, Err}
 use Rattle.std.specs.declared.alloc.AllocError.{AllocError}
 use Rattle.line_runs.specs.declared.run.Turn.{Turn}
 use Rattle.line_runs.specs.declared.run.Turn.TheVariants.{Refused, Taken}

@@ -47,6 +47,10 @@ pub record NodeOutputs {K : Type 0} (keeper : Keeper K) (source : Source K) (ope
   pub left : keep_in last.running last.spare ≡ kept
   pub stored : IsKept keeper last.running
 
+-- this is so behind what an echo begins with
+abbrev pub IsBehind : Bool → Option (List ℕ) → (Option (List ℕ) → Type 0) → Type 0
+IsBehind echo old P = (begun : Option (List ℕ)) × Appends old begun (begin_bytes echo) × P begun
+
 -- A run began to write so: a beginning of its two line feeds, before any line was read; or these, and then as this says.
 pub data BeginsSo {S : Type 0} (Begins : Option (List ℕ) → Option (List ℕ) → S → Type 0) (first : S) (echo : Bool) (old new : Option (List ℕ)) (last : S) : Type 0 where
   Cut : (n : ℕ) → Appends old new (take n (begin_bytes echo)) → last ≡ first → BeginsSo Begins first echo old new last

@@ -1,8 +1,7 @@
 //! The program `node`: a node of a setup, which the first line names, and an event, or several, on each other line.
 
 ghost use Rattle.std.specs.Prelude.{◌≡◌, ◌≢◌, ◌≤◌, ◌++◌, List, None, Some, Ok, Err, true, ℕ};
-ghost use Rattle.std.specs.Prelude.{IfErr, IfOk, IsOk, OnErr, OnOk, string_bytes, take};
-ghost use Rattle.std.specs.Io.KnownBytes.{Appends};
+ghost use Rattle.std.specs.Prelude.{IfErr, IfOk, IsOk, OnErr, OnOk, string_bytes};
 ghost use Rattle.line_runs.specs.Run.{ReadsFewLines};
 ghost use Rattle.line_runs.specs.declared.outcome.Ran.TheVariants.{WithRefusals};
 ghost use Rattle.line_runs.specs.declared.run.Turn.TheVariants.{Ended, Refused, Taken};
@@ -12,7 +11,7 @@ ghost use Rattle.node_runs.specs.declared.fault.NodeStop.TheVariants.{Memory};
 ghost use Rattle.ocpi_text.specs.Whole.{max_whole};
 ghost use Rattle.stored_nodes.specs.Keepers.{keeper_of};
 ghost use Rattle.node_keepers.specs.Opening.{source_of};
-ghost use Rattle.node_runs.specs.NodeOutputs.{IsKept, NodeBegins, NodeOutputs, NodeStops, asked_for, begin_bytes};
+ghost use Rattle.node_runs.specs.NodeOutputs.{IsKept, NodeBegins, NodeOutputs, NodeStops, asked_for};
 ghost use Rattle.node_runs.specs.Afters.{IsAfter, IsTold};
 ghost use Rattle.node_runs.specs.NodeAnswers.{BehindTurn, NodeEndGives, NodeLineGives};
 ghost use Rattle.node_runs.specs.DoneLines.{known_line, refused_line};
@@ -23,12 +22,13 @@ ghost use Rattle.node_runs.specs.Stages.{GoesOnWith, IsOpenedWith, stopped_stage
 ghost use Rattle.node_runs.specs.Stops.{IfRun, IfStop};
 
 use crate::beginning::{Begun, Running, Unbegun, begin};
+use crate::begun_run::run_begun;
 use crate::behind_setup::{add_written, answer_behind_setup, is_starved, tell_written};
 use crate::done_lines::{write_known, write_malformed, write_opened, write_refused};
 use crate::fault::{NodeRunFault, NodeStop};
 use crate::list_lines::After;
 use crate::setup_line::read_numbered_setup;
-use line_runs::{AnswerNumbered, LineReader, Ran, RunFault, Turn, run_numbered, write_flushed};
+use line_runs::{AnswerNumbered, LineReader, Ran, RunFault, Turn};
 use node_keepers::Keeps;
 use node_steps::NodeFault;
 use node_store::{Keep, LineNumber};
@@ -389,18 +389,6 @@ fn ended(ran: Result<Ran, RunFault>, stop: Option<NodeStop>) -> Result<Ran, Node
     }
 }
 
-/// Writes what an echo begins with, and has it passed on.
-fn write_beginning<W: Write>(writer: &mut W, echo: bool) -> Result<(), RunFault>
-    ensures ok { OnOk result (Appends (W.contents writer.old) (W.contents writer.new) (begin_bytes echo)) }
-    ensures err { IfErr result (λ fault. (fault ≡ RunFault.WriteFailed)
-        × (n : ℕ) × Appends (W.contents writer.old) (W.contents writer.new) (take n (begin_bytes echo))) }
-{
-    if !echo {
-        return Ok(());
-    }
-    write_flushed(writer, b"\n\n")
-}
-
 /// Runs one node of a setup for as long as lines come. The first line that holds something is the setup, in which
 /// `party` names the node, compared without case. Each other is an event, or an array of at most 256 events. Each
 /// packet that the node sends for an event is a line, and after these comes one that says what became of it, by the
@@ -454,10 +442,7 @@ pub fn run_node<R: BufRead, W: Write, S: Keeps + Drop>(
 {
     let wanted = asked_for(party);
     let mut program: Program<S::Kept, S> = Program::new(alloc, seed, wanted, keeps);
-    let ran = match write_beginning(writer, echo) {
-        Ok(()) => run_numbered(alloc, &mut program, input, writer, echo),
-        Err(fault) => Err(fault),
-    };
+    let ran = run_begun(alloc, &mut program, input, writer, echo);
     let (left, stop) = program.close();
     *kept = left;
     ended(ran, stop)

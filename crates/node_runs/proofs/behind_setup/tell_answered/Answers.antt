@@ -1,4 +1,4 @@
-use Rattle.std.proofs.Common.{[], List, ℕ, string_bytes, sym, subst}
+use Rattle.std.proofs.Common.{[], string_bytes, sym, subst}
 use Rattle.stored_nodes.specs.Keepers.{keeper_of}
 use Rattle.node_runs.specs.Afters.{IsAfter, IsAnswered}
 use Rattle.node_runs.specs.declared.list_lines.After.{After}

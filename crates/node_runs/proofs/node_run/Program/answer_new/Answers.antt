@@ -1,4 +1,4 @@
-use Rattle.std.proofs.Common.{◌∙◌, List, ℕ, string_bytes, ap, subst}
+use Rattle.std.proofs.Common.{◌∙◌, ℕ, string_bytes, ap, subst}
 use Rattle.stored_nodes.specs.Keepers.{keeper_of}
 use Rattle.node_runs.specs.Afters.{IsAfter}
 use Rattle.node_runs.specs.NodeTurns.{Stage}

@@ -1,10 +1,9 @@
-use Rattle.std.proofs.Common.{◌≡◌, ◌∙◌, ◌+◌, ◌++◌, ◌≤◌, List, ℕ, suc, Option, None, Some, string_bytes, arith, sym, ap, subst}
+use Rattle.std.proofs.Common.{◌≡◌, ◌∙◌, ◌++◌, ◌≤◌, List, ℕ, suc, Option, None, string_bytes, arith, ap, subst}
 use Rattle.ocpi_text.specs.Whole.{max_whole}
-use Rattle.line_runs.specs.declared.run.Turn.TheVariants.{Refused, Taken}
-use Rattle.node_steps.specs.declared.fault.NodeFault.TheVariants.{NumbersUsedUp}
+use Rattle.line_runs.specs.declared.run.Turn.TheVariants.{Taken}
 use Rattle.stored_nodes.specs.Keepers.{keeper_of}
 use Rattle.node_runs.specs.Afters.{IsAfter, IsTold}
-use Rattle.node_runs.specs.DoneLines.{known_line, refused_line}
+use Rattle.node_runs.specs.DoneLines.{known_line}
 use Rattle.node_runs.specs.NodeAnswers.{BehindTurn}
 use Rattle.node_runs.specs.NodeTurns.{Running, Stage}
 use Rattle.node_runs.specs.Stages.{GoesOnWith}

@@ -1,4 +1,4 @@
-use Rattle.std.proofs.Common.{◌≡◌, ◌++◌, [], None, List, ℕ, string_bytes, OnOk, sym, subst}
+use Rattle.std.proofs.Common.{◌≡◌, ◌++◌, None, List, ℕ, string_bytes, OnOk, sym, subst}
 use Rattle.line_runs.specs.declared.run.Turn.TheVariants.{Refused}
 use Rattle.node_steps.specs.declared.fault.NodeFault.TheVariants.{NumbersUsedUp}
 use Rattle.ocpi_text.specs.Whole.{max_whole}

@@ -1,4 +1,4 @@
-use Rattle.std.proofs.Common.{◌≡◌, ◌∙◌, ◌++◌, [], None, List, ℕ, string_bytes, refl, ap, subst}
+use Rattle.std.proofs.Common.{◌≡◌, ◌∙◌, ◌++◌, None, List, ℕ, string_bytes, refl, ap}
 use Rattle.node_runs.specs.DoneLines.{malformed_line}
 use Rattle.node_runs.specs.NodeTurns.{NoSetup}
 use Rattle.node_runs.proofs.AfterLemmas.{of_ok}

@@ -1,4 +1,4 @@
-use Rattle.std.proofs.Common.{◌≡◌, ◌∙◌, ◌++◌, [], List, ℕ, string_bytes, OnOk, sym, ap, subst}
+use Rattle.std.proofs.Common.{◌≡◌, ◌∙◌, ◌++◌, List, ℕ, string_bytes, OnOk, sym, ap, subst}
 use Rattle.line_runs.specs.declared.run.Turn.TheVariants.{Taken}
 use Rattle.node_runs.specs.DoneLines.{known_line}
 use Rattle.node_runs.specs.NodeTurns.{Stage}
