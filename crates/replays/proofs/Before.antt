@@ -11,7 +11,7 @@ use Rattle.ocpi_types.specs.declared.setup.Node.{Node}
 use Rattle.replays.proofs.Blame.{AtFeed, EndsLine, end_behind, Front, NoLine, feeds_join, front_is, front_of}
 use Rattle.replays.proofs.Known.{IsKnown, front_of as run_front}
 use Rattle.replays.proofs.Led.{Before, Reached, printed_to}
-use Rattle.replays.proofs.Lines.{Counting, one_letter, printed_before}
+use Rattle.replays.proofs.Lines.{Counting, left_by, one_letter, printed_before}
 use Rattle.replays.proofs.Lists.{joined_is_none}
 use Rattle.replays.proofs.Sound.{IsText, first_is_line, has_text, opens_so}
 use Rattle.replays.specs.Cutting.{ArePrintedBy, HasNoEmptyLine, feeds}
@@ -138,7 +138,7 @@ module _ (start : Held) (text bytes more : List ℕ) (count : ℕ) (t : IsText b
       o = opens_so w setup base line h.reads held way.member way.within same way.state way.opens
       opening_is : opening_of o ≡ piece ++ 10 ∷ []
       opening_is = way.tells
-      goes : GoesOn (begun o) d.text d.told d.left
+      goes : GoesOn (begun o) d.text d.told (left_by d.now)
       goes = printed_before (begun_over held way.member way.state base) rest d
       after : List ℕ
       after = echo_of d.line ++ d.more
@@ -165,8 +165,8 @@ module _ (start : Held) (text bytes more : List ℕ) (count : ℕ) (t : IsText b
         ends = ends_so;
         count = count_so;
         said = Opened (opened_by o) ∷ d.told;
-        left = d.left;
-        prints = printed.Begun line fed o d.text d.told d.left goes;
+        left = left_by d.now;
+        prints = printed.Begun line fed o d.text d.told (left_by d.now) goes;
       }
       of c tail (read.Beginning is) e =
           joined_is_none (d.text ++ d.line) 10 d.more

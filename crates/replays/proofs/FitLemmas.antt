@@ -15,7 +15,7 @@ use Rattle.std.specs.declared.alloc.AllocError.{AllocError}
 use Rattle.stored_laws.specs.Nodes.{CanStartAgain, last_serial, restarted}
 use Rattle.world_steps.specs.World.{NodeState, Operates, Provides}
 use Rattle.replays.proofs.Lists.{Cuts, First, IsPlain, Second, cuts, last_one, plain_has_feed}
-use Rattle.replays.specs.LineTurns.{Held}
+use Rattle.replays.specs.LineTurns.{Held, Store, held_in}
 use Rattle.replays.specs.declared.opening.Tried.{Tried}
 use Rattle.replays.specs.declared.opening.Tried.TheVariants as tried
 use Rattle.replays.specs.Reading.{Fits, IsCut, IsWhole, OpensOver, told_line}
@@ -134,13 +134,13 @@ same_front line party rows text n is count serial =
 
 -- ---- a node that was made
 
-pub line_tried : (member : Node) (held : Held) (state : NodeState) (line : List ℕ) (serial : ℕ) (closed : Bool) (piece : List ℕ) (x : Tried) → line ≡ opened_line held.line (party_of member) (length held.rows) serial
-    → serial ≡ last_serial state → IsLineTried line state serial closed piece x → IsNodeTried member held state closed piece x
-line_tried member held state line serial closed piece x is same found = of x found
+pub line_tried : (member : Node) (held : Held) (rows : List Row) (state : NodeState) (line : List ℕ) (serial : ℕ) (closed : Bool) (piece : List ℕ) (x : Tried) → line ≡ opened_line held.line (party_of member) (length rows) serial
+    → serial ≡ last_serial state → IsLineTried line state serial closed piece x → IsNodeTried member held rows state closed piece x
+line_tried member held rows state line serial closed piece x is same found = of x found
   where
-  told : line ≡ told_line held member state
-  told = is ∙ ap (λ n. opened_line held.line (party_of member) (length held.rows) n) same
-  of : (x : Tried) → IsLineTried line state serial closed piece x → IsNodeTried member held state closed piece x
+  told : line ≡ told_line held rows member state
+  told = is ∙ ap (λ n. opened_line held.line (party_of member) (length rows) n) same
+  of : (x : Tried) → IsLineTried line state serial closed piece x → IsNodeTried member held rows state closed piece x
   of tried.No found = λ fits. found (subst (Fits closed piece) (sym told) fits)
   of tried.May found = subst (IsBegun closed piece) told found
   of (tried.Was o) found = (found.0, sym told ∙ found.1, found.2 ∙ same)
@@ -156,28 +156,31 @@ starts_from setup (node.Operator party site) rows (Provides s) made = absurd mad
 starts_from setup (node.Provider party) rows (Operates s) made = absurd made
 starts_from setup (node.Provider party) rows (Provides s) made = record { of_member = ap provider_steps.restarted made.with_peers; has_rows = made.has_rows }
 
-pub made_over : (setup : List Node) (member : Node) (held : Held) (rows : List Row) (n : NodeState) (closed : Bool) (piece : List ℕ) (r : Result Tried AllocError) → rows ≡ held.rows → IsMadeOfRows setup member rows n
-    → CanStartAgain n → ((s : NodeState) → CanStartAgain s → StartsAgainFrom setup member rows s → n ≡ restarted s) → IfOk r (IsNodeTried member held n closed piece) → IfOk r (IsTried setup member held closed piece)
-made_over setup member held rows n closed piece (Err e) same made starts again found = tt
-made_over setup member held rows n closed piece (Ok x) same made starts again found = of x found
-  where
-  over : OpensOver setup member held n
-  over = record { made = subst (λ l. IsMadeOfRows setup member l n) same made; starts = starts }
-  one : (s : NodeState) → OpensOver setup member held s → told_line held member s ≡ told_line held member n
-  one s o =
-      let is = again s o.starts (starts_from setup member rows s (subst (λ l. IsMadeOfRows setup member l s) (sym same) o.made)) in
-      ap (λ k. opened_line held.line (party_of member) (length held.rows) k) (sym (same_serial s) ∙ ap last_serial (sym is))
-  of : (x : Tried) → IsNodeTried member held n closed piece x → IsTried setup member held closed piece x
-  of tried.No found = λ s o fits. found (subst (Fits closed piece) (one s o) fits)
-  of tried.May found = (n, over, found)
-  of (tried.Was o) (node_is, tells, serial) = record {
-    opens = subst (λ k. OpensOver setup member held k) (sym node_is) over;
-    tells = ap (λ k. told_line held member k) node_is ∙ tells;
-    serial = serial ∙ ap last_serial (sym node_is);
-  }
+module _ (setup : List Node) (member : Node) (store : Store) (rows : List Row) (same : rows ≡ store.rows) where
+  starts_so : (s : NodeState) → OpensOver setup member (held_in store) s → StartsAgainFrom setup member rows s
+  starts_so s o = starts_from setup member rows s (subst (λ l. IsMadeOfRows setup member l s) (o.lists ∙ sym same) o.made)
 
--- rows of which none was made are those of no node
-pub bad_rows : (setup : List Node) (member : Node) (held : Held) (rows : List Row) (closed : Bool) (piece : List ℕ) → rows ≡ held.rows
-    → ((s : NodeState) → CanStartAgain s → StartsAgainFrom setup member rows s → ⊥) → IsTried setup member held closed piece tried.No
-bad_rows setup member held rows closed piece same none =
-    λ s o fits. none s o.starts (starts_from setup member rows s (subst (λ l. IsMadeOfRows setup member l s) (sym same) o.made))
+  pub made_over : (n : NodeState) (closed : Bool) (piece : List ℕ) (r : Result Tried AllocError) → IsMadeOfRows setup member rows n
+      → CanStartAgain n → ((s : NodeState) → CanStartAgain s → StartsAgainFrom setup member rows s → n ≡ restarted s) → IfOk r (IsNodeTried member (held_in store) store.rows n closed piece)
+      → IfOk r (IsTried setup member (held_in store) closed piece)
+  made_over n closed piece (Err e) made starts again found = tt
+  made_over n closed piece (Ok x) made starts again found = of x found
+    where
+    over : OpensOver setup member (held_in store) n
+    over = record { rows = store.rows; lists = refl; made = subst (λ l. IsMadeOfRows setup member l n) same made; starts = starts }
+    one : (s : NodeState) (o : OpensOver setup member (held_in store) s) → told_line (held_in store) o.rows member s ≡ told_line (held_in store) store.rows member n
+    one s o =
+        let is = again s o.starts (starts_so s o) in
+        ap₂ (λ l k. opened_line store.line (party_of member) l k) (ap length o.lists) (sym (same_serial s) ∙ ap last_serial (sym is))
+    of : (x : Tried) → IsNodeTried member (held_in store) store.rows n closed piece x → IsTried setup member (held_in store) closed piece x
+    of tried.No found = λ s o fits. found (subst (Fits closed piece) (one s o) fits)
+    of tried.May found = (n, (over, found))
+    of (tried.Was o) (node_is, tells, serial) = record {
+      opens = record { rows = store.rows; lists = refl; made = subst (λ k. IsMadeOfRows setup member store.rows k) (sym node_is) over.made; starts = subst CanStartAgain (sym node_is) starts };
+      tells = ap (λ k. told_line (held_in store) store.rows member k) node_is ∙ tells;
+      serial = serial ∙ ap last_serial (sym node_is);
+    }
+
+  -- rows of which none was made are those of no node
+  pub bad_rows : (closed : Bool) (piece : List ℕ) → ((s : NodeState) → CanStartAgain s → StartsAgainFrom setup member rows s → ⊥) → IsTried setup member (held_in store) closed piece tried.No
+  bad_rows closed piece none = λ s o fits. none s o.starts (starts_so s o)

@@ -169,13 +169,13 @@ module _ (start : Held) where
 
       pub known_opened : (r after : Reader) → r.story.doubt ≡ None → IsKnown whole (bytes ++ (feeds count ++ more)) r → (ended : Bool) → (IsTrue ended → 3 ≤ count)
           → (line behind piece rest : List ℕ) (setup : List Node) (base : Option ℕ) (closed : Bool) → HasSetup bytes line behind setup base piece closed rest
-          → (way : WasOpened r setup piece r.story.held) → IsRun r after line setup base rest ended r.story way.member way.state → IsKnown whole more after
+          → (way : WasOpened r setup piece r.story.held) → IsRun r after line setup base rest ended r.story way.opens.rows way.member way.state → IsKnown whole more after
       known_opened r after none k ended far line behind piece rest setup base closed h way run = of (lines_sound Counted counting first rest ended run.opened after.story (counted r.story.held way.member way.state base) run.lines)
         where
         first : Running
         first = begun_over r.story.held way.member way.state base
         one : OpenedRun
-        one = run_over line setup r.story.held way.member way.state
+        one = run_over line setup way.opens.rows way.member way.state
         party : List ℕ
         party = party_of way.member
         is_party : (w : List ℕ) → MayBe after w → key party ≡ key w

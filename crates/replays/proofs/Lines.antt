@@ -7,7 +7,7 @@ use Rattle.replays.proofs.Going.{Ends, Follows, Goes, IsClosed, LastLine, Left, 
 use Rattle.replays.proofs.Lists.{Cuts, First, Second, IsPlain, behind_front, cuts, joined_is_none, some_is_none, tails}
 use Rattle.replays.proofs.Told.{no_openings, openings_join}
 use Rattle.replays.specs.Happenings.{Happening, Placed, came_by, entries_behind, openings_in}
-use Rattle.replays.specs.LineTurns.{Held, IsLeftBy, IsLine, LineGives, Running, echo_of}
+use Rattle.replays.specs.LineTurns.{Held, IsLeftBy, IsLine, LineGives, OfNode, Running, echo_of}
 use Rattle.replays.specs.Printed.{Cut, GoesOn, Stopped, TookHold}
 use Rattle.replays.specs.Reading as read
 use Rattle.replays.specs.Reading.{Adds, Doubt, Doubts, LinesDiffer, LinesTaken, Story, Tail}
@@ -223,7 +223,13 @@ module _ (Good : Running → Type 0) (gifts : Gifts Good) where
       of (Goes behind later is on) = fits behind (cuts d.more (10 ∷ []) d.out behind is)
 
 -- and what stands in front of it was
-pub printed_before : (first : Running) (rest : List ℕ) (d : LinesDiffer first rest) → GoesOn first d.text d.told d.left
-printed_before first rest d = subst (λ l. GoesOn first l d.told d.left) (append-nil d.text)
-  (subst (λ l. GoesOn first (d.text ++ []) l d.left) (append-nil d.told)
-  (on_from first d.now d.text d.told d.walks [] [] d.left (Stopped (65 ∷ []) one_letter [] (65 ∷ 10 ∷ []) refl d.left d.kept)))
+abbrev pub left_by : Running → Held
+left_by now = record { kept = OfNode now.state; line = now.last }
+
+pub printed_before : (first : Running) (rest : List ℕ) (d : LinesDiffer first rest) → GoesOn first d.text d.told (left_by d.now)
+printed_before first rest d = subst (λ l. GoesOn first l d.told left) (append-nil d.text)
+  (subst (λ l. GoesOn first (d.text ++ []) l left) (append-nil d.told)
+  (on_from first d.now d.text d.told d.walks [] [] left (Stopped (65 ∷ []) one_letter [] (65 ∷ 10 ∷ []) refl left (record { rows = refl; line = refl }))))
+  where
+  left : Held
+  left = left_by d.now

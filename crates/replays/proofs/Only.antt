@@ -9,6 +9,7 @@ use Rattle.node_runs.specs.NodeTurns.{number_from}
 use Rattle.node_runs.specs.SetupLines.{numbered_setup_in}
 use Rattle.ocpi_text.specs.Text.{key}
 use Rattle.ocpi_types.specs.Setups.{party_of}
+use Rattle.ocpi_types.specs.declared.rows.Row.{Row}
 use Rattle.ocpi_types.specs.declared.setup.Node.{Node}
 use Rattle.stored_laws.specs.Nodes.{last_serial}
 use Rattle.world_steps.specs.World.{NodeState}
@@ -16,7 +17,7 @@ use Rattle.replays.proofs.Lines.{Alike, Both, Gifts, Same, one_letter}
 use Rattle.replays.proofs.Lists.{IsPlain, behind_front, joined_is_none, plain_has_feed, same_line, some_is_none}
 use Rattle.replays.proofs.Seen.{Bare, CutShort, Fault, Seen, WentOn}
 use Rattle.replays.specs.Happenings.{Happening}
-use Rattle.replays.specs.LineTurns.{Held, IsLeftBy, Running}
+use Rattle.replays.specs.LineTurns.{Held, IsLeftBy, Lists, Running}
 use Rattle.replays.specs.Openings.{Opens, begun, opening_of}
 use Rattle.replays.specs.Printed.{GoesOn, Stopped}
 use Rattle.replays.specs.Reading as read
@@ -36,9 +37,9 @@ pub record Openings (Good : Running → Type 0) (Own : Held → Type 0) : Type 0
   pub one_member : (line : List ℕ) (setup : List Node) (base : Option ℕ) → numbered_setup_in line ≡ Ok (setup, base) → (m n : Node) → Contains setup m → Contains setup n
       → key (party_of m) ≡ key (party_of n) → m ≡ n
   pub one_state : (line : List ℕ) (setup : List Node) (base : Option ℕ) → numbered_setup_in line ≡ Ok (setup, base) → (m : Node) → Contains setup m → (held : Held) (s u : NodeState)
-      → OpensOver setup m held s → OpensOver setup m held u → s ≡ u
-  pub same_rows : (held left : Held) → Alike held left → (setup : List Node) (m : Node) (s : NodeState) → IsMadeOfRows setup m left.rows s
-      → IsMadeOfRows setup m held.rows s × (length left.rows ≡ length held.rows)
+      → (o : OpensOver setup m held s) (p : OpensOver setup m held u) → (s ≡ u) × (length o.rows ≡ length p.rows)
+  pub same_rows : (held left : Held) → Alike held left → (setup : List Node) (m : Node) (s : NodeState) (rows : List Row) → Lists left.kept rows → IsMadeOfRows setup m rows s
+      → (others : List Row) × Lists held.kept others × IsMadeOfRows setup m others s × (length rows ≡ length others)
   pub good : (line : List ℕ) (setup : List Node) (base : Option ℕ) → numbered_setup_in line ≡ Ok (setup, base) → (m : Node) → Contains setup m → (held : Held) → Own held
       → (s : NodeState) → OpensOver setup m held s → Good (begun_over held m s base)
   pub own : (now : Running) (held : Held) → Good now → IsLeftBy now held → Own held
@@ -61,9 +62,9 @@ module _ (Good : Running → Type 0) (gifts : Gifts Good) (Own : Held → Type 0
   one_feed body piece x p q is = let both = same_line body piece [] x p q is in (both.0, sym both.1)
 
   -- a line of an opening has one, at its end
-  feed_at_end : (held : Held) (m : Node) (s : NodeState) (piece x : List ℕ) → IsPlain piece → told_line held m s ≡ piece ++ 10 ∷ x → x ≡ []
-  feed_at_end held m s piece x plain is =
-      let c = known.closed held.line (party_of m) (length held.rows) (last_serial s) in
+  feed_at_end : (held : Held) (rows : List Row) (m : Node) (s : NodeState) (piece x : List ℕ) → IsPlain piece → told_line held rows m s ≡ piece ++ 10 ∷ x → x ≡ []
+  feed_at_end held rows m s piece x plain is =
+      let c = known.closed held.line (party_of m) (length rows) (last_serial s) in
       (one_feed c.0 piece x c.2 plain (sym c.1 ∙ is)).1
 
   module _ (line : List ℕ) (setup : List Node) (base : Option ℕ) (reads : numbered_setup_in line ≡ Ok (setup, base)) (w : List ℕ) (held left : Held) (alike : Alike held left) where
@@ -72,15 +73,15 @@ module _ (Good : Running → Type 0) (gifts : Gifts Good) (Own : Held → Type 0
       within : Contains setup o.member
       same : key (party_of o.member) ≡ key w
       over : OpensOver setup o.member held o.state
-      tells : told_line held o.member o.state ≡ opening_of o
+      tells : told_line held over.rows o.member o.state ≡ opening_of o
       begins : begun o ≡ begun_over held o.member o.state base
 
     is_over : (o : Opens w left line) → IsOver o
     is_over o = record {
       within = subst (λ (l : List Node). Contains l o.member) (sym setups) o.asked.within;
       same = o.asked.same ∙ ap key (some_same o.asked.party w o.asked.asked);
-      over = record { made = subst (λ (l : List Node). IsMadeOfRows l o.member held.rows o.state) (sym setups) rows.0; starts = o.starts };
-      tells = ap₂ (λ a b. opened_line a (party_of o.member) b (last_serial o.state)) (sym number) (sym rows.1);
+      over = record { rows = rows.0; lists = rows.1; made = subst (λ (l : List Node). IsMadeOfRows l o.member rows.0 o.state) (sym setups) rows.2; starts = o.starts };
+      tells = ap₂ (λ a b. opened_line a (party_of o.member) b (last_serial o.state)) (sym number) (sym rows.3);
       begins = ap₂ (λ (a : ℕ) (b : Option ℕ). record { party = party_of o.member; state = o.state; known = a; last = a; number = number_from b a }) number (sym bases);
     }
       where
@@ -92,8 +93,8 @@ module _ (Good : Running → Type 0) (gifts : Gifts Good) (Own : Held → Type 0
       some_same a b is = cc
       number : left.line ≡ held.line
       number = same_number held left alike
-      rows : IsMadeOfRows o.setup o.member held.rows o.state × (length left.rows ≡ length held.rows)
-      rows = known.same_rows held left alike o.setup o.member o.state o.made
+      rows : (others : List Row) × Lists held.kept others × IsMadeOfRows o.setup o.member others o.state × (length o.rows ≡ length others)
+      rows = known.same_rows held left alike o.setup o.member o.state o.rows o.lists o.made
 
   -- ---- where the line of an opening is cut
 
@@ -140,13 +141,13 @@ module _ (Good : Running → Type 0) (gifts : Gifts Good) (Own : Held → Type 0
       no_more : {X : Type 0} (o : Opens w left line) (x : List ℕ) → opening_of o ≡ piece ++ 10 ∷ x → X
       no_more o x is =
           let a = is_over line setup base h.reads w held left alike o in
-          let none = feed_at_end held o.member o.state piece x h.plain (a.tells ∙ is) in
+          let none = feed_at_end held a.over.rows o.member o.state piece x h.plain (a.tells ∙ is) in
           not_whole o (is ∙ ap (λ l. piece ++ 10 ∷ l) none)
 
       body_is : {X : Type 0} (o : Opens w left line) (text x : List ℕ) → piece ++ 10 ∷ x ≡ opening_of o ++ text → X
       body_is o text x is =
           let a = is_over line setup base h.reads w held left alike o in
-          let c = known.closed held.line (party_of o.member) (length held.rows) (last_serial o.state) in
+          let c = known.closed held.line (party_of o.member) (length a.over.rows) (last_serial o.state) in
           let whole : opening_of o ≡ c.0 ++ 10 ∷ [] = sym a.tells ∙ c.1 in
           let same = same_line piece c.0 x text h.plain c.2 (is ∙ ap (λ l. l ++ text) whole ∙ append_assoc c.0 (10 ∷ []) text) in
           not_whole o (whole ∙ ap (λ l. l ++ 10 ∷ []) (sym same.0))
@@ -179,7 +180,7 @@ module _ (Good : Running → Type 0) (gifts : Gifts Good) (Own : Held → Type 0
             body_is o text (x ++ 10 ∷ []) (sym (append_assoc piece (10 ∷ x) (10 ∷ [])) ∙ ap (λ l. l ++ 10 ∷ []) (sym is) ∙ sym whole ∙ parts)
         by c more (read.Beginning is) e (WentOn o text told parts said_so on) (inl whole) =
             let a = is_over line setup base h.reads w held left alike o in
-            let c = known.closed held.line (party_of o.member) (length held.rows) (last_serial o.state) in
+            let c = known.closed held.line (party_of o.member) (length a.over.rows) (last_serial o.state) in
             plain_has_feed c.0 text (subst IsPlain (sym is ∙ sym whole ∙ parts ∙ ap (λ l. l ++ text) (sym a.tells ∙ c.1) ∙ append_assoc c.0 (10 ∷ []) text) h.plain)
         by c more (read.Beginning is) e (WentOn o text told parts said_so on) (inr whole) = body_is o text [] (ap (λ l. l ++ 10 ∷ []) (sym is) ∙ sym whole ∙ parts)
 
@@ -196,21 +197,29 @@ module _ (Good : Running → Type 0) (gifts : Gifts Good) (Own : Held → Type 0
       is_it o missing some is = record {
         here = here;
         begins = a.begins ∙ ap₂ (λ (m : Node) (k : Held). begun_over k m o.state base) members here ∙ ap (λ s. begun_over over way.member s base) states;
-        tells = sym a.tells ∙ ap₂ (λ (m : Node) (k : Held). told_line k m o.state) members here ∙ ap (λ s. told_line over way.member s) states ∙ way.tells;
+        tells = sym a.tells ∙ ap₂ (λ (m : Node) (k : Held). told_line k a.over.rows m o.state) members here ∙ ap₂ (λ s n. opened_line over.line (party_of way.member) n (last_serial s)) both.0 both.1 ∙ way.tells;
       }
         where
         a : IsOver line setup base h.reads w held left alike o
         a = is_over line setup base h.reads w held left alike o
         lines : (over.line ≡ held.line) × (party_of way.member ≡ party_of o.member)
-        lines = known.one_line line setup base h.reads way.member o.member way.within a.within over.line held.line (length over.rows) (last_serial way.state) (length held.rows) (last_serial o.state) piece missing
+        lines = known.one_line line setup base h.reads way.member o.member way.within a.within over.line held.line (length way.opens.rows) (last_serial way.state) (length a.over.rows) (last_serial o.state) piece missing
           way.tells (a.tells ∙ is) some
         here : held ≡ over
         here = number (sym lines.0)
         members : o.member ≡ way.member
         members = known.one_member line setup base h.reads o.member way.member a.within way.within (ap key (sym lines.1))
+        moved : OpensOver setup way.member over o.state
+        moved = record {
+          rows = a.over.rows;
+          lists = subst (λ (k : Held). Lists k.kept a.over.rows) here a.over.lists;
+          made = subst (λ (m : Node). IsMadeOfRows setup m a.over.rows o.state) members a.over.made;
+          starts = a.over.starts;
+        }
+        both : (o.state ≡ way.state) × (length a.over.rows ≡ length way.opens.rows)
+        both = known.one_state line setup base h.reads way.member way.within over o.state way.state moved way.opens
         states : o.state ≡ way.state
-        states = known.one_state line setup base h.reads way.member way.within over o.state way.state
-          (subst (λ (k : Held). OpensOver setup way.member k o.state) here (subst (λ (m : Node). OpensOver setup m held o.state) members a.over)) way.opens
+        states = both.0
 
       -- what the node that was opened printed then
       pub record Went (also : List ℕ) (said : List Happening) (after : Held) : Type 0 where
@@ -242,7 +251,7 @@ module _ (Good : Running → Type 0) (gifts : Gifts Good) (Own : Held → Type 0
         no_more : {X : Type 0} (o : Opens w left line) (x : List ℕ) → x ≢ [] → opening_of o ≡ piece ++ 10 ∷ x → X
         no_more o x some is =
             let a = is_over line setup base h.reads w held left alike o in
-            absurd (some (feed_at_end held o.member o.state piece x h.plain (a.tells ∙ is)))
+            absurd (some (feed_at_end held a.over.rows o.member o.state piece x h.plain (a.tells ∙ is)))
         one_more_feed : (x : List ℕ) → behind ≡ piece ++ 10 ∷ x → behind ++ 10 ∷ [] ≡ piece ++ 10 ∷ (x ++ 10 ∷ [])
         one_more_feed x is = ap (λ l. l ++ 10 ∷ []) is ∙ append_assoc piece (10 ∷ x) (10 ∷ [])
         feed_behind : behind ≡ piece → behind ++ 10 ∷ [] ≡ piece ++ 10 ∷ []
@@ -253,7 +262,7 @@ module _ (Good : Running → Type 0) (gifts : Gifts Good) (Own : Held → Type 0
         parts_of : (o : Opens w left line) (text x : List ℕ) → piece ++ 10 ∷ x ≡ opening_of o ++ text → (opening_of o ≡ piece ++ 10 ∷ []) × (x ≡ text)
         parts_of o text x is =
             let a = is_over line setup base h.reads w held left alike o in
-            let c = known.closed held.line (party_of o.member) (length held.rows) (last_serial o.state) in
+            let c = known.closed held.line (party_of o.member) (length a.over.rows) (last_serial o.state) in
             let whole : opening_of o ≡ c.0 ++ 10 ∷ [] = sym a.tells ∙ c.1 in
             let same = same_line piece c.0 x text h.plain c.2 (is ∙ ap (λ l. l ++ text) whole ∙ append_assoc c.0 (10 ∷ []) text) in
             (whole ∙ ap (λ l. l ++ 10 ∷ []) (sym same.0), same.1)
@@ -286,7 +295,7 @@ module _ (Good : Running → Type 0) (gifts : Gifts Good) (Own : Held → Type 0
             of_it o (is_it o (10 ∷ []) (λ none. some_is_none 10 [] none) p.0) told (inr (whole, subst (λ l. GoesOn (begun o) l told after) (sym p.1 ∙ ap (λ l. l ++ 10 ∷ []) (sym e)) on))
         by c more (read.Beginning is) e (WentOn o text told parts said_so on) (inl whole) =
             let a = is_over line setup base h.reads w held left alike o in
-            let c = known.closed held.line (party_of o.member) (length held.rows) (last_serial o.state) in
+            let c = known.closed held.line (party_of o.member) (length a.over.rows) (last_serial o.state) in
             plain_has_feed c.0 text (subst IsPlain (sym is ∙ sym whole ∙ parts ∙ ap (λ l. l ++ text) (sym a.tells ∙ c.1) ∙ append_assoc c.0 (10 ∷ []) text) h.plain)
         by c more (read.Beginning is) e (WentOn o text told parts said_so on) (inr whole) =
             let p = parts_of o text [] (sym (feed_behind is) ∙ sym whole ∙ parts) in

@@ -138,7 +138,7 @@ module _ (Good : Running → Type 0) (gifts : Gifts Good) (Own : Held → Type 0
     by_parties parties story some (p, within, same) = (may.0, inr (p, within, same))
 
     opened_on : (over : Held) (way : WasOpened r setup piece over) (held : Held) (g : GoesSo over way held) (after : Reader) (ended : Bool) (s : Story) → over ≡ s.held → Own over
-        → IsRun r after line setup base rest ended s way.member way.state → Onward r after bytes run ended w said next
+        → IsRun r after line setup base rest ended s way.opens.rows way.member way.state → Onward r after bytes run ended w said next
     opened_on over way held g after ended s is owned x = record {
       quiet = λ none. absurd (has none);
       goes = λ far. (is_party, of g.on far);
@@ -204,8 +204,8 @@ module _ (Good : Running → Type 0) (gifts : Gifts Good) (Own : Held → Type 0
 
   pub onward : (after : Reader) (ended : Bool) → RunTaken r after bytes ended → Onward r after bytes run ended w said next
   onward after ended (read.Unclosed plain same) =
-      let x = unclosed w left (λ at o. known.closed left.line (party_of o.member) (length left.rows) (last_serial o.state)) run said next one bytes plain ends
-        (λ at o. known.long left.line (party_of o.member) (length left.rows) (last_serial o.state)) in
+      let x = unclosed w left (λ at o. known.closed left.line (party_of o.member) (length o.rows) (last_serial o.state)) run said next one bytes plain ends
+        (λ at o. known.long left.line (party_of o.member) (length o.rows) (last_serial o.state)) in
       subst (λ a. Onward r a bytes run ended w said next) (sym same) (still x.0 x.1 ended)
   onward after ended (read.NoSetupThere line behind f fault fails real missing is some same) =
       no_setup line behind f fault fails real (λ other faults more cut none left_so. subst (λ a. Onward r a bytes run ended w said next) (sym same) (still none left_so ended))

@@ -80,6 +80,8 @@ module _ (wanted : List ℕ) (setup : List Node) (base : Option ℕ) (line : Lis
     member = member;
     asked = record { party = wanted; asked = refl; within = within; same = same };
     state = state;
+    rows = over.rows;
+    lists = over.lists;
     made = over.made;
     starts = over.starts;
   }
@@ -139,23 +141,23 @@ no_feed_first now text more told left (printed.Whole line fed out entered did ne
 
 -- what is printed with an opening, and behind it
 pub opened_prints : (bytes line behind piece rest : List ℕ) (setup : List Node) (base : Option ℕ) (closed : Bool) → IsText bytes
-    → HasSetup bytes line behind setup base piece closed rest → (held : Held) (member : Node) → Contains setup member → (state : NodeState) → OpensOver setup member held state
-    → told_line held member state ≡ piece ++ 10 ∷ [] → (wanted : List ℕ) → key (party_of member) ≡ key wanted
-    → (told : List Happening) (left : Held) → GoesOn (begun_over held member state base) rest told left → Prints wanted held bytes (Opened (run_over line setup held member state) ∷ told) left
+    → HasSetup bytes line behind setup base piece closed rest → (held : Held) (member : Node) → Contains setup member → (state : NodeState) → (over : OpensOver setup member held state)
+    → told_line held over.rows member state ≡ piece ++ 10 ∷ [] → (wanted : List ℕ) → key (party_of member) ≡ key wanted
+    → (told : List Happening) (left : Held) → GoesOn (begun_over held member state base) rest told left → Prints wanted held bytes (Opened (run_over line setup over.rows member state) ∷ told) left
 opened_prints bytes line behind piece rest setup base closed t h held member within state over tells wanted same told left on = of closed rest h.is on
   where
   fed : IsLine line
   fed = first_is_line bytes line behind t h.first
   o : Opens wanted held line
   o = opens_so wanted setup base line h.reads held member within same state over
-  of : (c : Bool) (after : List ℕ) → IsBehind behind piece c after → GoesOn (begun_over held member state base) after told left → Prints wanted held bytes (Opened (run_over line setup held member state) ∷ told) left
+  of : (c : Bool) (after : List ℕ) → IsBehind behind piece c after → GoesOn (begun_over held member state base) after told left → Prints wanted held bytes (Opened (run_over line setup over.rows member state) ∷ told) left
   of c after (read.Line more is) on =
-      subst (λ l. Prints wanted held l (Opened (run_over line setup held member state) ∷ told) left)
+      subst (λ l. Prints wanted held l (Opened (run_over line setup over.rows member state) ∷ told) left)
       (append_assoc line (10 ∷ []) (opening_of o ++ more) ∙ ap (λ l. line ++ 10 ∷ l) (ap (λ l. l ++ more) tells ∙ append_assoc piece (10 ∷ []) more ∙ sym is) ∙ sym h.first.is)
       (printed.Begun line fed o more told left on)
   of c after (read.Beginning is) on =
-      subst (λ l. Prints wanted held bytes (Opened (run_over line setup held member state) ∷ l) left) (sym (nothing_told (begun_over held member state base) [] told left on refl))
-      (subst (λ l. Prints wanted held l (Opened (run_over line setup held member state) ∷ []) left) (append_assoc line (10 ∷ []) behind ∙ sym h.first.is)
+      subst (λ l. Prints wanted held bytes (Opened (run_over line setup over.rows member state) ∷ l) left) (sym (nothing_told (begun_over held member state base) [] told left on refl))
+      (subst (λ l. Prints wanted held l (Opened (run_over line setup over.rows member state) ∷ []) left) (append_assoc line (10 ∷ []) behind ∙ sym h.first.is)
       (printed.BareOpening line fed o behind (tells ∙ ap (λ l. l ++ 10 ∷ []) (sym is)) left (at_end (begun_over held member state base) [] told left none_plain on)))
     where
     none_plain : IsPlain []
@@ -163,10 +165,10 @@ opened_prints bytes line behind piece rest setup base closed t h held member wit
 
 -- the same with a line feed more
 pub opened_with_feed : (bytes line behind piece rest : List ℕ) (setup : List Node) (base : Option ℕ) (closed : Bool) → IsText bytes
-    → HasSetup bytes line behind setup base piece closed rest → (held : Held) (member : Node) → Contains setup member → (state : NodeState) → OpensOver setup member held state
-    → told_line held member state ≡ piece ++ 10 ∷ [] → (wanted : List ℕ) → key (party_of member) ≡ key wanted
+    → HasSetup bytes line behind setup base piece closed rest → (held : Held) (member : Node) → Contains setup member → (state : NodeState) → (over : OpensOver setup member held state)
+    → told_line held over.rows member state ≡ piece ++ 10 ∷ [] → (wanted : List ℕ) → key (party_of member) ≡ key wanted
     → (told : List Happening) (left : Held) → GoesOn (begun_over held member state base) (rest ++ 10 ∷ []) told left
-    → Prints wanted held (bytes ++ 10 ∷ []) (Opened (run_over line setup held member state) ∷ told) left
+    → Prints wanted held (bytes ++ 10 ∷ []) (Opened (run_over line setup over.rows member state) ∷ told) left
 opened_with_feed bytes line behind piece rest setup base closed t h held member within state over tells wanted same told left on = of closed rest h.is on
   where
   fed : IsLine line
@@ -174,9 +176,9 @@ opened_with_feed bytes line behind piece rest setup base closed t h held member 
   o : Opens wanted held line
   o = opens_so wanted setup base line h.reads held member within same state over
   of : (c : Bool) (after : List ℕ) → IsBehind behind piece c after → GoesOn (begun_over held member state base) (after ++ 10 ∷ []) told left
-      → Prints wanted held (bytes ++ 10 ∷ []) (Opened (run_over line setup held member state) ∷ told) left
+      → Prints wanted held (bytes ++ 10 ∷ []) (Opened (run_over line setup over.rows member state) ∷ told) left
   of c after (read.Line more is) on =
-      subst (λ l. Prints wanted held l (Opened (run_over line setup held member state) ∷ told) left)
+      subst (λ l. Prints wanted held l (Opened (run_over line setup over.rows member state) ∷ told) left)
       (append_assoc line (10 ∷ []) (opening_of o ++ (more ++ 10 ∷ [])) ∙ ap (λ l. line ++ 10 ∷ l) (ap (λ l. l ++ (more ++ 10 ∷ [])) tells ∙ append_assoc piece (10 ∷ []) (more ++ 10 ∷ []) ∙ sym (append_assoc piece (10 ∷ more) (10 ∷ [])) ∙ ap (λ l. l ++ 10 ∷ []) (sym is)) ∙ sym (append_assoc line (10 ∷ behind) (10 ∷ [])) ∙ ap (λ l. l ++ 10 ∷ []) (sym h.first.is))
       (printed.Begun line fed o (more ++ 10 ∷ []) told left on)
   of c after (read.Beginning is) on = absurd (no_feed_first (begun_over held member state base) (10 ∷ []) [] told left on refl)

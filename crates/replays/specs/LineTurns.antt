@@ -16,13 +16,36 @@ use Rattle.replays.specs.Happenings.{Placed, entries_of_line}
 
 -- ---- what a store has
 
--- the rows of a node, and the number of the last line that took hold
+-- rows that are listed, or those of a node
+pub data Kept : Type 0 where
+  Listed : List Row → Kept
+  OfNode : NodeState → Kept
+
+-- these are they, in whatever order
+abbrev pub Lists : Kept → List Row → Type 0
+Lists (Listed given) rows = rows ≡ given
+Lists (OfNode n) rows = AreNodeRows rows n
+
+-- they are those of the node
+abbrev pub AreOf : Kept → NodeState → Type 0
+AreOf (Listed rows) n = AreNodeRows rows n
+AreOf (OfNode m) n = m ≡ n
+
+-- rows, and the number of the last line that took hold
 pub record Held : Type 0 where
+  pub kept : Kept
+  pub line : ℕ
+
+-- the same, of which the rows were read
+pub record Store : Type 0 where
   pub rows : List Row
   pub line : ℕ
 
+abbrev pub held_in : Store → Held
+held_in s = record { kept = Listed s.rows; line = s.line }
+
 -- no rows, and no line took hold
-abbrev pub nothing_held : Held
+abbrev pub nothing_held : Store
 nothing_held = record { rows = []; line = 1 }
 
 -- ---- a node that runs
@@ -38,7 +61,7 @@ pub record Running : Type 0 where
 
 -- the store has the rows of the node, and the number of the last line that took hold
 pub record IsLeftBy (now : Running) (h : Held) : Type 0 where
-  pub rows : AreNodeRows h.rows now.state
+  pub rows : AreOf h.kept now.state
   pub line : h.line ≡ now.last
 
 -- ---- a line

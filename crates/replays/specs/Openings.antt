@@ -5,11 +5,12 @@ use Rattle.node_runs.specs.DoneLines.{opened_line}
 use Rattle.node_runs.specs.NodeTurns.{IsMember, number_from}
 use Rattle.node_runs.specs.SetupLines.{numbered_setup_in}
 use Rattle.ocpi_types.specs.Setups.{party_of}
+use Rattle.ocpi_types.specs.declared.rows.Row.{Row}
 use Rattle.ocpi_types.specs.declared.setup.Node.{Node}
 use Rattle.stored_laws.specs.Nodes.{CanStartAgain, last_serial}
 use Rattle.world_steps.specs.World.{NodeState}
 use Rattle.replays.specs.Happenings.{OpenedRun}
-use Rattle.replays.specs.LineTurns.{Held, Running}
+use Rattle.replays.specs.LineTurns.{Held, Lists, Running}
 
 -- The line is a setup that has a node of the party that was asked for, in whichever case, and that node is made of the
 -- rows. The setup may be another than before.
@@ -20,12 +21,14 @@ pub record Opens (wanted : List ℕ) (held : Held) (line : List ℕ) : Type 0 wh
   pub member : Node
   pub asked : IsMember setup (Some wanted) member
   pub state : NodeState
-  pub made : IsMadeOfRows setup member held.rows state
+  pub rows : List Row
+  pub lists : Lists held.kept rows
+  pub made : IsMadeOfRows setup member rows state
   pub starts : CanStartAgain state
 
 -- what is printed then
 abbrev pub opening_of : {wanted : List ℕ} {held : Held} {line : List ℕ} → Opens wanted held line → List ℕ
-opening_of {held = held} o = opened_line held.line (party_of o.member) (length held.rows) (last_serial o.state)
+opening_of {held = held} o = opened_line held.line (party_of o.member) (length o.rows) (last_serial o.state)
 
 -- the node that runs
 abbrev pub begun : {wanted : List ℕ} {held : Held} {line : List ℕ} → Opens wanted held line → Running
@@ -35,4 +38,4 @@ begun {held = held} o =
 -- what is told of it
 abbrev pub opened_by : {wanted : List ℕ} {held : Held} {line : List ℕ} → Opens wanted held line → OpenedRun
 opened_by {held = held} {line = line} o =
-    record { line = line; setup = o.setup; member = o.member; rows = length held.rows; serial = last_serial o.state }
+    record { line = line; setup = o.setup; member = o.member; rows = length o.rows; serial = last_serial o.state }

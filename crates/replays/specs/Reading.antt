@@ -11,13 +11,14 @@ use Rattle.node_runs.specs.NodeTurns.{number_from}
 use Rattle.node_runs.specs.SetupLines.{numbered_setup_in}
 use Rattle.ocpi_text.specs.Text.{key}
 use Rattle.ocpi_types.specs.Setups.{party_of}
+use Rattle.ocpi_types.specs.declared.rows.Row.{Row}
 use Rattle.ocpi_types.specs.declared.setup.Node.{Node}
 use Rattle.stored_laws.specs.Nodes.{CanStartAgain, last_serial}
 use Rattle.world_steps.specs.Steps.{NodeEvent as Deed}
 use Rattle.world_steps.specs.World.{NodeState}
 use Rattle.replays.specs.Fronts.{feeds_of}
 use Rattle.replays.specs.Happenings.{Happening, OpenedRun, Placed, came_by, entries_behind}
-use Rattle.replays.specs.LineTurns.{Held, IsLeftBy, IsLine, LineGives, Running, echo_of}
+use Rattle.replays.specs.LineTurns.{Held, IsLeftBy, Lists, IsLine, LineGives, Running, echo_of}
 use Rattle.replays.specs.Telling.{AreSourcesOf, IsRunOf}
 use Rattle.replays.specs.Walks.{Walks}
 use Rattle.replays.specs.declared.transcript.Opening.{Opening}
@@ -90,8 +91,6 @@ pub record LinesDiffer (first : Running) (rest : List ℕ) : Type 0 where
   pub gives : LineGives now line out entered did next
   pub not_cut : (m : List ℕ) → out ≢ more ++ m
   pub not_whole : (m : List ℕ) → more ≢ out ++ m
-  pub left : Held
-  pub kept : IsLeftBy now left
 
 -- ---- whose runs they are
 
@@ -117,12 +116,14 @@ MayBe r wanted = IsOther r.earlier wanted × ((r.parties ≡ []) ⊎ IsAmong r.p
 
 -- the member of the setup is made of what the store has
 pub record OpensOver (setup : List Node) (member : Node) (held : Held) (state : NodeState) : Type 0 where
-  pub made : IsMadeOfRows setup member held.rows state
+  pub rows : List Row
+  pub lists : Lists held.kept rows
+  pub made : IsMadeOfRows setup member rows state
   pub starts : CanStartAgain state
 
 -- the line that says so
-abbrev pub told_line : Held → Node → NodeState → List ℕ
-told_line held member state = opened_line held.line (party_of member) (length held.rows) (last_serial state)
+abbrev pub told_line : Held → List Row → Node → NodeState → List ℕ
+told_line held rows member state = opened_line held.line (party_of member) (length rows) (last_serial state)
 
 -- the node that runs then
 abbrev pub begun_over : Held → Node → NodeState → Option ℕ → Running
@@ -130,9 +131,9 @@ begun_over held member state base =
     record { party = party_of member; state = state; known = held.line; last = held.line; number = number_from base held.line }
 
 -- and what is told of it
-abbrev pub run_over : List ℕ → List Node → Held → Node → NodeState → OpenedRun
-run_over line setup held member state =
-    record { line = line; setup = setup; member = member; rows = length held.rows; serial = last_serial state }
+abbrev pub run_over : List ℕ → List Node → List Row → Node → NodeState → OpenedRun
+run_over line setup rows member state =
+    record { line = line; setup = setup; member = member; rows = length rows; serial = last_serial state }
 
 -- What stands behind a setup line is that line, but maybe for its line feed, or a beginning of it, behind which nothing
 -- stands.
@@ -147,7 +148,7 @@ pub record WasOpened (r : Reader) (setup : List Node) (piece : List ℕ) (held :
   pub may : MayBe r (party_of member)
   pub state : NodeState
   pub opens : OpensOver setup member held state
-  pub tells : told_line held member state ≡ piece ++ 10 ∷ []
+  pub tells : told_line held opens.rows member state ≡ piece ++ 10 ∷ []
 
 -- A beginning of that of the member of this party stands there.
 pub record MayBeOpened (r : Reader) (setup : List Node) (closed : Bool) (piece : List ℕ) (held : Held) (party : List ℕ) : Type 0 where
@@ -159,14 +160,14 @@ pub record MayBeOpened (r : Reader) (setup : List Node) (closed : Bool) (piece :
   pub opens : OpensOver setup member held state
   pub cut : IsFalse closed
   pub missing : List ℕ
-  pub tells : told_line held member state ≡ piece ++ missing
+  pub tells : told_line held opens.rows member state ≡ piece ++ missing
   pub long : 1 < length missing
 
 -- these parties have such a member, and no other has; the line of none stands there whole
 pub record AreCut (r : Reader) (setup : List Node) (closed : Bool) (piece : List ℕ) (held : Held) (parties : List (List ℕ)) : Type 0 where
   pub have : (p : List ℕ) → Contains parties p → MayBeOpened r setup closed piece held p
-  pub all : (member : Node) → Contains setup member → MayBe r (party_of member) → (state : NodeState) → OpensOver setup member held state
-      → Fits closed piece (told_line held member state) → Contains parties (party_of member) × (told_line held member state ≢ piece ++ 10 ∷ [])
+  pub all : (member : Node) → Contains setup member → MayBe r (party_of member) → (state : NodeState) (over : OpensOver setup member held state)
+      → Fits closed piece (told_line held over.rows member state) → Contains parties (party_of member) × (told_line held over.rows member state ≢ piece ++ 10 ∷ [])
 
 -- ---- a run
 
@@ -205,9 +206,9 @@ pub record HasSetup (bytes line behind : List ℕ) (setup : List Node) (base : O
   pub is : IsBehind behind piece closed rest
 
 -- The lines behind an opening were read.
-pub record IsRun (r t : Reader) (line : List ℕ) (setup : List Node) (base : Option ℕ) (rest : List ℕ) (ended : Bool) (s : Story) (member : Node) (state : NodeState) : Type 0 where
+pub record IsRun (r t : Reader) (line : List ℕ) (setup : List Node) (base : Option ℕ) (rest : List ℕ) (ended : Bool) (s : Story) (rows : List Row) (member : Node) (state : NodeState) : Type 0 where
   pub opened : Story
-  pub is : IsOpenedIn s opened (run_over line setup s.held member state)
+  pub is : IsOpenedIn s opened (run_over line setup rows member state)
   pub lines : LinesTaken (begun_over s.held member state base) rest ended opened t.story
   pub parties : t.parties ≡ party_of member ∷ []
   pub earlier : t.earlier ≡ r.earlier
@@ -237,10 +238,10 @@ pub data RunTaken (r t : Reader) (bytes : List ℕ) (ended : Bool) : Type 0 wher
       → t ≡ with_parties r parties r.story → RunTaken r t bytes ended
   -- a node was opened
   OpenedBefore : {line behind piece rest : List ℕ} {setup : List Node} {base : Option ℕ} {closed : Bool} → HasSetup bytes line behind setup base piece closed rest
-      → (way : WasOpened r setup piece r.story.held) → IsRun r t line setup base rest ended (left_out r.story) way.member way.state → RunTaken r t bytes ended
+      → (way : WasOpened r setup piece r.story.held) → IsRun r t line setup base rest ended (left_out r.story) way.opens.rows way.member way.state → RunTaken r t bytes ended
   OpenedAfter : {line behind piece rest : List ℕ} {setup : List Node} {base : Option ℕ} {closed : Bool} → HasSetup bytes line behind setup base piece closed rest
       → (d : Doubt) → r.story.doubt ≡ Some d
-      → (way : WasOpened r setup piece d.held) → IsRun r t line setup base rest ended (taken_in r.story d) way.member way.state → RunTaken r t bytes ended
+      → (way : WasOpened r setup piece d.held) → IsRun r t line setup base rest ended (taken_in r.story d) way.opens.rows way.member way.state → RunTaken r t bytes ended
 
 -- Why no run prints that, and the line at fault, where the first of the run has that number: the lines before it are printed.
 pub data RunRefused (r : Reader) (bytes : List ℕ) (number at : ℕ) : Type 0 where

@@ -36,7 +36,7 @@ IsNotSaid fault behind number f =
 -- a node was opened over a store, and runs
 pub record Begins (r t : Reader) (line : List ℕ) (setup : List Node) (base : Option ℕ) (piece : List ℕ) (held : Held) (s : Story) (now : Running) : Type 0 where
   pub way : WasOpened r setup piece held
-  pub is : IsOpenedIn s t.story (run_over line setup held way.member way.state)
+  pub is : IsOpenedIn s t.story (run_over line setup way.opens.rows way.member way.state)
   pub over : s.held ≡ held
   pub shows : shown now ≡ begun_over held way.member way.state base
   pub place : suc now.opening ≡ length t.story.openings

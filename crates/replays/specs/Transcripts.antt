@@ -10,7 +10,7 @@ use Rattle.ocpi_types.specs.declared.rows.Row.TheVariants as row
 use Rattle.ocpi_types.specs.declared.stored.SentCommand.{SentCommand}
 use Rattle.provider_steps.specs.Acts.{own_url}
 use Rattle.replays.specs.Happenings.{Came, Happening, IsTextAt, Opened, OpenedRun, entries_in, openings_in}
-use Rattle.replays.specs.LineTurns.{Held}
+use Rattle.replays.specs.LineTurns.{Store, held_in}
 use Rattle.replays.specs.Fronts.{lines_front}
 use Rattle.replays.specs.Printed.{ArePrinted}
 use Rattle.replays.specs.Reading.{IsOther}
@@ -26,8 +26,8 @@ use Rattle.replays.specs.declared.transcript.Source.TheVariants.{Echoed, Restart
 -- Runs of one node, of none of those parties, over a store that had that, printed the text, and what of it is told is that
 -- history. The text may begin without the first run's two line feeds, which a run of an earlier program did not print:
 -- with two more in front, those that stand there are those of a run that was stopped behind them.
-abbrev pub PrintedBy : List (List ℕ) → Held → List ℕ → List Happening → Type 0
-PrintedBy earlier start text told = (wanted : List ℕ) × IsOther earlier wanted × ArePrinted wanted start (10 ∷ 10 ∷ text) told
+abbrev pub PrintedBy : List (List ℕ) → Store → List ℕ → List Happening → Type 0
+PrintedBy earlier start text told = (wanted : List ℕ) × IsOther earlier wanted × ArePrinted wanted (held_in start) (10 ∷ 10 ∷ text) told
 
 -- ---- a transcript
 
@@ -71,7 +71,7 @@ pub record TellsOf (t : Transcript) (told : List Happening) : Type 0 where
   pub some : openings_in told ≢ []
 
 -- the text tells it
-abbrev pub IsTranscriptOf : List (List ℕ) → Held → List ℕ → Transcript → Type 0
+abbrev pub IsTranscriptOf : List (List ℕ) → Store → List ℕ → Transcript → Type 0
 IsTranscriptOf earlier start text t = (told : List Happening) × PrintedBy earlier start text told × TellsOf t told
 
 -- ---- a refusal
@@ -87,7 +87,7 @@ OpenedNone f told = (f ≡ fault.Wrong 0) × (openings_in told ≡ [])
 
 -- No runs printed it, whatever was fed, wherever they were stopped, and whatever their setups were; or only such of which
 -- none was opened.
-abbrev pub AccusesRightly : List (List ℕ) → Held → List ℕ → ReplayFault → Type 0
+abbrev pub AccusesRightly : List (List ℕ) → Store → List ℕ → ReplayFault → Type 0
 AccusesRightly earlier start text f = f ≢ fault.Memory → HasOwnUrls start.rows → (told : List Happening) → PrintedBy earlier start text told → OpenedNone f told
 
 -- the line that a fault names, from 1; 0 is none
@@ -99,6 +99,6 @@ line_of (fault.LinesMissing n) = n
 line_of fault.Memory = 0
 
 -- no line before the one that is named can be blamed: some runs print them all
-abbrev pub BlamesNoLineBefore : List (List ℕ) → Held → List ℕ → ReplayFault → Type 0
+abbrev pub BlamesNoLineBefore : List (List ℕ) → Store → List ℕ → ReplayFault → Type 0
 BlamesNoLineBefore earlier start text f =
     (n : ℕ) → line_of f ≡ suc n → (told : List Happening) × PrintedBy earlier start (lines_front n text) told

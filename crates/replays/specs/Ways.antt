@@ -1,5 +1,6 @@
 -- In which ways a node may have been opened, by what stands behind its setup line.
 use Rattle.std.specs.Prelude.{◌≡◌, ◌<◌, ℕ, List, [], ◌∷◌, ◌++◌, Some, Bool, IsFalse, length, slice_get}
+use Rattle.ocpi_types.specs.declared.rows.Row.{Row}
 use Rattle.ocpi_types.specs.declared.setup.Node.{Node}
 use Rattle.stored_laws.specs.Nodes.{last_serial}
 use Rattle.world_steps.specs.World.{NodeState}
@@ -30,13 +31,13 @@ IsFit closed piece line fit.Is = line ≡ piece ++ 10 ∷ []
 -- a node that was opened over what a store has
 pub record IsOpened (setup : List Node) (member : Node) (held : Held) (piece : List ℕ) (o : Opened) : Type 0 where
   pub opens : OpensOver setup member held o.node
-  pub tells : told_line held member o.node ≡ piece ++ 10 ∷ []
+  pub tells : told_line held opens.rows member o.node ≡ piece ++ 10 ∷ []
   pub serial : o.serial ≡ last_serial o.node
 
 -- whether the node of a member was
 abbrev pub IsTried : List Node → Node → Held → Bool → List ℕ → Tried → Type 0
-IsTried setup member held closed piece tried.No = (state : NodeState) → OpensOver setup member held state → Fits closed piece (told_line held member state) → ⊥
-IsTried setup member held closed piece tried.May = (state : NodeState) × OpensOver setup member held state × IsBegun closed piece (told_line held member state)
+IsTried setup member held closed piece tried.No = (state : NodeState) (over : OpensOver setup member held state) → Fits closed piece (told_line held over.rows member state) → ⊥
+IsTried setup member held closed piece tried.May = (state : NodeState) × ((over : OpensOver setup member held state) × IsBegun closed piece (told_line held over.rows member state))
 IsTried setup member held closed piece (tried.Was o) = IsOpened setup member held piece o
 
 -- one that was is at its place in the setup
@@ -52,13 +53,18 @@ AreWays r setup closed piece held (ways.Was place o) = IsWay r setup piece held 
 AreWays r setup closed piece held (ways.May parties) = AreCut r setup closed piece held parties.items
 
 -- whether the node that was made was opened
-abbrev pub IsNodeTried : Node → Held → NodeState → Bool → List ℕ → Tried → Type 0
-IsNodeTried member held state closed piece tried.No = Fits closed piece (told_line held member state) → ⊥
-IsNodeTried member held state closed piece tried.May = IsBegun closed piece (told_line held member state)
-IsNodeTried member held state closed piece (tried.Was o) = (o.node ≡ state) × (told_line held member state ≡ piece ++ 10 ∷ []) × (o.serial ≡ last_serial state)
+abbrev pub IsNodeTried : Node → Held → List Row → NodeState → Bool → List ℕ → Tried → Type 0
+IsNodeTried member held rows state closed piece tried.No = Fits closed piece (told_line held rows member state) → ⊥
+IsNodeTried member held rows state closed piece tried.May = IsBegun closed piece (told_line held rows member state)
+IsNodeTried member held rows state closed piece (tried.Was o) = (o.node ≡ state) × (told_line held rows member state ≡ piece ++ 10 ∷ []) × (o.serial ≡ last_serial state)
 
 -- by the line that says so
 abbrev pub IsLineTried : List ℕ → NodeState → ℕ → Bool → List ℕ → Tried → Type 0
 IsLineTried line state serial closed piece tried.No = Fits closed piece line → ⊥
 IsLineTried line state serial closed piece tried.May = IsBegun closed piece line
 IsLineTried line state serial closed piece (tried.Was o) = (o.node ≡ state) × (line ≡ piece ++ 10 ∷ []) × (o.serial ≡ serial)
+
+-- there are none
+abbrev pub AreNoWays : Ways → Type 0
+AreNoWays (ways.Was place o) = ⊥
+AreNoWays (ways.May parties) = parties.items ≡ []

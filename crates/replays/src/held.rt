@@ -85,9 +85,9 @@ pub(crate) struct Held {
 impl Model for Held {
     ghost use Rattle.std.specs.Coded.{codes};
     ghost use Rattle.std.specs.FinMap as map;
-    ghost use Rattle.replays.specs.LineTurns.{Held};
+    ghost use Rattle.replays.specs.LineTurns.{Store};
 
-    ghost Value = { Held };
+    ghost Value = { Store };
 
     ghost coded = { Prim.hlevel (codes, map.code) };
 

@@ -4,7 +4,7 @@
 ghost use Rattle.std.specs.Prelude.{◌≡◌, ◌↔◌, [], IfNone, IfOk, IfSome, IsTrue, None, OnOk, Some, length, string_bytes};
 ghost use Rattle.replays.specs.Answering.{IsDoubtOf, IsEntered, IsOtherwise, MayHaveTaken, shown};
 ghost use Rattle.replays.specs.Happenings.{OpenedRun};
-ghost use Rattle.replays.specs.LineTurns.{IsLeftBy};
+ghost use Rattle.replays.specs.LineTurns.{IsLeftBy, held_in};
 ghost use Rattle.replays.specs.Reading.{Doubt as DoubtOf, IsOpenedIn, left_out, taken_in};
 ghost use Rattle.replays.specs.Telling.{IsRunOf};
 
@@ -32,13 +32,14 @@ pub(crate) struct Doubt<'a> {
 impl<'a> Model for Doubt<'a> {
     ghost use Rattle.std.specs.Coded.{codes};
     ghost use Rattle.std.specs.FinMap as map;
+    ghost use Rattle.replays.specs.LineTurns.{held_in};
     ghost use Rattle.replays.specs.Reading.{Doubt};
 
     ghost Value = { Doubt };
 
     ghost coded = { Prim.hlevel (codes, map.code) };
 
-    ghost view = { λ d. record { held = d.held; entries = d.happened.entries.items; sources = d.happened.sources.items } };
+    ghost view = { λ d. record { held = held_in d.held; entries = d.happened.entries.items; sources = d.happened.sources.items } };
 }
 
 /// What the runs so far tell, and what they left but for a line in doubt.
@@ -54,18 +55,19 @@ pub(crate) struct History<'a> {
 impl<'a> Model for History<'a> {
     ghost use Rattle.std.specs.Coded.{codes};
     ghost use Rattle.std.specs.FinMap as map;
+    ghost use Rattle.replays.specs.LineTurns.{held_in};
     ghost use Rattle.replays.specs.Reading.{Story};
 
     ghost Value = { Story };
 
     ghost coded = { Prim.hlevel (codes, map.code) };
 
-    ghost view = { λ h. record { held = h.held; doubt = h.doubt; openings = h.openings.items; entries = h.happened.entries.items; sources = h.happened.sources.items } };
+    ghost view = { λ h. record { held = held_in h.held; doubt = h.doubt; openings = h.openings.items; entries = h.happened.entries.items; sources = h.happened.sources.items } };
 }
 
 /// What a node leaves in its store. An error is want of memory.
 fn held_by(running: &Running) -> Result<Held, AllocError>
-    ensures { IfOk result (IsLeftBy (shown running.now)) }
+    ensures { IfOk result (λ held. IsLeftBy (shown running.now) (held_in held)) }
 {
     Ok(Held {
         rows: running.node.stored()?,
@@ -87,7 +89,7 @@ fn nothing<'a>(alloc: Global) -> Happened<'a>
 impl<'a> History<'a> {
     /// Nothing, over a store that has that.
     pub(crate) fn new(alloc: Global, held: Held) -> History<'a>
-        ensures { result ≡ record { held = held; doubt = None; openings = []; entries = []; sources = [] } }
+        ensures { result ≡ record { held = held_in held; doubt = None; openings = []; entries = []; sources = [] } }
     {
         History {
             alloc,
@@ -107,14 +109,14 @@ impl<'a> History<'a> {
 
     /// What the store has; before the line in doubt, if there is one.
     pub(crate) fn held(&self) -> &Held
-        ensures { result.now ≡ self.now.held }
+        ensures { held_in result.now ≡ self.now.held }
     {
         &self.held
     }
 
     /// What it has, where the line in doubt took hold.
     pub(crate) fn behind(&self) -> Option<&Held>
-        ensures some { IfSome result (λ held. (d : DoubtOf) × (self.now.doubt ≡ Some d) × (held.now ≡ d.held)) }
+        ensures some { IfSome result (λ held. (d : DoubtOf) × (self.now.doubt ≡ Some d) × (held_in held.now ≡ d.held)) }
         ensures none { IfNone result (self.now.doubt ≡ None) }
     {
         match &self.doubt {

@@ -1,6 +1,7 @@
 //! How a run is opened, by what stands behind its setup line.
 
 ghost use Rattle.std.specs.Prelude.{◌≡◌, ◌≢◌, ◌<◌, ◌+◌, ◌++◌, All, Contains, IfOk, List, OnOk, false, length, string_bytes, take, ℕ};
+ghost use Rattle.replays.specs.LineTurns.{held_in};
 ghost use Rattle.replays.specs.Reading.{Fits, IsBehind};
 ghost use Rattle.replays.specs.Ways.{IsClosed, IsFit, IsLineTried, IsNodeTried, IsTried};
 ghost use Rattle.node_runs.specs.DoneLines.{opened_line};
@@ -206,7 +207,7 @@ pub(crate) fn try_member(
     requires setup { IsSetup nodes.now }
     requires member { Contains nodes.now member.now }
     requires piece { All (λ b. b ≢ 10) piece.bytes.now }
-    ensures { IfOk result (IsTried nodes.now member.now held.now piece.entry.is_closed piece.entry.bytes.now) }
+    ensures { IfOk result (IsTried nodes.now member.now (held_in held.now) piece.entry.is_closed piece.entry.bytes.now) }
 {
     let front = write_front(alloc, held, member.party(), text)?;
     if !piece.may_fit(front_of(text.as_str(), front)) {
@@ -233,7 +234,7 @@ fn try_node(
     text: &mut String,
 ) -> Result<Tried, AllocError>
     requires piece { All (λ b. b ≢ 10) piece.bytes.now }
-    ensures { IfOk result (IsNodeTried member.now held.now node piece.entry.is_closed piece.entry.bytes.now) }
+    ensures { IfOk result (IsNodeTried member.now (held_in held.now) held.now.rows node piece.entry.is_closed piece.entry.bytes.now) }
 {
     let serial = node.last_serial();
     match write_over(alloc, held, member.party(), serial, text) {

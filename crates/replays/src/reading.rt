@@ -1,7 +1,21 @@
 //! The reading of a file, run by run.
 
-ghost use Rattle.std.specs.Prelude.{IfErr, IfOk};
-ghost use Rattle.replays.specs.Transcripts.{AccusesRightly, BlamesNoLineBefore, IsTranscriptOf};
+ghost use Rattle.std.specs.Prelude.{◌≡◌, ◌≢◌, ◌↔◌, ◌⊎◌, ◌<◌, ◌≤◌, ◌+◌, ◌++◌, ◌∷◌, All, IfErr, IfNone, IfOk, IfSome, IsTrue, List, None, OnOk, Ok, Some, [], drop, length, string_bytes, suc, take, ℕ};
+ghost use Rattle.json_text.specs.Fault.{Fails as FailsToRead};
+ghost use Rattle.node_runs.specs.DoneLines.{malformed_line};
+ghost use Rattle.node_runs.specs.SetupLines.{numbered_setup_in};
+ghost use Rattle.ocpi_text.specs.Text.{key};
+ghost use Rattle.ocpi_types.specs.Setups.{party_of};
+ghost use Rattle.replays.specs.Answering.{shown};
+ghost use Rattle.replays.specs.CutRuns.{HasNumbers};
+ghost use Rattle.replays.specs.Happenings.{Happening};
+ghost use Rattle.replays.specs.Reading.{AreCut, Doubt as DoubtOf, IsAmong, LinesTaken, MayBe, RunRefused, RunTaken, Tail};
+ghost use Rattle.replays.specs.LineTurns.{IsLeftBy, held_in};
+ghost use Rattle.replays.specs.RunParts.{AreCutBehind, DiffersAt, IsBegun, IsNotSaid, IsRestOfRun, IsRunText, IsSettled};
+ghost use Rattle.replays.specs.Telling.{Tells};
+ghost use Rattle.replays.specs.Transcripts.{AccusesRightly, BlamesNoLineBefore, IsTranscriptOf, line_of};
+ghost use Rattle.replays.specs.Ways.{AreNoWays, AreWays};
+ghost use Rattle.world_laws.specs.Laws.{IsSetup};
 
 use crate::answering::Running;
 use crate::cutting::{EchoedLine, RunText, Runs, feeds_in, split_feed};
@@ -17,6 +31,7 @@ use ocpi_json::{JsonFault, Scratch};
 use ocpi_text::{Party, Whole};
 use ocpi_types::Setup;
 use std::alloc::{AllocError, Global};
+use std::marker::Model;
 use tables::HashSeed;
 
 /// What the runs so far tell, and what they left.
@@ -33,8 +48,22 @@ struct Reading<'a, 'b> {
     history: History<'a>,
 }
 
+impl<'a, 'b> Model for Reading<'a, 'b> {
+    ghost use Rattle.std.specs.Coded.{codes};
+    ghost use Rattle.std.specs.FinMap as map;
+    ghost use Rattle.replays.specs.Reading.{Reader};
+
+    ghost Value = { Reader };
+
+    ghost coded = { Prim.hlevel (codes, map.code) };
+
+    ghost view = { λ r. record { earlier = r.earlier.now; parties = r.parties.items; story = r.history } };
+}
+
 /// The text behind its first bytes.
-fn text_behind(text: &[u8], length: usize) -> &[u8] {
+fn text_behind(text: &[u8], length: usize) -> &[u8]
+    ensures { result.now ≡ drop length text.now }
+{
     if length > text.len() {
         return &[];
     }
@@ -43,7 +72,11 @@ fn text_behind(text: &[u8], length: usize) -> &[u8] {
 }
 
 impl<'a, 'b> Reading<'a, 'b> {
-    fn new(alloc: Global, seed: HashSeed, start: Start, earlier: &'b [Party]) -> Reading<'a, 'b> {
+    fn new(alloc: Global, seed: HashSeed, start: Start, earlier: &'b [Party]) -> Reading<'a, 'b>
+        ensures earlier { result.earlier ≡ earlier.now }
+        ensures parties { result.parties ≡ [] }
+        ensures story { result.story ≡ record { held = held_in start.held; doubt = None; openings = []; entries = []; sources = [] } }
+    {
         let Start { held, is_given } = start;
         Reading {
             alloc,
@@ -56,7 +89,11 @@ impl<'a, 'b> Reading<'a, 'b> {
     }
 
     /// What was read of the whole file.
-    fn finish(self) -> Result<Transcript<'a>, ReplayFault> {
+    fn finish(self) -> Result<Transcript<'a>, ReplayFault>
+        requires { (told : List Happening) × Tells told self.story.openings self.story.entries self.story.sources }
+        ensures ok { IfOk result (λ t. (t.openings ≡ self.entry.story.openings) × (t.entries ≡ self.entry.story.entries) × (t.sources ≡ self.entry.story.sources)) }
+        ensures none { IfErr result (λ f. (f ≡ ReplayFault.Wrong 0) × (self.entry.story.openings ≡ [])) }
+    {
         let Reading {
             alloc: _,
             seed: _,
@@ -76,7 +113,12 @@ impl<'a, 'b> Reading<'a, 'b> {
         scratch: &mut Scratch,
         text: &mut String,
         words: &mut String,
-    ) -> Result<(), ReplayFault> {
+    ) -> Result<(), ReplayFault>
+        requires text { IsRunText run.bytes.now }
+        requires numbers { HasNumbers run.number run.bytes.now }
+        ensures ok { OnOk result (RunTaken self.old self.new run.entry.bytes.now run.entry.is_ended) }
+        ensures err { IfErr result (λ f. f ≢ ReplayFault.Memory → RunRefused self.old run.entry.bytes.now run.entry.number (line_of f)) }
+    {
         let Some((first, rest)) = split_feed(run.bytes) else {
             return Ok(());
         };
@@ -102,7 +144,11 @@ impl<'a, 'b> Reading<'a, 'b> {
         rest: &'a [u8],
         text: &mut String,
         words: &mut String,
-    ) -> Result<(), ReplayFault> {
+    ) -> Result<(), ReplayFault>
+        requires { line.number + 2 ≤ 9223372036854775808 }
+        ensures ok { OnOk result ((missing : List ℕ) × (malformed_line 1 None fault ≡ rest.entry.now ++ missing)) }
+        ensures err { IfErr result (λ f. f ≢ ReplayFault.Memory → IsNotSaid fault rest.entry.now line.entry.number f) }
+    {
         text.clear();
         if write_malformed(1, None, fault, text).is_err() {
             return Err(ReplayFault::Memory);
@@ -137,7 +183,9 @@ impl<'a, 'b> Reading<'a, 'b> {
     }
 
     /// Whether the node may be of that party.
-    fn may_be(&self, party: &Party) -> bool {
+    fn may_be(&self, party: &Party) -> bool
+        ensures { IsTrue result ↔ MayBe self.now party.now }
+    {
         if is_among(self.earlier, party) {
             return false;
         }
@@ -197,7 +245,12 @@ impl<'a, 'b> Reading<'a, 'b> {
         setup: &Setup,
         piece: Piece<'_>,
         text: &mut String,
-    ) -> Result<Ways, AllocError> {
+    ) -> Result<Ways, AllocError>
+        requires setup { IsSetup setup.now }
+        requires piece { All (λ b. b ≢ 10) piece.bytes.now }
+        ensures some { (d : DoubtOf) → self.now.story.doubt ≡ Some d → IfOk result (AreWays self.now setup.now piece.entry.is_closed piece.entry.bytes.now d.held) }
+        ensures none { self.now.story.doubt ≡ None → IfOk result AreNoWays }
+    {
         match self.history.behind() {
             Some(held) => self.ways_over(setup, held, piece, text),
             None => Ok(Ways::May(Vec::new(self.alloc))),
@@ -211,7 +264,11 @@ impl<'a, 'b> Reading<'a, 'b> {
         held: &Held,
         piece: Piece<'_>,
         text: &mut String,
-    ) -> Result<Ways, AllocError> {
+    ) -> Result<Ways, AllocError>
+        requires setup { IsSetup setup.now }
+        requires piece { All (λ b. b ≢ 10) piece.bytes.now }
+        ensures { IfOk result (AreWays self.now setup.now piece.entry.is_closed piece.entry.bytes.now (held_in held.now)) }
+    {
         let mut parties = Vec::new(self.alloc);
         for place in 0..setup.as_slice().len() {
             match self.try_at(setup, place, held, piece, text, &mut parties) {
@@ -427,14 +484,18 @@ impl<'a, 'b> Reading<'a, 'b> {
 }
 
 /// A list of that party. An error is want of memory.
-fn only(alloc: Global, party: Party) -> Result<Vec<Party>, AllocError> {
+fn only(alloc: Global, party: Party) -> Result<Vec<Party>, AllocError>
+    ensures { IfOk result (λ parties. parties.items ≡ party ∷ []) }
+{
     let mut parties = Vec::new(alloc);
     parties.push(party)?;
     Ok(parties)
 }
 
 /// Whether a party is one of these.
-fn is_among(parties: &[Party], party: &Party) -> bool {
+fn is_among(parties: &[Party], party: &Party) -> bool
+    ensures { IsTrue result ↔ IsAmong parties.now party.now }
+{
     for other in parties {
         if other.is_same(party) {
             return true;
