@@ -20,3 +20,4 @@ pub mod LineLemmas
 pub mod LineFacts
 pub mod HistoryLemmas
 pub mod FitLemmas
+pub mod PartyLemmas

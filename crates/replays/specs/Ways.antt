@@ -2,10 +2,11 @@
 use Rattle.std.specs.Prelude.{◌≡◌, ◌<◌, ℕ, List, [], ◌∷◌, ◌++◌, Some, Bool, IsFalse, length, slice_get}
 use Rattle.ocpi_types.specs.declared.rows.Row.{Row}
 use Rattle.ocpi_types.specs.declared.setup.Node.{Node}
+use Rattle.ocpi_types.specs.Setups.{party_of}
 use Rattle.stored_laws.specs.Nodes.{last_serial}
 use Rattle.world_steps.specs.World.{NodeState}
 use Rattle.replays.specs.LineTurns.{Held}
-use Rattle.replays.specs.Reading.{AreCut, Fits, OpensOver, Reader, WasOpened, told_line}
+use Rattle.replays.specs.Reading.{AreCut, Fits, MayBe, OpensOver, Reader, WasOpened, told_line}
 use Rattle.replays.specs.declared.opening.Fit.{Fit}
 use Rattle.replays.specs.declared.opening.Fit.TheVariants as fit
 use Rattle.replays.specs.declared.opening.Opened.{Opened}
@@ -68,3 +69,10 @@ IsLineTried line state serial closed piece (tried.Was o) = (o.node ≡ state) ×
 abbrev pub AreNoWays : Ways → Type 0
 AreNoWays (ways.Was place o) = ⊥
 AreNoWays (ways.May parties) = parties.items ≡ []
+
+-- the member at a place was not opened; where it may have been, its party is added
+pub data IsPassed (r : Reader) (setup : List Node) (closed : Bool) (piece : List ℕ) (held : Held) (place : ℕ) (before after : List (List ℕ)) : Type 0 where
+  NotThere : (member : Node) → slice_get setup place ≡ Some member → (MayBe r (party_of member) → ⊥) → after ≡ before → IsPassed r setup closed piece held place before after
+  Not : (member : Node) → slice_get setup place ≡ Some member → IsTried setup member held closed piece tried.No → after ≡ before → IsPassed r setup closed piece held place before after
+  May : (member : Node) → slice_get setup place ≡ Some member → MayBe r (party_of member) → IsTried setup member held closed piece tried.May → after ≡ before ++ party_of member ∷ []
+      → IsPassed r setup closed piece held place before after

@@ -14,7 +14,7 @@ ghost use Rattle.replays.specs.LineTurns.{IsLeftBy, held_in};
 ghost use Rattle.replays.specs.RunParts.{AreCutBehind, DiffersAt, IsBegun, IsNotSaid, IsRestOfRun, IsRunText, IsSettled};
 ghost use Rattle.replays.specs.Telling.{Tells};
 ghost use Rattle.replays.specs.Transcripts.{AccusesRightly, BlamesNoLineBefore, IsTranscriptOf, line_of};
-ghost use Rattle.replays.specs.Ways.{AreNoWays, AreWays};
+ghost use Rattle.replays.specs.Ways.{AreNoWays, AreWays, IsPassed, IsWay};
 ghost use Rattle.world_laws.specs.Laws.{IsSetup};
 
 use crate::answering::Running;
@@ -296,7 +296,13 @@ impl<'a, 'b> Reading<'a, 'b> {
         piece: Piece<'_>,
         text: &mut String,
         parties: &mut Vec<Party>,
-    ) -> Result<Option<Opened>, AllocError> {
+    ) -> Result<Option<Opened>, AllocError>
+        requires setup { IsSetup setup.now }
+        requires place { place < length setup.now }
+        requires piece { All (λ b. b ≢ 10) piece.bytes.now }
+        ensures some { IfOk result (λ opened. IfSome opened (IsWay self.now setup.now piece.entry.bytes.now (held_in held.now) place)) }
+        ensures none { IfOk result (λ opened. IfNone opened (IsPassed self.now setup.now piece.entry.is_closed piece.entry.bytes.now (held_in held.now) place parties.old.items parties.new.items)) }
+    {
         let nodes = nodes_of(setup);
         let member = &nodes[place];
         if !self.may_be(member.party()) {
