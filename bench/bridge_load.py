@@ -13,7 +13,7 @@ the tests of the bridge have for that. Measured are, one after the other, or as 
   second (START, remote start, StartTransaction, a reading, STOP, remote stop, StopTransaction, bill), and the time from
   a START to its result, while a driver at each EVSE begins again as soon as the bill is there.
 
-It needs a python3 with aiohttp.
+It needs a python3 with the packages of the bridge.
 """
 import argparse
 import asyncio

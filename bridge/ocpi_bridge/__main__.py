@@ -4,7 +4,7 @@ import asyncio
 import resource
 import sqlite3
 import sys
-from dataclasses import replace
+from functools import partial
 from getpass import getpass
 from pathlib import Path
 
@@ -17,7 +17,7 @@ from .state import WrongState
 
 def main() -> int:
     """Reads the command line and the configuration. Gives the status."""
-    parser = argparse.ArgumentParser("ocpi_bridge", description="A node behind OCPI 2.2.1 and OCPP 1.6.")
+    parser = argparse.ArgumentParser("ocpi_bridge", description="A node behind OCPI 2.2.1 and OCPP 1.6 and 2.0.1.")
     parser.add_argument("configuration", metavar="CONFIG", type=Path, help="the configuration, a JSON file")
     parser.add_argument("--json-logs", action="store_true", help="write logs as JSON, an object a line")
     parser.add_argument("--register", nargs=2, metavar=("PARTY", "URL"),
@@ -29,15 +29,15 @@ def main() -> int:
     most_files = resource.getrlimit(resource.RLIMIT_NOFILE)[1]
     resource.setrlimit(resource.RLIMIT_NOFILE, (most_files, most_files))
     set_up_logs(words.json_logs)
+    read = partial(read_configuration, words.configuration, words.restored, words.new_state)
     try:
-        configuration = read_configuration(words.configuration)
+        configuration = read()
     except WrongConfiguration as wrong:
         print(wrong, file=sys.stderr)
         return 2
     try:
         if words.register is None:
-            node = replace(configuration.node, takes_new_state=words.new_state)
-            return asyncio.run(run(replace(configuration, node=node, is_restored=words.restored)))
+            return asyncio.run(run(configuration, read))
         party, url = words.register
         token = getpass("token: ") if sys.stdin.isatty() else sys.stdin.readline().strip()
         return asyncio.run(register(configuration, party, url, token))

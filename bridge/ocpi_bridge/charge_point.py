@@ -1,8 +1,10 @@
-"""A charge point of OCPP 1.6 for trials, with one connector. Its driver's acts are the lines of its standard input.
+"""A charge point of OCPP 1.6 or 2.0.1 for trials, with one connector. Its driver's acts are the lines of its standard
+input.
 
 `plug`, `start TOKEN`, `meter WH` (the register rises by so much), `stop`, `unplug` (which also ends a fault), `fault`.
 Each status is written to standard output. What was not answered is sent again on the next connection.
 """
+import argparse
 import asyncio
 import sys
 from contextlib import suppress
@@ -10,9 +12,11 @@ from urllib.parse import quote
 
 import aiohttp
 
+from .charge_point_messages import VERSIONS, Messages
 from .clock import Clock
 from .json_text import Members
 from .ocpp.connection import Connection
+from .ocpp.messages import Request
 
 # In seconds: between readings that it makes by itself, and before it connects again. In Wh: what each adds, and with
 # how much a car is full.
@@ -21,27 +25,26 @@ STEP, FULL = 1000, 12_000
 
 
 class ChargePoint:
-    """Its status (with Preparing a car is plugged in), which token may charge, and the transaction that runs."""
+    """Its status (with Preparing a car is plugged in), which token may charge, and what it says by its version."""
 
-    def __init__(self, is_automatic: bool) -> None:
-        self.is_automatic, self.clock = is_automatic, Clock()
+    def __init__(self, is_automatic: bool, messages: Messages) -> None:
+        self.is_automatic, self.clock, self.messages = is_automatic, Clock(), messages
         self.token: str | None = None
-        self.transaction: int | None = None
         self.register = self.full = 0
-        self.calls: asyncio.Queue[tuple[str, Members]] = asyncio.Queue()
-        self.unanswered: tuple[str, Members] | None = None
-        self.call("BootNotification", chargePointVendor="Trial", chargePointModel="One")
+        # What is sent until it is answered, the one that waits for its answer first.
+        self.calls: list[Request] = []
+        self.woken = asyncio.Event()
+        self.call(messages.boot())
         self.set_status("Available")
 
-    def call(self, action: str, **payload: object) -> None:
-        """Queues a call, which is sent until it is answered."""
-        self.calls.put_nowait((action, payload))
+    def call(self, request: Request) -> None:
+        self.calls.append(request)
+        self.woken.set()
 
     def set_status(self, status: str) -> None:
         self.status = status
         print(status, flush=True)
-        self.call("StatusNotification", connectorId=1, errorCode="OtherError" if status == "Faulted" else "NoError",
-                  status=status, timestamp=self.clock.moment())
+        self.call(self.messages.status(status, self.clock.moment()))
 
     def do(self, *words: str) -> None:
         """Does what a driver does. What makes no sense as things stand is passed over."""
@@ -49,16 +52,14 @@ class ChargePoint:
             case ["plug"] if self.status == "Available":
                 self.set_status("Preparing")
             case ["start", token] if self.status != "Charging":
-                self.call("Authorize", idTag=token)
+                self.call(self.messages.authorize(token))
             case ["meter", watt_hours] if watt_hours.isdecimal():
                 self.register += int(watt_hours)
-                if self.transaction is not None:
-                    self.call("MeterValues", connectorId=1, transactionId=self.transaction, meterValue=[
-                        {"timestamp": self.clock.moment(), "sampledValue": [{"value": str(self.register)}]}])
-            case ["stop", *reason] if self.transaction is not None:
-                self.call("StopTransaction", transactionId=self.transaction, meterStop=self.register,
-                          timestamp=self.clock.moment(), reason=reason[0] if reason else "Local")
-                self.transaction = self.token = None
+                if self.messages.transaction is not None:
+                    self.call(self.messages.meter(self.register, self.clock.moment()))
+            case ["stop", *reason] if self.messages.transaction is not None:
+                self.call(self.messages.end(self.register, self.clock.moment(), reason[0] if reason else "Local"))
+                self.messages.transaction = self.token = None
                 if self.status == "Charging":
                     self.set_status("Finishing")
             case ["unplug"]:
@@ -70,29 +71,26 @@ class ChargePoint:
                 self.set_status("Faulted")
         if self.status == "Preparing" and self.token is not None:
             self.full = self.register + FULL
-            self.call("StartTransaction", connectorId=1, idTag=self.token, meterStart=self.register,
-                      timestamp=self.clock.moment())
+            self.call(self.messages.begin(self.token, self.register, self.clock.moment()))
             self.set_status("Charging")
 
-    def take(self, action: str, payload: Members, answer: Members) -> None:
+    def take(self, request: Request, answer: Members) -> None:
         """Takes in what a call of its own was answered. A transaction that may not be, or is over, is stopped."""
-        is_accepted = answer.get("idTagInfo", {}).get("status") == "Accepted"
-        if action == "Authorize" and is_accepted:
-            self.token = payload["idTag"]
-        elif action == "StartTransaction" and "transactionId" in answer:
-            self.transaction = answer["transactionId"]
-            if not is_accepted or self.status != "Charging":
-                self.do("stop", "DeAuthorized")
+        token, is_accepted = self.messages.took(request, answer)
+        if request[0] == "Authorize" and is_accepted:
+            self.token = token
+        elif self.messages.begins(request) and (not is_accepted or self.status != "Charging"):
+            self.do("stop", "DeAuthorized")
         self.do()
 
     async def answer(self, action: str, payload: Members) -> Members:
         """Answers a call of the central system. The calls that follow of it are made behind the answer."""
-        status = "Accepted"
+        status, transaction = "Accepted", self.messages.transaction
         match action:
-            case "RemoteStartTransaction" if self.status in ("Available", "Preparing"):
-                self.token = payload["idTag"]
+            case "RemoteStartTransaction" | "RequestStartTransaction" if self.status in ("Available", "Preparing"):
+                self.token = self.messages.ordered(payload)
                 self.do("plug" if self.is_automatic else "")
-            case "RemoteStopTransaction" if payload["transactionId"] == self.transaction:
+            case "RemoteStopTransaction" | "RequestStopTransaction" if payload["transactionId"] == transaction:
                 self.do("stop", "Remote")
                 self.do("unplug" if self.is_automatic else "")
             case "UnlockConnector":
@@ -102,6 +100,9 @@ class ChargePoint:
                 status = "Scheduled" if self.status == "Charging" else "Accepted"
             case "TriggerMessage" if payload["requestedMessage"] == "StatusNotification":
                 self.set_status(self.status)
+            case "GetTransactionStatus":
+                return {"ongoingIndicator": payload["transactionId"] == transaction,
+                        "messagesInQueue": any(name == "TransactionEvent" for name, _ in self.calls)}
             case _:
                 status = "Rejected"
         return {"status": status}
@@ -111,8 +112,8 @@ class ChargePoint:
         async with aiohttp.ClientSession(auth=authentication) as session:
             while True:
                 with suppress(aiohttp.ClientError, OSError):
-                    async with session.ws_connect(address, protocols=("ocpp1.6",)) as socket:
-                        connection = Connection(socket, self.clock, self.answer)
+                    async with session.ws_connect(address, protocols=(self.messages.subprotocol,)) as socket:
+                        connection = Connection(socket, self.messages.version, self.clock, self.answer)
                         calls = asyncio.create_task(self.make_calls(connection))
                         await asyncio.gather(connection.read(), connection.work())
                         calls.cancel()
@@ -121,12 +122,13 @@ class ChargePoint:
     async def make_calls(self, connection: Connection) -> None:
         """Makes its calls one at a time, until one is not answered. That is made again on the next connection."""
         while True:
-            self.unanswered = self.unanswered or await self.calls.get()
-            async with connection.asking(*self.unanswered) as answer:
+            while not self.calls:
+                self.woken.clear()
+                await self.woken.wait()
+            async with connection.asking(*self.calls[0]) as answer:
                 if answer is None:
                     return await connection.close()
-                (action, payload), self.unanswered = self.unanswered, None
-                self.take(action, payload, answer)
+                self.take(self.calls.pop(0), answer)
 
     async def read_input(self) -> None:
         """Does what each line says, until there are no more."""
@@ -138,17 +140,26 @@ class ChargePoint:
     async def meter_by_itself(self) -> None:
         while self.is_automatic:
             await asyncio.sleep(METER_EACH)
-            if self.transaction is not None and self.register < self.full:
+            if self.messages.transaction is not None and self.register < self.full:
                 self.do("meter", str(STEP))
 
 
-async def run(url: str, name: str, password: str, is_automatic: bool) -> None:
+async def run(url: str, name: str, password: str, is_automatic: bool, version: str) -> None:
     """Runs a charge point for good."""
-    point = ChargePoint(is_automatic)
+    point = ChargePoint(is_automatic, VERSIONS[version]())
     connecting = point.connect(f"{url.rstrip('/')}/{quote(name, '')}", aiohttp.BasicAuth(name, password))
     await asyncio.gather(connecting, point.read_input(), point.meter_by_itself())
 
 
 if __name__ == "__main__":
+    parser = argparse.ArgumentParser("charge_point", description=(
+        "A charge point of OCPP for trials. It does what its input says: plug, start TOKEN, meter WH, stop, unplug, "
+        "fault."))
+    parser.add_argument("url", metavar="URL", help="the address of the central system, before the id")
+    parser.add_argument("id", metavar="ID")
+    parser.add_argument("password", metavar="PASSWORD")
+    parser.add_argument("--version", choices=VERSIONS, default="1.6", help="of OCPP")
+    parser.add_argument("--auto", action="store_true", help="plugs in, meters and unplugs as it is asked")
+    words = parser.parse_args()
     with suppress(KeyboardInterrupt):
-        asyncio.run(run(sys.argv[1], sys.argv[2], sys.argv[3], "--auto" in sys.argv[4:]))
+        asyncio.run(run(words.url, words.id, words.password, words.auto, words.version))

@@ -7,14 +7,16 @@ import json
 import os
 import re
 from collections.abc import Iterable
-from dataclasses import dataclass
+from dataclasses import dataclass, field, replace
 from decimal import Decimal
 from pathlib import Path
 from typing import Any, NoReturn
 
 import fastjsonschema
 
-from .json_text import Members, NotJson, Number, NumberTooLarge, read_json, write_json
+from .entries import ConnectorEntry, OcppEntry, PartnerEntry
+from .json_text import NotJson, Number, NumberTooLarge, read_json, write_json
+from .records import Setup, Site
 
 USUAL_MAX_KW = 400
 SCHEMA = Path(__file__).parents[1] / "configuration.schema.json"
@@ -52,12 +54,24 @@ class OcpiSettings:
 class ConnectorSettings:
     """The EVSE and the connector of the site, as the setup spells them, that a connector of a charge point is.
 
-    `max_kw` is the most that it can give.
+    `max_kw` is the most that it can give. Of OCPP 2.0.1 an EVSE of a charge point is that, and its connector 1; it may
+    have `other_connectors`.
     """
 
     evse_uid: str
     connector_id: str
     max_kw: Decimal = Decimal(USUAL_MAX_KW)
+    other_connectors: dict[int, str] = field(default_factory=dict)
+
+    @property
+    def connector_ids(self) -> dict[int, str]:
+        """The connectors of the EVSE, by their numbers at the charge point."""
+        return {1: self.connector_id, **self.other_connectors}
+
+    def number_of(self, connector_id: str | None) -> int | None:
+        """The number of a connector, whose id is compared without case."""
+        return next((number for number, known in self.connector_ids.items()
+                     if known.upper() == str(connector_id).upper()), None)
 
 
 @dataclass(frozen=True)
@@ -86,18 +100,19 @@ class PartnerSettings:
 
     party: str
     kind: str
-    token: str
-    their_token: str | None
-    versions_url: str | None
+    token: str | None = None
+    their_token: str | None = None
+    versions_url: str | None = None
     token_base64: bool = True
     own_references: bool = False
 
 
-@dataclass(frozen=True)
+@dataclass
 class Configuration:
     """All of it. `site` is the node's site in the setup, and None for a provider. Where to listen is HOST:PORT.
 
-    The state may be a backup where it `is_restored`.
+    The state may be a backup where it `is_restored`. All parts of a bridge have one such object, which changes where it
+    is read again.
     """
 
     node: NodeSettings
@@ -107,16 +122,32 @@ class Configuration:
     admin: str
     partners: tuple[PartnerSettings, ...]
     clock_factor: float
-    site: Members | None
-    setup: Members
+    site: Site | None
+    setup: Setup
     is_restored: bool = False
 
     @property
     def is_operator(self) -> bool:
         return self.site is not None
 
+    def become(self, other: "Configuration") -> None:
+        """Has all that another has, of which `refuse_other` found nothing."""
+        vars(self).update(vars(other))
 
-def read_configuration(path: Path) -> Configuration:
+    def refuse_other(self, other: "Configuration") -> None:
+        """Raises WrongConfiguration where another has more that is new than a bridge that runs can take: the setup, the
+        partners and the charge points."""
+        for path, before, now in (
+                ("node", replace(self.node, setup_line=""), replace(other.node, setup_line="")),
+                ("node.party", self.is_operator, other.is_operator), ("state", self.state, other.state),
+                ("ocpi", self.ocpi, other.ocpi), ("admin", self.admin, other.admin),
+                ("ocpp.listen", self.ocpp and self.ocpp.listen, other.ocpp and other.ocpp.listen),
+                ("clock_factor", self.clock_factor, other.clock_factor)):
+            if before != now:
+                refuse(path, "changed: restart the bridge for that")
+
+
+def read_configuration(path: Path, is_restored: bool = False, takes_new_state: bool = False) -> Configuration:
     """Reads the file, and the setup that it names. Raises WrongConfiguration with the path of what is wrong."""
     text, file = _read_file(path, str(path))
     _try_form(json.loads(text))
@@ -135,11 +166,12 @@ def read_configuration(path: Path) -> Configuration:
     if "ocpp" in file and site is None:
         refuse("ocpp", "a provider has no charge points")
     return Configuration(
-        node=NodeSettings(files["program"], party, write_json(setup), files["store"], files.get("transcript")),
+        node=NodeSettings(files["program"], party, write_json(setup), files["store"], files.get("transcript"),
+                          takes_new_state),
         state=state, ocpi=OcpiSettings(ocpi["listen"], ocpi["url"].rstrip("/"), ocpi["business"]),
         ocpp=_ocpp(file["ocpp"], site) if "ocpp" in file and site else None, admin=file["admin"]["listen"],
         partners=_partners(file["partners"], [name for name in sites if (sites[name] is None) == (site is not None)]),
-        clock_factor=float(file.get("clock_factor", 1)), site=site, setup=setup)
+        clock_factor=float(file.get("clock_factor", 1)), site=site, setup=setup, is_restored=is_restored)
 
 
 def refuse(path: str, fault: str) -> NoReturn:
@@ -184,7 +216,7 @@ def spelled(name: str, names: Iterable[str]) -> str | None:
     return next((known for known in names if known.upper() == name.upper()), None)
 
 
-def _sites(setup: Any) -> dict[str, Members | None]:
+def _sites(setup: Setup) -> dict[str, Site | None]:
     """The site of each party of a setup. Only what the bridge itself needs is tried here: the node reads the rest."""
     try:
         return {str(node["party"]): node.get("site") for node in setup["nodes"]}
@@ -192,7 +224,7 @@ def _sites(setup: Any) -> dict[str, Members | None]:
         refuse("node.setup", "no setup of nodes, each with its party")
 
 
-def _ocpp(ocpp: Members, site: Members) -> OcppSettings:
+def _ocpp(ocpp: OcppEntry, site: Site) -> OcppSettings:
     evses = {evse["uid"]: [connector["id"] for connector in evse["connectors"]]
              for location in site["locations"] for evse in location["evses"]}
     charge_points: dict[str, ChargePointSettings] = {}
@@ -200,23 +232,30 @@ def _ocpp(ocpp: Members, site: Members) -> OcppSettings:
         path = f"ocpp.charge_points[{place}]"
         if entry["id"] in charge_points:
             refuse(f"{path}.id", "that of another charge point")
-        connectors = {}
-        for number, connector in entry["connectors"].items():
-            connectors[int(number)] = _connector(connector, f"{path}.connectors.{number}", evses)
+        connectors = {int(number): _connector(connector, f"{path}.connectors.{number}", evses)
+                      for number, connector in entry["connectors"].items()}
         charge_points[entry["id"]] = ChargePointSettings(entry["id"], entry.get("password"), connectors)
     return OcppSettings(ocpp["listen"], charge_points)
 
 
-def _connector(connector: Members, path: str, evses: dict[str, list[str]]) -> ConnectorSettings:
+def _connector(connector: ConnectorEntry, path: str, evses: dict[str, list[str]]) -> ConnectorSettings:
     """Takes the EVSE out of those of the site that are free, so that none is used twice."""
     evse_uid = (spelled(connector["evse_uid"], evses)
                 or refuse(f"{path}.evse_uid", "not in the site, or that of another connector"))
-    connector_id = (spelled(connector["connector_id"], evses.pop(evse_uid))
-                    or refuse(f"{path}.connector_id", f"not at the EVSE {evse_uid}"))
-    return ConnectorSettings(evse_uid, connector_id, Decimal(str(connector.get("max_kw", USUAL_MAX_KW))))
+    known, others = evses.pop(evse_uid), connector.get("other_connectors", {})
+
+    def take(connector_id: str, path: str, more: str = "") -> str:
+        found = spelled(connector_id, known) or refuse(path, f"not at the EVSE {evse_uid}{more}")
+        known.remove(found)
+        return found
+    return ConnectorSettings(
+        evse_uid, take(connector["connector_id"], f"{path}.connector_id"),
+        Decimal(str(connector.get("max_kw", USUAL_MAX_KW))),
+        {int(number): take(others[number], f"{path}.other_connectors.{number}", ", or that of another number")
+         for number in others})
 
 
-def _partners(entries: list[Members], missing: list[str]) -> tuple[PartnerSettings, ...]:
+def _partners(entries: list[PartnerEntry], missing: list[str]) -> tuple[PartnerSettings, ...]:
     """The partners. An operator's are the providers of the setup, each once, and a provider's its operators.
 
     Several of kind `ocpi` may present one token: their routing headers tell which of them asks.
@@ -233,8 +272,7 @@ def _partners(entries: list[Members], missing: list[str]) -> tuple[PartnerSettin
         for name in ("token_base64", "own_references"):
             if name in entry and entry["kind"] != "ocpi":
                 refuse(f"{path}.{name}", "only of a partner of kind ocpi")
-        members: Members = {"their_token": None, "versions_url": None, **entry, "party": party}
-        partner = PartnerSettings(**members)
+        partner = replace(PartnerSettings(**entry), party=party)
         if any(partner.token == other.token and ((partner.kind, other.kind) != ("ocpi", "ocpi")
                                                  or partner.token_base64 != other.token_base64) for other in found):
             refuse(f"{path}.token", "that of another partner")

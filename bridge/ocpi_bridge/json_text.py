@@ -3,7 +3,10 @@ import json
 from decimal import ROUND_DOWN, Context, Overflow
 from typing import Any
 
+# A payload of OCPP, of which `check_payload` looked at what is used.
 Members = dict[str, Any]
+# An object that came from outside, or that is only written: nobody knows what its members are.
+JsonObject = dict[str, object]
 
 MOST_DEPTH = 126
 # The most digits before the point that a number may have. (A node takes 15.)

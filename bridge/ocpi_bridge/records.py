@@ -1,21 +1,18 @@
-"""What stands in the lines of a node: events, packets with their bodies, and `done`. Of each those members that the
-bridge reads. A record of any kind has them all, and which are there its kind tells (docs/PROTOCOL.md)."""
+"""What stands in the lines of a node: the setup, events, packets with their bodies, and `done`. Of each those members
+that the bridge reads. A record of any kind has them all, and which are there its kind tells (docs/PROTOCOL.md)."""
 from typing import TypedDict
 
 from .json_text import Number
 
 
 class Token(TypedDict, total=False):
-    """A token, or a `cdr_token`, which has the first five."""
+    """A token, or a `cdr_token`, which has the first four."""
 
     country_code: str
     party_id: str
     uid: str
     type: str
-    contract_id: str
-    issuer: str
     valid: bool
-    whitelist: str
     last_updated: str
 
 
@@ -74,14 +71,11 @@ class Body(Session, Answer, Command, total=False):
 
     uid: str
     type: str
-    contract_id: str
-    issuer: str
     valid: bool
-    whitelist: str
     session_id: str
     total_energy: int | Number
     credit: bool
-    credit_reference_id: str
+    tariffs: "list[Tariff]"
 
 
 PacketLine = TypedDict("PacketLine", {
@@ -89,7 +83,7 @@ PacketLine = TypedDict("PacketLine", {
 
 
 class Event(TypedDict, total=False):
-    """An event line. `owner` and `idempotency` are the bridge's own, and nodes read past them."""
+    """An event line. `owner`, `away` and `idempotency` are the bridge's own, and nodes read past them."""
 
     event: str
     node: str
@@ -101,6 +95,7 @@ class Event(TypedDict, total=False):
     number: int
     in_service: bool
     owner: bool
+    away: bool
     idempotency: list[str]
 
 
@@ -114,3 +109,86 @@ class Done(TypedDict, total=False):
     event: int
     serial: int
     packets: int
+    rows: int
+
+
+class Connector(TypedDict, total=False):
+    """A connector of a setup, or of OCPI's EVSE, which has what else OCPI wants."""
+
+    id: str
+    standard: str
+    power_type: str
+    max_voltage: int
+    max_amperage: int
+    max_electric_power: int
+    tariff_ids: list[str]
+    last_updated: str
+
+
+class Evse(TypedDict, total=False):
+    """An EVSE of a setup, or of OCPI's Location, which has its `status` too."""
+
+    uid: str
+    evse_id: str
+    connectors: list[Connector]
+    status: str
+    last_updated: str
+
+
+class Location(TypedDict, total=False):
+    """A location of a setup, with `latitude` and `longitude`, or OCPI's Location."""
+
+    country_code: str
+    party_id: str
+    id: str
+    address: str
+    city: str
+    latitude: str
+    longitude: str
+    publish: bool
+    evses: list[Evse]
+    last_updated: str
+
+
+class PriceComponent(TypedDict):
+    type: str
+    price: int | Number
+    step_size: int
+
+
+class TariffElement(TypedDict):
+    price_components: list[PriceComponent]
+
+
+class Tariff(TypedDict, total=False):
+    country_code: str
+    party_id: str
+    id: str
+    currency: str
+    elements: list[TariffElement]
+    start_date_time: str
+    end_date_time: str
+    last_updated: str
+
+
+class PriceFrom(TypedDict):
+    """One of the `prices` of a site, from a moment on."""
+
+    start_date_time: str
+    price: int | Number
+
+
+class Site(TypedDict, total=False):
+    currency: str
+    price: int | Number
+    prices: list[PriceFrom]
+    locations: list[Location]
+
+
+class SetupNode(TypedDict, total=False):
+    party: str
+    site: Site | None
+
+
+class Setup(TypedDict):
+    nodes: list[SetupNode]

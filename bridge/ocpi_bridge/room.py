@@ -29,7 +29,6 @@ class Room:
 
     def __init__(self) -> None:
         self._lacking: dict[str, Path] = {}
-        self._noted = asyncio.Event()
 
     @property
     def is_there(self) -> bool:
@@ -40,15 +39,13 @@ class Room:
         if name not in self._lacking:
             LOG.error("%s: the disk is full: make room for %s. The bridge waits for it", name, file)
             self._lacking[name] = file
-            self._noted.set()
         return NoRoom(f"{name}: the disk is full")
 
     async def run(self) -> None:
         """Looks whether there is room again, until it is cancelled."""
         while True:
-            await self._noted.wait()
-            self._noted.clear()
             await self.wait()
+            await asyncio.sleep(LOOK_EACH)
 
     async def wait(self) -> None:
         """Waits until there is room for each file."""

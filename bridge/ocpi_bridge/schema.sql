@@ -53,10 +53,6 @@ CREATE TABLE IF NOT EXISTS session_to_stop (
     operator TEXT, session_id TEXT COLLATE NOCASE, ordered_at INTEGER NOT NULL,
     PRIMARY KEY (operator, session_id)) WITHOUT ROWID;
 
--- ocpp/late.py
-CREATE TABLE IF NOT EXISTS late_command (
-    provider TEXT COLLATE NOCASE, number INTEGER, PRIMARY KEY (provider, number)) WITHOUT ROWID;
-
 -- ocpi/pulling.py
 CREATE TABLE IF NOT EXISTS list_pulled (
     party TEXT, module TEXT, latest INTEGER NOT NULL, PRIMARY KEY (party, module)) WITHOUT ROWID;
@@ -64,8 +60,18 @@ CREATE TABLE IF NOT EXISTS list_under_way (
     party TEXT, module TEXT, page TEXT NOT NULL, pages INTEGER NOT NULL, latest INTEGER NOT NULL,
     PRIMARY KEY (party, module)) WITHOUT ROWID;
 
--- ocpi/locations.py
+-- ocpi/first_seen.py
 CREATE TABLE IF NOT EXISTS place (name TEXT PRIMARY KEY, text TEXT NOT NULL, since TEXT NOT NULL);
+
+-- ocpi/pushing.py
+CREATE TABLE IF NOT EXISTS place_told (
+    party TEXT, name TEXT, text TEXT NOT NULL, PRIMARY KEY (party, name)) WITHOUT ROWID;
+
+-- ocpi/places.py
+CREATE TABLE IF NOT EXISTS place_held (
+    module TEXT, party TEXT, identifier TEXT, last_updated INTEGER NOT NULL, body TEXT NOT NULL,
+    PRIMARY KEY (module, party, identifier)) WITHOUT ROWID;
+CREATE INDEX IF NOT EXISTS place_by_time ON place_held (module, last_updated);
 
 -- ocpp/site.py
 CREATE TABLE IF NOT EXISTS ocpp_evse (evse_uid TEXT PRIMARY KEY, status TEXT, service TEXT) WITHOUT ROWID;
@@ -80,14 +86,26 @@ CREATE TABLE IF NOT EXISTS ocpp_command (
 CREATE INDEX IF NOT EXISTS ocpp_command_open ON ocpp_command (number) WHERE ended_by IS NULL;
 CREATE INDEX IF NOT EXISTS ocpp_command_evse ON ocpp_command (evse_uid, state);
 CREATE INDEX IF NOT EXISTS ocpp_command_reference ON ocpp_command (provider, reference);
+CREATE TABLE IF NOT EXISTS late_command (
+    provider TEXT COLLATE NOCASE, number INTEGER, PRIMARY KEY (provider, number)) WITHOUT ROWID;
+CREATE TABLE IF NOT EXISTS ocpp_remote_start (
+    remote_start INTEGER PRIMARY KEY AUTOINCREMENT, provider TEXT COLLATE NOCASE, number INTEGER, token_type TEXT,
+    UNIQUE (provider, number));
 
--- ocpp/transactions.py
+-- ocpp/transactions.py (id_tag is the transactionId of one of OCPP 2.0.1)
 CREATE TABLE IF NOT EXISTS ocpp_transaction (
     number INTEGER PRIMARY KEY AUTOINCREMENT, charge_point TEXT NOT NULL, connector INTEGER NOT NULL,
     started INTEGER NOT NULL, id_tag TEXT NOT NULL, meter_start INTEGER NOT NULL, session_id TEXT UNIQUE,
     state TEXT NOT NULL, UNIQUE (charge_point, connector, started, id_tag, meter_start));
 CREATE INDEX IF NOT EXISTS ocpp_transaction_running ON ocpp_transaction (charge_point)
     WHERE state IN ('new', 'charging', 'refused');
+
+-- ocpp/told.py (moments are milliseconds since 1970)
+CREATE TABLE IF NOT EXISTS ocpp_told (
+    charge_point TEXT, transaction_id TEXT, number INTEGER NOT NULL UNIQUE, started_at INTEGER,
+    connector INTEGER NOT NULL, token_uid TEXT, token_type TEXT, remote_start INTEGER, begun_by INTEGER,
+    charging_at INTEGER, ended_at INTEGER, register TEXT, register_at TEXT,
+    PRIMARY KEY (charge_point, transaction_id)) WITHOUT ROWID;
 
 -- ocpp/readings.py
 CREATE TABLE IF NOT EXISTS ocpp_reading (number INTEGER PRIMARY KEY, at INTEGER NOT NULL, register TEXT NOT NULL);

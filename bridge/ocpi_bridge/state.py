@@ -10,7 +10,7 @@ import sqlite3
 import time
 from collections.abc import Callable, Iterator
 from concurrent.futures import ThreadPoolExecutor
-from contextlib import contextmanager
+from contextlib import closing, contextmanager, suppress
 from pathlib import Path
 from typing import Any, TypeVar
 
@@ -69,16 +69,14 @@ class State:
         if version > VERSION:
             raise WrongState(LATER.format(self._path, version, VERSION))
         is_new = not self.query("SELECT 1 FROM sqlite_master")
-        if version == 0 and "number" in (columns := self._columns("ocpp_command")) and "until" not in columns:
+        columns = {row[1] for row in self.query("PRAGMA table_info(ocpp_command)")}
+        if version == 0 and "number" in columns and "until" not in columns:
             self.query("ALTER TABLE ocpp_command ADD COLUMN until REAL")
         scripts = [] if is_new else [FOLDER / "migrations" / f"{step}.sql" for step in range(version + 1, VERSION + 1)]
         for script in (*scripts, FOLDER / "schema.sql"):
             for statement in script.read_text().split(";\n"):
                 self.query(statement)
         self.query(f"PRAGMA user_version = {VERSION}")
-
-    def _columns(self, table: str) -> set[str]:
-        return {row[1] for row in self.query(f"PRAGMA table_info({table})")}
 
     @property
     def is_backup(self) -> bool:
@@ -93,10 +91,11 @@ class State:
             self.renumber_transactions()
 
     def renumber_transactions(self) -> None:
-        """Has the next transaction numbered as none was that this file does not know: by the seconds since 2020."""
-        self.query("DELETE FROM sqlite_sequence WHERE name = 'ocpp_transaction'")
-        self.query("INSERT INTO sqlite_sequence (name, seq) VALUES ('ocpp_transaction', ?)",
-                   int(time.time()) - BEGINNING)
+        """Has the next transaction, and the next remote start, numbered as none was that this file does not know: by
+        the seconds since 2020."""
+        for table in ("ocpp_transaction", "ocpp_remote_start"):
+            self.query("DELETE FROM sqlite_sequence WHERE name = ?", table)
+            self.query("INSERT INTO sqlite_sequence (name, seq) VALUES (?, ?)", table, int(time.time()) - BEGINNING)
 
     @contextmanager
     def transaction(self) -> Iterator[None]:
@@ -146,13 +145,14 @@ class State:
         os.fdatasync(self._log)
         if changes >= self._in_file + CHANGES_IN_LOG:
             self._in_file = changes
-            connection = sqlite3.connect(self._path, isolation_level=None, timeout=0)
-            try:
+            # Where it fails it is tried again, and the log has all of it.
+            with closing(sqlite3.connect(self._path, timeout=0)) as connection, suppress(sqlite3.OperationalError):
                 connection.execute("PRAGMA wal_checkpoint(PASSIVE)").fetchall()
-            except sqlite3.OperationalError:
-                pass  # It is tried again, and the log has all of it.
-            finally:
-                connection.close()
+
+    @property
+    def changes(self) -> int:
+        """Another number once this process has changed the file."""
+        return self._connection.total_changes
 
     def version(self) -> int:
         """Another number once another process has changed the file."""

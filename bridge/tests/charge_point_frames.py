@@ -1,7 +1,8 @@
-"""A charge point of OCPP 1.6-J as frames on a WebSocket, written from OCPP's words alone."""
+"""A charge point of OCPP over JSON as frames on a WebSocket, written from OCPP's words alone."""
 import asyncio
 import itertools
 import json
+from collections.abc import Sequence
 from typing import Any
 
 import aiohttp
@@ -15,8 +16,10 @@ COMES_WITHIN = 60.0
 class ChargePoint:
     """One connection of a charge point. Calls of the other side wait until `asked` takes them."""
 
-    def __init__(self, url: str, identifier: str, password: str | None = None) -> None:
+    def __init__(self, url: str, identifier: str, password: str | None = None,
+                 protocols: Sequence[str] = ("ocpp1.6",)) -> None:
         """`url` is the address up to the id of the charge point."""
+        self.protocols = protocols
         self.url = f"{url}/{identifier}"
         self.identifier = identifier
         self._authentication = None if password is None else aiohttp.BasicAuth(identifier, password)
@@ -33,7 +36,7 @@ class ChargePoint:
         self._session = aiohttp.ClientSession(auth=self._authentication)
         try:
             self._socket = await asyncio.wait_for(
-                self._session.ws_connect(self.url, protocols=("ocpp1.6",), max_msg_size=0), COMES_WITHIN)
+                self._session.ws_connect(self.url, protocols=self.protocols, max_msg_size=0), COMES_WITHIN)
         except BaseException:
             await self._session.close()
             raise

@@ -17,7 +17,8 @@ from ocpi_bridge.ocpi.objects import Objects
 from ocpi_bridge.ocpi.orders import Orders
 from ocpi_bridge.ocpi.partners import Partners
 from ocpi_bridge.ocpi.requests import Requests
-from ocpi_bridge.records import Body, Event
+from ocpi_bridge.ocpi.tariffs import Tariffs
+from ocpi_bridge.records import Body, Event, Setup
 from ocpi_bridge.state import State
 
 from .ocpi_party import Answer, OcpiParty, Received, answered
@@ -32,7 +33,7 @@ def configuration(folder: Path, is_operator: bool, partner: PartnerSettings) -> 
     settings = NodeSettings(folder / "program", node["party"], "", folder / "node.db", None)
     loopback = "127.0.0.1:0"
     return Configuration(settings, folder / "bridge.db", OcpiSettings(loopback, BRIDGE_URL, "Business"), None, loopback,
-                         (partner,), 1.0, node.get("site"), {"nodes": [node]})
+                         (partner,), 1.0, node.get("site"), cast(Setup, {"nodes": [node]}))
 
 
 def with_serial(data: object = None, status_code: int = 1000, serial: int = 41) -> Answer:
@@ -78,9 +79,13 @@ class ClientCase(unittest.IsolatedAsyncioTestCase):
         self.orders = Orders(self.configuration, self.state, events, Objects(self.state), self.requests, self.feed)
         self.client = Client(
             self.configuration, self.state, Partners(self.configuration, self.state), Exchange(clock, self.metrics),
-            self.requests, events, self.feed, self.orders)
+            self.requests, events, self.feed, self.orders, self.tariffs(clock))
         self.addAsyncCleanup(self.client.exchange.close)
         self.addCleanup(self.state.close)
+
+    def tariffs(self, clock: Clock) -> Tariffs | None:
+        """Those that the client names in bills."""
+        return None
 
     async def feed(self, event: Event) -> Outcome:
         """Takes an event, or fails in the ways that are named in `faults`, one after the other."""

@@ -61,3 +61,25 @@ def cdr(party: str, of: Members, session_id: str, **other: object) -> Members:
             "charging_periods": [period], "total_cost": {"excl_vat": 3.0, "incl_vat": 3.63}, "total_energy": 12.0,
             "total_energy_cost": {"excl_vat": 3.0}, "total_time": 0.5, "remark": "Thank you", "last_updated": now(),
             **other}
+
+
+def location(party: str, *evses: Members, **other: object) -> Members:
+    """A Location of an operator."""
+    return {**codes(party), "id": "LOC1", "publish": True, "address": "Korenmarkt 1", "city": "Gent", "country": "BEL",
+            "coordinates": {"latitude": "51.05421", "longitude": "3.72180"}, "evses": list(evses),
+            "time_zone": "Europe/Brussels", "last_updated": "2025-01-01T10:00:00Z", **other}
+
+
+def evse(uid: str, **other: object) -> Members:
+    """An EVSE that is free, with a connector of 22.08 kW."""
+    connector = {"id": "1", "standard": "IEC_62196_T2", "format": "SOCKET", "power_type": "AC_3_PHASE",
+                 "max_voltage": 230, "max_amperage": 32, "tariff_ids": ["T1"], "last_updated": "2025-01-01T10:00:00Z"}
+    return {"uid": uid, "status": "AVAILABLE", "connectors": [connector], "last_updated": "2025-01-01T10:00:00Z",
+            **other}
+
+
+def tariff(party: str, price: float = 0.25, **other: object) -> Members:
+    """A Tariff of an operator for energy alone."""
+    component = {"type": "ENERGY", "price": price, "step_size": 1}
+    return {**codes(party), "id": "T1", "currency": "EUR", "elements": [{"price_components": [component]}],
+            "last_updated": "2025-01-01T10:00:00Z", **other}

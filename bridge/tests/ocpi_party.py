@@ -92,7 +92,9 @@ class OcpiParty:
         self.bridge_party = ""
         self.requests: list[Received] = []
         self.answers: dict[str, Answer] = {}
-        self.lists: dict[str, list[Members]] = {"sessions": [], "cdrs": [], "tokens": [], "locations": []}
+        self.interfaces = dict(INTERFACES[role])
+        self.lists: dict[str, list[Members]] = {
+            "sessions": [], "cdrs": [], "tokens": [], "locations": [], "tariffs": []}
         self.page_size = 2
         self.token_base64 = True
         self._endpoints: dict[str, str] = {}
@@ -158,7 +160,7 @@ class OcpiParty:
             return answered([{"version": "2.2.1", "url": self.url + "/2.2.1"}])
         if received.path == "/2.2.1":
             endpoints = [{"identifier": module, "role": role, "url": f"{self.url}/2.2.1/{module}"}
-                         for module, role in INTERFACES[self.role].items()]
+                         for module, role in self.interfaces.items()]
             return answered({"version": "2.2.1", "endpoints": endpoints})
         if received.module == "commands":
             return answered({"result": "ACCEPTED", "timeout": 30})

@@ -9,20 +9,27 @@ from pathlib import Path
 from .ocpp_running import TOKEN, Operating, Station, within
 
 
+# Where there is a folder in memory, the disk is not waited for.
+ROOM = "/dev/shm" if Path("/dev/shm").is_dir() else None
+
+
 class OcppCase(unittest.IsolatedAsyncioTestCase):
     """An operator, a token that may be used, and a charge point with two connectors."""
 
     factor = 1.0
     max_kw = 100_000
+    station_of: type[Station] = Station
 
     async def asyncSetUp(self) -> None:
-        folder = tempfile.TemporaryDirectory()
+        # The loop of a test case is one for finding faults in it, which takes many times as long.
+        asyncio.get_running_loop().set_debug(False)
+        folder = tempfile.TemporaryDirectory(dir=ROOM)
         self.addCleanup(folder.cleanup)
         self.operating = Operating(Path(folder.name), factor=self.factor, max_kw=self.max_kw)
         await self.operating.begin()
         self.addAsyncCleanup(self.operating.kill)
         await self.operating.deliver("put_token", TOKEN, 1)
-        self.station = Station(self.operating)
+        self.station = self.station_of(self.operating)
         self.addAsyncCleanup(self.station.close)
         await within(self.station.connected.wait())
 

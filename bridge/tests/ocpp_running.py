@@ -15,7 +15,8 @@ from ocpi_bridge.configuration import ChargePointSettings, ConnectorSettings, No
 from ocpi_bridge.events import Events, Outcome, Packet
 from ocpi_bridge.json_text import Members
 from ocpi_bridge.metrics import Metrics
-from ocpi_bridge.node.feeder import Feeder, NodeEnded, OutcomeLost
+from ocpi_bridge.node.feeder import NodeEnded, OutcomeLost
+from ocpi_bridge.node.revocable import RevocableFeeder
 from ocpi_bridge.ocpi.objects import Objects
 from ocpi_bridge.ocpp.central_system import CentralSystem
 from ocpi_bridge.records import Body
@@ -24,7 +25,11 @@ from ocpi_bridge.state import State
 from .running import PROGRAM, operator, provider
 
 Result = TypeVar("Result")
-SETUP = json.dumps({"nodes": [operator("BE/BEC", ["E1", "E2", "E3", "E4"]), provider("NL/TNM")]})
+OPERATOR = operator("BE/BEC", ["E1", "E2", "E3", "E4"])
+# The second EVSE has a second connector.
+EVSE = OPERATOR["site"]["locations"][0]["evses"][1]
+EVSE["connectors"] += [{**EVSE["connectors"][0], "id": "B"}]
+SETUP = json.dumps({"nodes": [OPERATOR, provider("NL/TNM")]})
 TOKEN: Members = {
     "country_code": "NL", "party_id": "TNM", "uid": "AA01", "type": "RFID", "contract_id": "NL-TNM-000001",
     "issuer": "TNM", "valid": True, "whitelist": "ALWAYS", "last_updated": "2025-01-01T09:00:00Z"}
@@ -54,9 +59,10 @@ class Operating:
         self.state = State(self.folder / "state.db")
         self.events = Events("BE/BEC", self.clock)
         self.metrics = Metrics()
-        self.feeder = Feeder(self.settings, self.events, self.state, self.metrics)
+        self.feeder = RevocableFeeder(self.settings, self.events, self.state, self.metrics)
         self.objects = Objects(self.state)
-        connectors = [ConnectorSettings(uid, "1", self.max_kw) for uid in ("E1", "E2", "E3")]
+        connectors = [ConnectorSettings(uid, "1", self.max_kw, {2: "B"} if uid == "E2" else {})
+                      for uid in ("E1", "E2", "E3")]
         charge_points = {"CP1": ChargePointSettings("CP1", "secret", {1: connectors[0], 2: connectors[1]}),
                          "CP2": ChargePointSettings("CP2", None, {1: connectors[2]})}
         self.central_system = CentralSystem(OcppSettings("127.0.0.1:0", charge_points), self.events,
@@ -133,10 +139,15 @@ class Operating:
 class Station:
     """A charge point. It answers what it is asked by `answers`, and repeats its calls until they are answered."""
 
+    subprotocol = "ocpp1.6"
+
     def __init__(self, operating: Operating, name: str = "CP1") -> None:
         self.operating = operating
         self.name = name
         self.answers: dict[str, str] = {"UnlockConnector": "Unlocked", "TriggerMessage": "NotImplemented"}
+        # What it tells of the transaction that it is asked about, and how often it was asked.
+        self.transaction_status: Members = {"ongoingIndicator": True, "messagesInQueue": False}
+        self.asked_about = 0
         self.asked: "asyncio.Queue[tuple[str, Members]]" = asyncio.Queue()
         self.connected = asyncio.Event()
         self._calls: dict[str, tuple[str, "asyncio.Future[list[Any]]"]] = {}
@@ -152,7 +163,7 @@ class Station:
             while True:
                 try:
                     url = f"http://127.0.0.1:{self.operating.port}/ocpp/{self.name}"
-                    async with session.ws_connect(url, protocols=("ocpp1.6",)) as self.socket:
+                    async with session.ws_connect(url, protocols=(self.subprotocol,)) as self.socket:
                         self.connected.set()
                         for text, _ in self._calls.values():
                             await self.socket.send_str(text)
@@ -169,6 +180,10 @@ class Station:
                 self._calls.pop(frame[1])[1].set_result(frame)
             return
         status = self.answers.get(frame[2], "Accepted")
+        if frame[2] == "GetTransactionStatus":
+            await self.socket.send_str(json.dumps([3, frame[1], self.transaction_status]))
+            self.asked_about += 1
+            return
         if frame[2] != "TriggerMessage":
             self.asked.put_nowait((frame[2], frame[3]))
         if status != "silent":

@@ -53,9 +53,12 @@ def free_port() -> int:
             return port
 
 
-def operator(party: str, evse_uids: Sequence[str], price: float = 0.25) -> Members:
-    """An operator of a setup: one location `LOC1`, whose EVSEs have a connector `1` each. The price is in EUR a kWh."""
-    connector = {"id": "1", "standard": "IEC_62196_T2", "format": "SOCKET", "power_type": "AC_3_PHASE"}
+def operator(party: str, evse_uids: Sequence[str], price: float = 0.25, **other: object) -> Members:
+    """An operator of a setup: one location `LOC1`, whose EVSEs have a connector `1` each. The price is in EUR a kWh.
+
+    `other` is what each connector has too.
+    """
+    connector = {"id": "1", "standard": "IEC_62196_T2", "format": "SOCKET", "power_type": "AC_3_PHASE"} | other
     evses = [{"uid": uid, "evse_id": f"{party.replace('/', '*')}*{uid}", "connectors": [connector]}
              for uid in evse_uids]
     location = {"id": "LOC1", "address": "Korenmarkt 1", "city": "Gent", "country": "BEL", "latitude": "51.05421",

@@ -3,7 +3,7 @@ import asyncio
 import json
 import tempfile
 import unittest
-from collections.abc import Awaitable, Callable, Mapping
+from collections.abc import Awaitable, Callable, Mapping, Sequence
 from dataclasses import dataclass
 from pathlib import Path
 from typing import cast
@@ -25,9 +25,11 @@ from ocpi_bridge.ocpi.interfaces import Interfaces
 from ocpi_bridge.ocpi.locations import Locations
 from ocpi_bridge.ocpi.objects import Objects
 from ocpi_bridge.ocpi.partners import Partners
+from ocpi_bridge.ocpi.places import Places
+from ocpi_bridge.ocpi.receiving import Receiving
 from ocpi_bridge.ocpi.requests import Requests
 from ocpi_bridge.ocpi.server import Server
-from ocpi_bridge.records import Body, Event
+from ocpi_bridge.records import Body, Event, Setup
 from ocpi_bridge.state import State
 
 from .running import PROGRAM, Members, operator, provider
@@ -57,11 +59,13 @@ class ServerCase(unittest.IsolatedAsyncioTestCase):
     node_partner = "NL/TNM"
     ocpi_partner = "DE/EVC"
     takes_orders = True
+    prices: Sequence[Members] = ()
 
     async def asyncSetUp(self) -> None:
         folder = Path(self.enterContext(tempfile.TemporaryDirectory()))
         nodes = [operator("BE/BEC", ["E1", "E2"]), operator("FR/CPX", ["F1"]), provider("NL/TNM"), provider("DE/EVC"),
                  provider("LU/NEW"), operator("AT/NEW", ["A1"])]
+        nodes[0]["site"]["prices"] = list(self.prices)
         site = next(node.get("site") for node in nodes if node["party"] == self.party)
         new = "AT/NEW" if site is None else "LU/NEW"
         self.state = State(folder / "state.db")
@@ -76,7 +80,7 @@ class ServerCase(unittest.IsolatedAsyncioTestCase):
             "127.0.0.1:0",
             (PartnerSettings(self.node_partner, "node", "node token", "theirs", versions),
              PartnerSettings(self.ocpi_partner, "ocpi", "ocpi token", "theirs too", versions),
-             PartnerSettings(new, "ocpi", "new token", None, None)), 1.0, site, {"nodes": nodes})
+             PartnerSettings(new, "ocpi", "new token", None, None)), 1.0, site, cast(Setup, {"nodes": nodes}))
         await self._start()
 
     async def _start(self) -> None:
@@ -102,7 +106,8 @@ class ServerCase(unittest.IsolatedAsyncioTestCase):
                                 lambda party: self.takes_orders, self.feeder.revoke)
         credentials = Credentials(self.configuration, partners, exchange)
         application = Server(self.events, partners, credentials, interfaces, self.metrics,
-                             self.state).application()
+                             self.state, Receiving(self.clock, Places(self.state)) if site is None else None
+                             ).application()
         # What the server feeds by: tests put another thing in its place.
         self.feeding: Callable[[Event], Awaitable[Outcome]] = self.feeder.feed
         self.server = TestServer(application)

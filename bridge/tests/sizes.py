@@ -13,7 +13,7 @@ BRIDGE = Path(__file__).resolve().parents[1]
 MOST_LINES_OF_FILE = 299
 MOST_LINES_OF_FUNCTION = 39
 MOST_CHARACTERS = 120
-MOST_CODE_WITHOUT_TESTS = 4500
+MOST_CODE_WITHOUT_TESTS = 6000
 NO_CODE = (tokenize.COMMENT, tokenize.NL, tokenize.NEWLINE, tokenize.INDENT, tokenize.DEDENT, tokenize.ENDMARKER)
 
 

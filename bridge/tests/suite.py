@@ -27,7 +27,7 @@ MOST_LINES = 60
 # Tests mostly wait, so more of them run at once than there are processors.
 AT_ONCE = 2 * (os.cpu_count() or 1)
 # The modules whose tests take longest begin first.
-LONGEST = ("tests.test_promise", "tests.test_page", "tests.test_demo", "tests.test_hostile")
+LONGEST = ("tests.test_promise", "tests.test_page", "tests.test_demo", "tests.test_hostile", "tests.test_ocpp_stops")
 
 
 @dataclass

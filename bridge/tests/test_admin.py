@@ -55,7 +55,6 @@ class AdminTest(unittest.IsolatedAsyncioTestCase):
                 self.assertTrue((await response.json())["error"])
                 return response.status
 
-
     async def next_event(self, events: aiohttp.ClientResponse) -> Members:
         while True:
             line = await asyncio.wait_for(events.content.readline(), 10)
@@ -169,7 +168,7 @@ class ProviderTest(AdminTest):
                 told = await self.next_event(events)
                 self.assertEqual(told["tokens"], [])
                 self.assertEqual(list(told), ["party", "is_operator", "sessions", "cdrs", "partners", "operators",
-                                              "tokens", "commands", "owed"])
+                                              "offers", "tokens", "commands", "owed"])
                 await self.bridge.admin_post("/tokens", TOKEN)
                 self.assertEqual((await self.next_event(events))["tokens"][0]["uid"], "AA01")
                 self.assertEqual(await self.bridge.stop(), 0)
@@ -221,9 +220,9 @@ class OperatorTest(AdminTest):
         self.assertEqual(await self.status_of("POST", "/tokens", json=TOKEN), 409)
         self.assertEqual([point["id"] for point in await self.bridge.admin_get("/charge_points")], ["CP1"])
         text = await self.bridge.admin_get("/metrics")
-        for name, (kind, _) in METRICS.items():
+        for name, (kind, *_) in METRICS.items():
             self.assertIn(f"# TYPE {name} {kind}\n", text)
-        self.assertIn('ocpi_lines_total{done="stepped"} 1\n', text)
+        self.assertIn('ocpi_lines_total{done="stepped"} 1.0\n', text)
         health = await self.bridge.admin_get("/health")
         self.assertEqual([True, "open"], [health["healthy"], health["node"]])
         newest = re.search(r"^## (.+)$", (REPOSITORY / "CHANGELOG.md").read_text(), re.MULTILINE)
@@ -237,7 +236,7 @@ class OperatorTest(AdminTest):
         listed = {(method.upper(), path) for path, methods in page["paths"].items() for method in methods}
         source = (REPOSITORY / "bridge" / "ocpi_bridge" / "admin" / "server.py").read_text()
         routed = {(method.upper(), path) for method, path in re.findall(r'web\.(get|post)\("(/[\w.]*)"', source)}
-        lists = ("/cdrs", "/charge_points", "/commands", "/partners", "/sessions", "/tokens")
+        lists = ("/cdrs", "/charge_points", "/commands", "/locations", "/partners", "/sessions", "/tariffs", "/tokens")
         self.assertEqual({*routed, *(("POST", path) for path in EVENTS), *(("GET", path) for path in lists)}, listed)
         names = set(re.findall(r'"#/components/schemas/(\w+)"', json.dumps(page)))
         self.assertEqual(set(page["components"]["schemas"]), names)

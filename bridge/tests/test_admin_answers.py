@@ -9,11 +9,10 @@ from pathlib import Path
 
 import aiohttp
 
-from ocpi_bridge.admin.answers import LOST, MARK, SECONDS_KEPT, Answers
+from ocpi_bridge.admin.answers import LOST, MARK, SECONDS_KEPT, Answer, Answers
 from ocpi_bridge.admin.feeding import Feeding
 from ocpi_bridge.clock import Clock
 from ocpi_bridge.events import Events, Outcome
-from ocpi_bridge.json_text import Members
 from ocpi_bridge.ocpi.objects import Objects
 from ocpi_bridge.records import Event
 from ocpi_bridge.state import State
@@ -134,12 +133,14 @@ class AnswersTest(unittest.IsolatedAsyncioTestCase):
         return Feeding(Events("NL/TNM", self.clock), None, Objects(self.state),  # type: ignore[arg-type]
                        Answers(self.state, self.clock), None, None, lambda _: True)
 
-    async def told(self) -> tuple[int, Members]:
+    async def told(self) -> Answer:
         """What a repeat is answered after a new start."""
-        async def feed(mark: Members) -> tuple[int, Members]:
-            return 200, mark
+        async def feed(mark: Event) -> Answer:
+            self.marked = mark
+            return 200, {"error": "fed"}
 
-        self.event[MARK][2] = (await Answers(self.state, self.clock).once("/orders", "other", "text", feed))[1][MARK][2]
+        await Answers(self.state, self.clock).once("/orders", "other", "text", feed)
+        self.event[MARK][2] = self.marked[MARK][2]
         return await Answers(self.state, self.clock).once("/orders", "key", "text", feed)
 
     async def test_what_was_carried_out_is_not_fed_again(self) -> None:
@@ -159,7 +160,7 @@ class AnswersTest(unittest.IsolatedAsyncioTestCase):
         self.state.query("UPDATE answer_given SET at = at - ?", SECONDS_KEPT + 1)
         self.event[MARK][1] = "another"
         self.feeding().note(Outcome(self.event, {"done": "idle"}, ()))
-        self.assertIn(MARK, (await self.told())[1])
+        self.assertEqual({"error": "fed"}, (await self.told())[1])
 
 
 if __name__ == "__main__":

@@ -79,6 +79,46 @@ class Connections(FramesCase):
                     await ChargePoint(self.bridge.ocpp_url, identifier, password).connect()
                 self.assertEqual(status, raised.exception.status)
 
+    async def test_the_first_subprotocol_that_both_know_is_spoken(self) -> None:
+        for offered, chosen in ((("ocpp2.0.1", "ocpp1.6"), "ocpp2.0.1"), (("ocpp1.6", "ocpp2.0.1"), "ocpp1.6"),
+                                (("ocpp2.1", "ocpp1.5", "ocpp2.0.1"), "ocpp2.0.1"), (("ocpp2.1",), None), ((), None)):
+            with self.subTest(offered=offered):
+                charge_point = ChargePoint(self.bridge.ocpp_url, "CP2", protocols=offered)
+                self.addAsyncCleanup(charge_point.close)
+                if chosen is None:
+                    with self.assertRaises(aiohttp.WSServerHandshakeError) as raised:
+                        await charge_point.connect()
+                    self.assertEqual(400, raised.exception.status)
+                else:
+                    await charge_point.connect()
+                    self.assertEqual(chosen, charge_point.protocol)
+                    self.assertEqual(["currentTime"], list(await charge_point.call("Heartbeat", {})))
+        self.assertIn("CP2: offers no subprotocol of ocpp2.0.1, ocpp1.6", self.bridge.log())
+
+    async def test_errors_are_spelled_as_the_version_has_them(self) -> None:
+        charge_point = ChargePoint(self.bridge.ocpp_url, "CP2", protocols=("ocpp2.0.1",))
+        self.addAsyncCleanup(charge_point.close)
+        await charge_point.connect()
+        event = {"eventType": "Ended", "timestamp": MOMENT, "seqNo": 1, "transactionInfo": {"transactionId": "T"}}
+        cases: list[tuple[str, Members, str]] = [
+            ("StartTransaction", START, "NotImplemented"), ("NotifyReport", {}, "NotImplemented"),
+            ("Authorize", {}, "OccurrenceConstraintViolation"),
+            ("Authorize", {"idToken": "AA01"}, "PropertyConstraintViolation"),
+            ("Authorize", {"idToken": {"idToken": "AA01"}}, "OccurrenceConstraintViolation"),
+            ("Authorize", {"idToken": {"idToken": "x" * 37, "type": "Local"}}, "PropertyConstraintViolation"),
+            ("StatusNotification", {"connectorStatus": "Preparing", "evseId": 1, "connectorId": 1},
+             "PropertyConstraintViolation"),
+            ("TransactionEvent", {**event, "transactionInfo": {}}, "OccurrenceConstraintViolation"),
+            ("TransactionEvent", {**event, "eventType": "Going"}, "PropertyConstraintViolation"),
+            ("TransactionEvent", {**event, "seqNo": "1"}, "PropertyConstraintViolation"),
+            ("TransactionEvent", {**event, "timestamp": "now"}, "PropertyConstraintViolation"),
+            ("TransactionEvent", {**event, "evse": {}}, "OccurrenceConstraintViolation")]
+        for action, payload, code in cases:
+            with self.subTest(action=action, payload=payload):
+                self.assertEqual([4, "a", code], (await charge_point.frame(json.dumps([2, "a", action, payload])))[:3])
+        self.assertEqual([4, "-1", "RpcFrameworkError"], (await charge_point.frame("hello"))[:3])
+        self.assertEqual([3, "a", {}], await charge_point.frame(json.dumps([2, "a", "TransactionEvent", event])))
+
     async def test_a_new_connection_closes_the_old_one(self) -> None:
         newer = await self.connected("CP1", PASSWORD)
         await self.charge_point.was_closed()

@@ -75,7 +75,8 @@ class Commands(ClientCase):
             self.party.answers["commands"] = answer
             await asyncio.wait_for(self.carry(self.packet("unlock_connector", 7, unlock(7))), 20)
         self.assertEqual([], self.delivered)
-        self.assertIn('ocpi_http_requests_total{direction="out",partner="BE/BEC",status="lost"} 2', self.metrics.text())
+        self.assertIn('ocpi_http_requests_total{direction="out",partner="BE/BEC",status="lost"} 2.0',
+                      self.metrics.text())
 
 
 class Questions(ClientCase):

@@ -140,7 +140,23 @@ class ConfigurationTest(unittest.TestCase):
         run = subprocess.run([RUN, self.folder / "bridge.json"], capture_output=True, text=True, timeout=60,
                              env={**os.environ, "PYTHONPATH": str(self.folder)})
         self.assertEqual(2, run.returncode, run.stderr)
-        self.assertIn("apt install python3-aiohttp python3-fastjsonschema", run.stderr)
+        self.assertIn("apt install python3-aiohttp python3-fastjsonschema python3-prometheus-client", run.stderr)
+
+    def test_an_evse_with_several_connectors(self) -> None:
+        setup = copy.deepcopy(SETUP)
+        connectors = setup["nodes"][0]["site"]["locations"][0]["evses"][0]["connectors"]
+        connectors += [{**connectors[0], "id": name} for name in ("B", "C")]
+        (self.folder / "setup.json").write_text(json.dumps(setup))
+        path = "ocpp/charge_points", [charge_point("CP1", ["E1"], other_connectors={"2": "b", "10": "C"})]
+        settings = self.read(path).ocpp.charge_points["CP1"].connectors[1]
+        self.assertEqual({1: "1", 2: "B", 10: "C"}, settings.connector_ids)
+        self.assertEqual([10, None], [settings.number_of(name) for name in ("c", "D")])
+        place = "ocpp.charge_points[0].connectors.1.other_connectors"
+        for others, refusal in (({"1": "B"}, f"{place}.1: no number of a connector, from 2"),
+                                ([], f"{place}: no object"),
+                                ({"2": "1"}, f"{place}.2: not at the EVSE E1, or that of another number"),
+                                ({"2": "B", "3": "b"}, f"{place}.3: not at the EVSE E1, or that of another number")):
+            self.refused(refusal, ("ocpp/charge_points", [charge_point("CP1", ["E1"], other_connectors=others)]))
 
     def test_charge_points(self) -> None:
         first = charge_point("CP1", ["E1"])

@@ -48,7 +48,8 @@ class Tokens(unittest.TestCase):
         partners = self.partners()
         self.assertEqual([False, None, None], self.shown(partners, "first", "", "firs\udc80"))
         partners.register("be/bec", "second", "theirs", VERSIONS_URL, ENDPOINTS)
-        wanted = Partner("BE/BEC", "ocpi", "second", "theirs", VERSIONS_URL, ENDPOINTS, True)
+        wanted = Partner("BE/BEC", "ocpi", "second", "theirs", VERSIONS_URL, endpoints=ENDPOINTS,
+                         is_registered=True)
         for each in (partners, self.partners()):
             self.assertEqual([None, True], self.shown(each, "first", "second"))
             self.assertEqual([wanted], each.all())
@@ -120,7 +121,7 @@ class TwoBridges(BridgeCase):
 
         async def is_there() -> bool:
             lines = (await self.provider.admin_get("/metrics")).splitlines()
-            return bool(await self.operator.admin_get("/tokens")) and "ocpi_unacknowledged_pushes 0" in lines
+            return bool(await self.operator.admin_get("/tokens")) and "ocpi_unacknowledged_pushes 0.0" in lines
         await eventually(is_there, "a token that was put and acknowledged", 30)
 
     async def test_they_register_and_use_it_at_once(self) -> None:

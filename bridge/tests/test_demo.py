@@ -51,7 +51,12 @@ class DemoTest(unittest.TestCase):
             return False
 
     def test_a_charge_is_told_to_the_byte(self) -> None:
-        process = self.start()
+        self.try_charge()
+        self.try_charge("--ocpp", "2.0.1")
+
+    def try_charge(self, *words: str) -> None:
+        """What it prints is what the page of operations shows."""
+        process = self.start(*words)
         printed, _ = process.communicate(timeout=150)
         self.assertEqual((printed, process.returncode), (PRINTED + SETTLED, 0))
         self.assertIn(f"```\n{printed}```\n", (REPOSITORY / "bridge" / "README.md").read_text())

@@ -19,7 +19,8 @@ from ocpi_bridge.events import Events, Outcome
 from ocpi_bridge.json_text import Members
 from ocpi_bridge.metrics import Metrics
 from ocpi_bridge.node import feeder as feeder_module
-from ocpi_bridge.node.feeder import Feeder, NodeEnded, OutcomeLost
+from ocpi_bridge.node.feeder import NodeEnded, OutcomeLost
+from ocpi_bridge.node.revocable import RevocableFeeder
 from ocpi_bridge.records import Body, Event, PacketLine
 from ocpi_bridge.state import State
 
@@ -60,8 +61,7 @@ class Running:
             program.write_text(text)
             program.chmod(0o755)
         self.settings = NodeSettings(program, party, SETUP, folder / "node.db", folder / "node.transcript")
-        self.folder = folder
-        self.factor = factor
+        self.folder, self.factor = folder, factor
         self.noted: list[Outcome] = []
         self.metrics = Metrics()
         self.begin()
@@ -70,7 +70,7 @@ class Running:
         """Starts a feeder over the state that stands there."""
         self.state = State(self.folder / "state.db")
         events = Events(self.settings.party, Clock(self.factor))
-        self.feeder = Feeder(self.settings, events, self.state, self.metrics)
+        self.feeder = RevocableFeeder(self.settings, events, self.state, self.metrics)
         self.feeder.before_commit.append(self.noted.append)
         self.opened = asyncio.Event()
         self.feeder.after_opening.append(self.opened.set)

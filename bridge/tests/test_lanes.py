@@ -246,7 +246,8 @@ class TooMany(BridgeCase):
         running.write()
         operator_party.deals_with("NL/TNM", running.ocpi_url + "/ocpi/versions")
         with patch("ocpi_bridge.ocpi.lanes.MOST_WAITING", 3):
-            bridge = asyncio.create_task(Bridge(read_configuration(running.folder / "bridge.json")).run())
+            configuration = read_configuration(running.folder / "bridge.json")
+            bridge = asyncio.create_task(Bridge(configuration, lambda: configuration).run())
             self.addCleanup(bridge.cancel)
 
             async def listens() -> bool:

@@ -38,7 +38,7 @@ class NewTransactionTest(OcppCase):
         await self.station.meter(first, "2000")
         with self.assertLogs("ocpp", "WARNING") as logged:
             second = await self.station.begin(5, meter=2500)
-        self.assertIn("no StopTransaction came, and session", logged.output[0])
+        self.assertIn("its end did not come, and session", logged.output[0])
         self.assertEqual("Accepted", second["idTagInfo"]["status"])
         self.assertEqual([("E1", "COMPLETED", "1.0000"), ("E1", "ACTIVE", "0.0000")], self.operating.sessions())
         self.assertEqual("Invalid", (await self.station.begin())["idTagInfo"]["status"])

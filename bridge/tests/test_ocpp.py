@@ -216,11 +216,6 @@ class TimeTest(OcppCase):
         await self.station.end(begun["transactionId"], 1000)
         self.assertEqual("Accepted", (await self.station.begin(5))["idTagInfo"]["status"])
 
-    async def test_a_charge_point_that_is_away_is_not_asked(self) -> None:
-        await self.operating.start(2, evse_uid="E3")
-        await self.eventually([("2", "TIMEOUT")], self.operating.results)
-        self.assertEqual([], self.operating.fed("refuses") + self.operating.fed("accepts"))
-
     async def test_a_session_ends_for_which_nobody_plugs_in(self) -> None:
         await self.station.status("Preparing")
         self.assertEqual("Accepted", (await self.station.call("Authorize", idTag="AA01"))["idTagInfo"]["status"])

@@ -100,11 +100,11 @@ class MetricsTest(unittest.TestCase):
             metrics.observe("ocpi_line_seconds", seconds)
         metrics.gauge("ocpi_open_commands", lambda: 4)
         lines = metrics.text().splitlines()
-        for line in ('ocpi_http_requests_total{direction="in",partner="a\\"\\\\\\n",status="200"} 3',
-                     'ocpi_line_seconds_bucket{le="0.1"} 0', 'ocpi_line_seconds_bucket{le="0.25"} 1',
-                     'ocpi_line_seconds_bucket{le="0.5"} 2', 'ocpi_line_seconds_bucket{le="+Inf"} 3',
-                     "ocpi_line_seconds_sum 20.55", "ocpi_line_seconds_count 3", "# TYPE ocpi_line_seconds histogram",
-                     "ocpi_node_restarts_total 0", "ocpi_open_commands 4"):
+        for line in ('ocpi_http_requests_total{direction="in",partner="a\\"\\\\\\n",status="200"} 3.0',
+                     'ocpi_line_seconds_bucket{le="0.1"} 0.0', 'ocpi_line_seconds_bucket{le="0.25"} 1.0',
+                     'ocpi_line_seconds_bucket{le="0.5"} 2.0', 'ocpi_line_seconds_bucket{le="+Inf"} 3.0',
+                     "ocpi_line_seconds_sum 20.55", "ocpi_line_seconds_count 3.0", "# TYPE ocpi_line_seconds histogram",
+                     "ocpi_node_restarts_total 0.0", "ocpi_open_commands 4.0"):
             self.assertIn(line, lines)
 
 

@@ -3,6 +3,7 @@ import asyncio
 import sqlite3
 import subprocess
 import tempfile
+import time
 import unittest
 from contextlib import closing
 from pathlib import Path
@@ -10,7 +11,7 @@ from pathlib import Path
 from .browser import CHROMIUM, Browser
 from .running import REPOSITORY, RunningBridge, charge_point, eventually, operator, partner, provider
 
-SETUP = [operator("BE/BEC", ["E1", "E2"]), provider("NL/TNM")]
+SETUP = [operator("BE/BEC", ["E1", "E2"], max_voltage=230, max_amperage=32), provider("NL/TNM")]
 
 
 def row_with(table: str, *words: str) -> str:
@@ -210,6 +211,34 @@ class PageTest(unittest.IsolatedAsyncioTestCase):
         # The charge point of E2 is away, so its operator rejects at once, or nothing is told until the end.
         await browser.until(said("E2"))
         self.assertEqual(browser.faults, [])
+
+    async def seconds_until(self, expression: str) -> float:
+        """Waits until the page has something, and says how long that took."""
+        begun = time.monotonic()
+        await self.browser.until(expression)
+        return time.monotonic() - begun
+
+    async def test_a_free_evse_its_price_and_who_takes_it(self) -> None:
+        browser = self.browser
+        offer = ("E1", "BE/BEC", "Korenmarkt 1, Gent", "1 (IEC_62196_T2)", "22.08 kW", "0.2500 EUR/kWh")
+        await self.open(self.provider)
+        await browser.until(row_with("offers", *offer, "available", "Choose"))
+        await browser.until(row_with("offers", "E2", "outoforder"))
+        await browser.until(f"!{row_with('offers', 'E2', 'Choose')}")
+        await browser.evaluate(enter("start", evse="E2"))
+        await browser.until(press("Choose", "E1"))
+        await browser.until("document.getElementById('start').elements.evse.value === 'E1'")
+        await browser.until("document.getElementById('start').elements.evse.selectedOptions[0].text"
+                            ".includes('available')")
+        self.tell("plug")
+        self.assertLess(await self.seconds_until(row_with("offers", *offer, "blocked")), 2)
+        self.tell("unplug")
+        self.assertLess(await self.seconds_until(row_with("offers", *offer, "available", "Choose")), 2)
+        self.assertEqual(browser.faults, [])
+        held, = await self.provider.admin_get("/locations")
+        told, = await self.operator.admin_get("/locations")
+        self.assertEqual(told, held)
+        self.assertEqual(await self.operator.admin_get("/tariffs"), await self.provider.admin_get("/tariffs"))
 
     async def test_a_narrow_window(self) -> None:
         for bridge in (self.provider, self.operator):

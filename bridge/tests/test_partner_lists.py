@@ -119,6 +119,20 @@ class Places(OperatorCase):
         self.assertEqual("1", (await self.provider.ask("GET", f"{url}/LOC1/E2/1")).data["id"])
         self.assert_status(await self.provider.ask("GET", f"{url}/LOC9"), 404, 2003)
 
+    async def test_a_car_that_is_plugged_in_blocks_its_evse(self) -> None:
+        """Whoever has it may start there all the same."""
+        charge_point = await self.begin_charge_point("CP2", ["Available"], None)
+        await self.await_statuses(E3="AVAILABLE")
+        await charge_point.call("StatusNotification", {
+            "connectorId": 1, "errorCode": "NoError", "status": "Preparing"})
+        await self.await_statuses(E3="BLOCKED")
+        await self.provider.put_token(self.token)
+        started = await self.provider.command(
+            "START_SESSION", start_session(self.token, self.response_url("start"), "E3"))
+        self.assertEqual("ACCEPTED", started.data["result"])
+        await charge_point.call("StatusNotification", {
+            "connectorId": 1, "errorCode": "NoError", "status": "Available"})
+
     async def test_statuses(self) -> None:
         await self.await_statuses(E1="OUTOFORDER", E2="OUTOFORDER", E3="OUTOFORDER")
         charge_point = await self.begin_charge_point()

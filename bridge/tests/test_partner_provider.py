@@ -183,10 +183,10 @@ class Losses(OperatorCase):
             return "\nocpi_unacknowledged_pushes 0" in await self.bridge.admin_get("/metrics")
         await eventually(is_acknowledged, "no push that waits")
 
-    async def test_a_command_ends_where_its_charge_point_is_away(self) -> None:
+    async def test_a_command_fails_where_its_charge_point_is_away(self) -> None:
         reply = await self.provider.command("START_SESSION", start_session(self.token, self.response_url("start")))
         self.assertEqual("ACCEPTED", reply.data["result"])
-        self.assertEqual("TIMEOUT", await self.result("start"))
+        self.assertEqual("FAILED", await self.result("start"))
 
     async def test_a_charge_point_that_starts_too_late_is_stopped(self) -> None:
         charge_point = await self.begin_charge_point()

@@ -42,7 +42,8 @@ class Registration(BridgeCase):
         self.assertEqual("2.2.1", details["version"])
         endpoints = {(endpoint["identifier"], endpoint["role"]): endpoint["url"] for endpoint in details["endpoints"]}
         self.assertEqual({("credentials", "SENDER"), ("commands", "RECEIVER"), ("tokens", "RECEIVER"),
-                          ("sessions", "SENDER"), ("cdrs", "SENDER"), ("locations", "SENDER")}, set(endpoints))
+                          ("sessions", "SENDER"), ("cdrs", "SENDER"), ("locations", "SENDER"),
+                          ("tariffs", "SENDER")}, set(endpoints))
         self.assertEqual(self.url, endpoints["credentials", "SENDER"])
         self.assertEqual(details_url + "/receiver/tokens", endpoints["tokens", "RECEIVER"])
 

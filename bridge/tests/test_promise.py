@@ -6,7 +6,7 @@ from pathlib import Path
 
 BRIDGE = Path(__file__).resolve().parents[1]
 SEEDS = (2, 3, 4)
-ENDS_WITHIN = 230.0
+ENDS_WITHIN = 700.0
 
 
 class Promise(unittest.IsolatedAsyncioTestCase):

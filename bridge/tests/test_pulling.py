@@ -12,11 +12,12 @@ from ocpi_bridge.events import Outcome, Packet
 from ocpi_bridge.node.feeder import OutcomeLost
 from ocpi_bridge.ocpi.exchange import NoResponse
 from ocpi_bridge.ocpi.objects import Objects
+from ocpi_bridge.ocpi.places import Places
 from ocpi_bridge.ocpi.pulling import Pulling
 from ocpi_bridge.records import Event
 
 from .client_cases import ClientCase
-from .ocpi_objects import session, token
+from .ocpi_objects import evse, location, session, tariff, token
 from .ocpi_party import OcpiParty, Received, answered
 from .running import eventually
 
@@ -30,7 +31,7 @@ class Sessions(ClientCase):
     def begin(self) -> None:
         super().begin()
         self.objects = Objects(self.state)
-        self.pulling = Pulling(self.client, self.objects, self.state, is_operator=False)
+        self.pulling = Pulling(self.client, self.objects, self.state, False, Places(self.state))
 
     async def feed(self, event: Event) -> Outcome:
         """Takes an object as a node does that accepts it."""
@@ -52,7 +53,7 @@ class Sessions(ClientCase):
     async def pull(self) -> list[str]:
         """Pulls once, and gives the ids of what was handed on."""
         before = len(self.delivered)
-        await self.pulling._pull(self.client.partners.of("BE/BEC"), "put_session")
+        await self.pulling._pull(self.client.partners.of("BE/BEC"), "sessions")
         return [packet.body["id"] for packet in self.delivered[before:]]
 
     def asked_from(self) -> list[str]:
@@ -170,6 +171,61 @@ class TwoPartners(Sessions):
         self.assertGreater(len(self.other.requests), 3)
 
 
+class PlacesOfNodes(ClientCase):
+    """A provider's bridge, and an operator whose locations and tariffs no node hands on."""
+
+    def begin(self) -> None:
+        super().begin()
+        self.places = Places(self.state)
+        self.pulling = Pulling(self.client, Objects(self.state), self.state, False, self.places)
+
+    async def pull(self, module: str) -> None:
+        await self.pulling._pull(self.client.partners.of("BE/BEC"), module)
+
+    async def test_all_pages_are_held_and_then_what_is_new(self) -> None:
+        self.party.interfaces["tariffs"] = "SENDER"
+        self.party.lists["tariffs"] = [tariff("BE/BEC")]
+        self.party.lists["locations"] = [
+            location("BE/BEC", evse("E1"), id=f"LOC{number}", last_updated=f"2025-01-01T10:0{number}:00Z")
+            for number in range(3)]
+        for module in ("tariffs", "locations"):
+            await self.pull(module)
+        self.assertEqual(["T1"], [held["id"] for held in self.places.tariffs(9)])
+        self.assertEqual(["LOC2", "LOC1", "LOC0"], [held["id"] for held in self.places.locations(9)])
+        self.assertEqual([], self.delivered)
+        # What was pushed meanwhile is newer than what is listed.
+        self.places.change("BE/BEC", ["LOC0", "E1"], {
+            "status": "CHARGING", "last_updated": "2025-01-01T11:00:00Z"}, False)
+        self.party.lists["locations"][0] |= {"name": "Market"}
+        self.state.query("DELETE FROM list_pulled")
+        self.begin()
+        await self.pull("locations")
+        self.assertEqual(["CHARGING", "AVAILABLE", "AVAILABLE"],
+                         [held["evses"][0]["status"] for held in self.places.locations(9)])
+
+    async def test_what_is_anothers_or_does_not_fit_is_passed_over(self) -> None:
+        right = location("BE/BEC")
+        for number, wrong in enumerate([7, {}, {**right, "city": None}, {**right, "evses": [{}]}, location("FR/XXX")]):
+            async def gives(received: Received) -> web.StreamResponse:
+                return answered([wrong, {**right, "id": f"LOC{number}"}])
+            self.party.answers["locations"] = gives
+            self.state.query("DELETE FROM list_pulled")
+            await self.pull("locations")
+        self.assertEqual({f"LOC{number}" for number in range(5)}, {held["id"] for held in self.places.locations(9)})
+
+    async def test_an_operator_that_begins_to_list_its_tariffs(self) -> None:
+        self.party.lists["tariffs"] = [tariff("BE/BEC")]
+        with (patch("ocpi_bridge.ocpi.pulling.SECONDS_WITHOUT_A_LIST", 0.1),
+              self.assertNoLogs("ocpi_bridge", "WARNING")):
+            task = asyncio.create_task(self.pulling.run())
+            self.addCleanup(task.cancel)
+            await self.party.came("locations")
+            self.assertEqual([], self.asked("tariffs"))
+            self.party.interfaces["tariffs"] = "SENDER"
+            await self.party.came("tariffs")
+        self.assertEqual([], self.asked("sessions", "cdrs"))
+
+
 class Tokens(ClientCase):
     """An operator's bridge, and a provider one of whose tokens the node refuses."""
 
@@ -182,8 +238,8 @@ class Tokens(ClientCase):
 
     async def test_a_drivers_token_stands_in_no_log(self) -> None:
         self.party.lists["tokens"] = [token("NL/TNM", "SHOWN")]
-        pulling = Pulling(self.client, Objects(self.state), self.state, is_operator=True)
+        pulling = Pulling(self.client, Objects(self.state), self.state, True, Places(self.state))
         with self.assertLogs("ocpi_bridge", "INFO") as logs:
-            await pulling._pull(self.client.partners.of("NL/TNM"), "put_token")
+            await pulling._pull(self.client.partners.of("NL/TNM"), "tokens")
         self.assertIn("the node refuses an object", logs.output[-1])
         self.assertNotIn("SHOWN", "".join(logs.output))

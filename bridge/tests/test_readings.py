@@ -16,7 +16,7 @@ class ReadingTest(OcppCase):
         """How many readings were dropped, as the metric tells and as the page shows."""
         line = next(line for line in self.operating.metrics.text().splitlines()
                     if line.startswith("ocpi_readings_dropped_total "))
-        return int(line.split()[1]), len(self.operating.central_system.warnings(50))
+        return int(float(line.split()[1])), len(self.operating.central_system.warnings(50))
 
     async def end_by(self, **members: object) -> None:
         self.assertEqual({}, await self.station.call("StopTransaction", transactionId=self.transaction, **members))
@@ -60,7 +60,7 @@ class ReadingTest(OcppCase):
         await self.station.meter(self.transaction, "5000", 36)
         with self.assertLogs("ocpp", "WARNING") as logged:
             await self.station.end(self.transaction, 4000, 40)
-        self.assertIn("meterStop is below a reading, which is billed: 4.0000 kWh", logged.output[0])
+        self.assertIn("its last reading is below another one, which is billed: 4.0000 kWh", logged.output[0])
         self.assertEqual(["4.0000"], self.operating.bills())
 
     async def test_a_reading_that_is_not_at_the_outlet_is_read_past(self) -> None:

@@ -141,7 +141,7 @@ class OperatorServer(ServerCase):
         self.assertNotIn("X-Serial", answer.headers)
 
     async def test_paths_and_methods_that_are_not_there(self) -> None:
-        for path in ("sender/sessions/", "receiver/sessions/NL/TNM/1", "receiver/tokens/NL/TNM", "sender/tariffs",
+        for path in ("sender/sessions/", "receiver/sessions/NL/TNM/1", "receiver/tokens/NL/TNM", "sender/tokens",
                      "sender/commands/results/1", "receiver/tokens/NL/TNM/AA01/x"):
             answer = await self.ask("node", "GET", path)
             self.assertEqual(answer.told, (404, 2000), path)
@@ -256,5 +256,5 @@ class OperatorServer(ServerCase):
         self.assertEqual([record.getMessage() for record in logs.records],
                          ["NL/TNM GET /ocpi/2.2.1/receiver/tokens/{country_code}/{party_id}/{identifier}: 404",
                           "unknown GET unknown path: 401"])
-        counted = 'ocpi_http_requests_total{direction="in",partner="NL/TNM",status="404"} 1'
+        counted = 'ocpi_http_requests_total{direction="in",partner="NL/TNM",status="404"} 1.0'
         self.assertIn(counted, self.metrics.text().splitlines())

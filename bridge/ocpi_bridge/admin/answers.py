@@ -3,18 +3,28 @@ import asyncio
 import hashlib
 from collections.abc import Callable, Coroutine
 from functools import partial
-from typing import Any, Final
+from typing import Any, Final, TypedDict
 
 from aiohttp import web
 
 from ..clock import Clock
-from ..json_text import Members, read_json, write_json
-from ..records import Event
+from ..json_text import read_json, write_json
+from ..records import Done, Event, PacketLine
 from ..state import State
 
+
+class Told(TypedDict, total=False):
+    """The body of an answer: what came of an event, or why it was refused, and what a charge point says to it."""
+
+    error: str
+    done: Done
+    packets: list[PacketLine]
+    charge_point: str
+
+
 # The status and the body of an answer.
-Told = tuple[int, Members]
-LOST: Told = 504, {"error": "carried out, but a stop of the node lost what came of it: see the lists"}
+Answer = tuple[int, Told]
+LOST: Answer = 504, {"error": "carried out, but a stop of the node lost what came of it: see the lists"}
 # The member of an event that has the address, the key and the digest of its request.
 MARK: Final = "idempotency"
 LONGEST_KEY = 255
@@ -27,9 +37,10 @@ class Answers:
 
     def __init__(self, state: State, clock: Clock) -> None:
         self._state, self._clock = state, clock
-        self._begun: dict[tuple[str, str], tuple[str, asyncio.Task[Told]]] = {}
+        self._begun: dict[tuple[str, str], tuple[str, asyncio.Task[Answer]]] = {}
 
-    async def once(self, path: str, key: str, text: str, feed: Callable[[Members], Coroutine[Any, Any, Told]]) -> Told:
+    async def once(self, path: str, key: str, text: str,
+                   feed: Callable[[Event], Coroutine[Any, Any, Answer]]) -> Answer:
         """The first answer to a key at an address: one that is kept or under way, or else what `feed` gives.
 
         `feed` gets what its event is marked by. Raises HTTPException where the key is none, or that of another text.
@@ -49,13 +60,13 @@ class Answers:
         _compare(begun, digest)
         return await asyncio.shield(task)
 
-    def _end(self, name: tuple[str, str], task: asyncio.Task[Told]) -> None:
+    def _end(self, name: tuple[str, str], task: asyncio.Task[Answer]) -> None:
         """Whoever awaits a task is told how it failed, and where nobody does, nobody has to be."""
         del self._begun[name]
         if not task.cancelled():
             task.exception()
 
-    def keep(self, event: Event, told: Told) -> None:
+    def keep(self, event: Event, told: Answer) -> None:
         """Keeps an answer, and forgets those that are old."""
         now = self._clock.seconds()
         self._state.query("DELETE FROM answer_given WHERE at < ?", now - SECONDS_KEPT)

@@ -5,13 +5,13 @@ from typing import cast
 from aiohttp import web
 
 from ..events import Events, Outcome
-from ..json_text import Members, write_json
+from ..json_text import JsonObject, write_json
 from ..node.feeder import Feeder
 from ..ocpi.locations import Locations
 from ..ocpi.objects import Objects
 from ..ocpp.central_system import CentralSystem
 from ..records import Event
-from .answers import MARK, Answers, Told
+from .answers import MARK, Answer, Answers, Told
 
 # The addresses that feed an event, and whether it is an operator's.
 EVENTS = {"/orders": ("submit", False), "/tokens": ("token", False), "/credits": ("credit", True),
@@ -29,7 +29,7 @@ class Feeding:
         self._events, self._feeder, self._objects, self._answers = events, feeder, objects, answers
         self._locations, self._central_system, self._takes_orders = locations, central_system, takes_orders
 
-    async def feed(self, path: str, body: Members, key: str | None) -> Told:
+    async def feed(self, path: str, body: JsonObject, key: str | None) -> Answer:
         """Feeds what a request to an address asks for, under an `Idempotency-Key` where it has one.
 
         Raises HTTPException where nothing was done, and what feeding raises.
@@ -38,7 +38,7 @@ class Feeding:
             return await self._feed(path, body)
         return await self._answers.once(path, key, write_json(body), lambda mark: self._feed(path, body, mark))
 
-    async def _feed(self, path: str, body: Members, mark: Members | None = None) -> Told:
+    async def _feed(self, path: str, body: JsonObject, mark: Event | None = None) -> Answer:
         """Of `service` the node is told first, so that nothing new is let charge there while the charge point is asked.
         It has `owner`: no charge point takes it back. The node reads past that, and past the mark of a key.
         """
@@ -47,26 +47,31 @@ class Feeding:
             raise web.HTTPServiceUnavailable(text="nothing was done: too many orders wait for the operator")
         if event in ("service", "fault") and self._lacks_evse(body.get("evse_uid")):
             raise web.HTTPNotFound(text="nothing was done: the site has no EVSE of that evse_uid")
-        members = {"token": body} if event == "token" else body | {"owner": True} if event == "service" else body
+        members: JsonObject = {"token": body} if event == "token" else body
+        if event == "service":
+            members["owner"] = True
         outcome = await self._feeder.feed(cast(Event, {**members, **(mark or {}), **self._events.make(event)}))
         status, told = self._told(outcome)
         if event == "service" and status == 200 and self._central_system is not None:
-            told["charge_point"] = await self._central_system.change_availability(body["evse_uid"], body["in_service"])
+            told["charge_point"] = await self._central_system.change_availability(
+                outcome.event["evse_uid"], outcome.event["in_service"])
         return status, told
 
     def _lacks_evse(self, evse_uid: object) -> bool:
         """Whether a text is the uid of no EVSE. (What is no text the node refuses.)"""
         return isinstance(evse_uid, str) and self._locations is not None and not self._locations.has_evse(evse_uid)
 
-    def _told(self, outcome: Outcome) -> Told:
+    def _told(self, outcome: Outcome) -> Answer:
         """The status and the body that tell an outcome."""
-        told: Members = {"done": outcome.done, "packets": [packet.members() for packet in outcome.packets]}
+        told: Told = {"done": outcome.done, "packets": [packet.members() for packet in outcome.packets]}
         if outcome.word not in ("stepped", "idle"):
             words = " ".join(str(word) for word in map(outcome.done.get, ("done", "name", "field")) if word is not None)
-            return 400 if outcome.word == "malformed" else 409, {"error": f"the node does not do it: {words}", **told}
+            told["error"] = f"the node does not do it: {words}"
+            return 400 if outcome.word == "malformed" else 409, told
         if outcome.event["event"] == "credit" and outcome.word == "idle":
             status, words = self._why_no_credit(str(outcome.event["session_id"]))
-            return status, {"error": f"nothing was done: {words}", **told}
+            told["error"] = f"nothing was done: {words}"
+            return status, told
         return 200, told
 
     def _why_no_credit(self, session_id: str) -> tuple[int, str]:

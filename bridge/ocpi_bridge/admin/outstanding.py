@@ -1,19 +1,17 @@
 """What is outstanding: commands without a result, pushes without an acknowledgement, and what a provider owes."""
 from collections.abc import Callable
 from decimal import Decimal
-from typing import cast
 
 from ..clock import moment_of
 from ..events import Outcome, Packet
-from ..json_text import Members, read_json, write_json
+from ..json_text import JsonObject, read_json, write_json
 from ..ocpi.objects import Objects, ten_thousandths
+from ..ocpi.packets import COMMANDS
 from ..parties import party_key
 from ..records import Body
 from ..state import State
 
-COMMANDS = ("start_session", "stop_session", "reserve_now", "cancel_reservation", "unlock_connector")
-# Each push, and the members that say what it is about. A newer one about the same, to the same party, takes its place.
-PUSHES = {"command_result": ["response_url"], "put_session": ["id"], "post_cdr": ["id"], "put_token": ["type", "uid"]}
+PUSHES = ("command_result", "put_session", "post_cdr", "put_token")
 
 
 class Outstanding:
@@ -29,10 +27,8 @@ class Outstanding:
             self._forget_answered(outcome)
         for packet in outcome.packets:
             if packet.kind in PUSHES:
-                body = cast(Members, packet.body)
-                subject = " ".join([packet.kind, *(str(body[name]).upper() for name in PUSHES[packet.kind])])
                 self._state.query("INSERT OR REPLACE INTO push_that_waits (receiver, subject, request)"
-                                  " VALUES (?, ?, ?)", party_key(packet.receiver), subject, packet.request)
+                                  " VALUES (?, ?, ?)", party_key(packet.receiver), _subject(packet), packet.request)
             elif packet.kind in COMMANDS:
                 self._state.query("INSERT OR IGNORE INTO command_given (request, operator, kind, body)"
                                   " VALUES (?, ?, ?, ?)", packet.request, party_key(packet.receiver), packet.kind,
@@ -66,7 +62,7 @@ class Outstanding:
             self._state.query("INSERT OR IGNORE INTO owed_for (operator, record, currency, amount) VALUES (?, ?, ?, ?)",
                               sender, party_key(body["id"]), body["currency"], amount)
 
-    def commands(self, most: int = 1000) -> list[Members]:
+    def commands(self, most: int = 1000) -> list[JsonObject]:
         """The newest commands that a provider gave, the newest first, with when (`at`), what was answered and what came
         of each."""
         return [{"number": number, "at": None if at is None else moment_of(at / 1000), "operator": operator,
@@ -84,8 +80,16 @@ class Outstanding:
         """How many pushes wait for an acknowledgement."""
         return int(self._state.query("SELECT COUNT(*) FROM push_that_waits")[0][0])
 
-    def owed(self) -> list[Members]:
+    def owed(self) -> list[JsonObject]:
         """What a provider owes each operator in each currency, to four decimals."""
         return [{"operator": operator, "currency": currency, "amount": ten_thousandths(amount)}
                 for operator, currency, amount in self._state.query(
                     "SELECT operator, currency, SUM(amount) FROM owed_for GROUP BY operator, currency ORDER BY 1, 2")]
+
+
+def _subject(push: Packet) -> str:
+    """What a push is about. A newer one about the same, to the same party, takes its place."""
+    body = push.body
+    about = (body["response_url"] if push.kind == "command_result" else
+             f"{body['type']} {body['uid']}" if push.kind == "put_token" else body["id"])
+    return f"{push.kind} {about.upper()}"

@@ -18,15 +18,17 @@ from aiohttp import web
 
 from .. import __version__
 from ..backup import copy_together
-from ..configuration import Configuration
+from ..clock import milliseconds_of
+from ..configuration import Configuration, WrongConfiguration
 from ..events import Events
-from ..json_text import Members, NotJson, NumberTooLarge, read_json, write_json
+from ..json_text import JsonObject, NotJson, NumberTooLarge, read_json, write_json
 from ..metrics import Metrics
 from ..node.feeder import NodeEnded, OutcomeLost
 from ..node.revocable import RevocableFeeder
 from ..ocpi.client import Client
 from ..ocpi.locations import Locations
 from ..ocpi.objects import Objects
+from ..ocpi.places import Places
 from ..ocpp.central_system import CentralSystem
 from ..room import NoRoom
 from ..state import State
@@ -60,16 +62,17 @@ class Admin:
     """All these addresses. What `feeding` and `outstanding` note of each outcome they have to be told."""
 
     def __init__(self, configuration: Configuration, state: State, events: Events, feeder: RevocableFeeder,
-                 objects: Objects, client: Client, metrics: Metrics, locations: Locations | None,
-                 central_system: CentralSystem) -> None:
-        """`locations` are an operator's."""
+                 objects: Objects, client: Client, metrics: Metrics, locations: Locations | None, places: Places,
+                 central_system: CentralSystem, reload: Callable[[], Awaitable[None]]) -> None:
+        """`locations` are an operator's, `places` a provider's. `reload` has the configuration read again."""
+        self._clock, self._objects, self._reload = events.clock, objects, reload
         self._configuration, self._state, self._feeder, self._metrics = configuration, state, feeder, metrics
-        self._clock = events.clock
         self.feeding = Feeding(
             events, feeder, objects, Answers(state, events.clock), locations,
             None if configuration.ocpp is None else central_system, client.takes_orders)
         self.outstanding = outstanding = Outstanding(state, objects, lambda: feeder.is_open)
-        self._shown = Shown(configuration, objects, outstanding, client, locations, central_system)
+        self._shown = Shown(configuration, events.clock, objects, outstanding, client, locations, places,
+                            central_system)
         is_operator = configuration.is_operator
         metrics.gauge("ocpi_unacknowledged_pushes", outstanding.pushes)
         metrics.gauge("ocpi_open_commands",
@@ -77,7 +80,12 @@ class Admin:
         metrics.gauge("ocpi_charge_points_connected", central_system.connected_count)
         if is_operator:
             metrics.gauge("ocpi_silent_sessions", central_system.silent_count)
+        lists: dict[str, Callable[[], Sequence[object]]] = {
+            "/locations": partial(places.locations, MOST_LISTED), "/tariffs": partial(places.tariffs, MOST_LISTED)}
+        if locations is not None:
+            lists = {"/locations": locations.all, "/tariffs": locations.tariffs.all}
         self._lists: dict[str, Callable[[], Sequence[object]]] = {
+            **lists,
             **{f"/{module}": partial(objects.newest, module, MOST_LISTED) for module in ("sessions", "cdrs", "tokens")},
             "/commands": lambda: central_system.commands() if is_operator else outstanding.commands(),
             "/charge_points": central_system.charge_points, "/partners": client.told}
@@ -86,9 +94,10 @@ class Admin:
         application = web.Application(middlewares=[_guard], client_max_size=1 << 20)
         application.add_routes([
             *(web.post(path, self._feed) for path in EVENTS), *(web.get(path, self._list) for path in self._lists),
-            web.post("/backup", self._backup), web.get("/metrics", self._metrics_text),
+            web.post("/backup", self._backup), web.post("/reload", self._read_again),
+            web.get("/metrics", self._metrics_text),
             web.get("/totals", self._totals), web.get("/health", self._health), web.get("/events", self._stream),
-            web.get("/openapi.json", _openapi), web.get("/", _page), web.get(r"/{file:page\.(js|css)}", _page)])
+            web.get("/openapi.json", _page), web.get("/", _page), web.get(r"/{file:page\.(js|css)}", _page)])
         return application
 
     async def _list(self, request: web.Request) -> web.Response:
@@ -118,6 +127,12 @@ class Admin:
         except (OSError, sqlite3.Error) as fault:
             raise web.HTTPConflict(text=f"to: no copy was made: {getattr(fault, 'strerror', fault)}") from None
         return _answer({"bytes": size, "seconds": round(time.monotonic() - began, 3)})
+
+    async def _read_again(self, request: web.Request) -> web.Response:
+        """Has the configuration read again. What is wrong there is told, and the old one goes on."""
+        await self._body(request)
+        await self._reload()
+        return _answer({})
 
     async def _metrics_text(self, _: web.Request) -> web.Response:
         return web.Response(text=self._metrics.text(), headers={"Content-Type": "text/plain; version=0.0.4"})
@@ -154,11 +169,12 @@ class Admin:
     async def _totals(self, request: web.Request) -> web.Response:
         """The totals of the bills of a time, such as a day."""
         try:
-            return _answer(self._shown.totals(request.query["date_from"], request.query["date_to"]))
+            moments = [milliseconds_of(request.query[name]) for name in ("date_from", "date_to")]
+            return _answer(self._objects.totals(*moments))
         except (KeyError, ValueError, OverflowError):
             raise web.HTTPBadRequest(text="date_from, date_to: wanted are two moments") from None
 
-    async def _body(self, request: web.Request, is_operators: bool | None = None) -> Members:
+    async def _body(self, request: web.Request, is_operators: bool | None = None) -> JsonObject:
         """The JSON object that a request carries, where the node has the role that the request wants."""
         if not self._state.room.is_there:
             raise NoRoom()
@@ -177,11 +193,7 @@ def _answer(value: object, status: int = 200) -> web.Response:
 
 
 async def _page(request: web.Request) -> web.FileResponse:
-    return web.FileResponse(PAGE / request.match_info.get("file", "page.html"), headers=HEADERS)
-
-
-async def _openapi(_: web.Request) -> web.FileResponse:
-    return web.FileResponse(Path(__file__).with_name("openapi.json"), headers=HEADERS)
+    return web.FileResponse(PAGE / (request.path[1:] or "page.html"), headers=HEADERS)
 
 
 @web.middleware
@@ -196,6 +208,8 @@ async def _guard(request: web.Request, handler: Handler) -> web.StreamResponse:
         return await handler(request)
     except web.HTTPException as refusal:
         return _answer({"error": refusal.text}, refusal.status)
+    except WrongConfiguration as wrong:
+        return _answer({"error": str(wrong)}, 409)
     except tuple(FAILURES) as failure:
         status, words = FAILURES[type(failure)]
         return _answer({"error": words}, status)

@@ -2,13 +2,17 @@
 import asyncio
 import logging
 from asyncio.subprocess import PIPE, Process
+from collections import deque
 from collections.abc import Callable, Iterator
 from contextlib import contextmanager, suppress
 from functools import partial
 from pathlib import Path
+from typing import cast
 
 from ..configuration import NodeSettings
-from ..json_text import Members, read_json
+from ..events import Packet
+from ..json_text import read_json
+from ..records import Done
 from ..room import FULL
 from ..state import State
 from .transcript import Transcript
@@ -26,7 +30,12 @@ class ChildEnded(Exception):
 
 
 class Child:
-    """A running program. It is in a session of its own, so that a signal from the terminal reaches the bridge alone."""
+    """A running program. It is in a session of its own, so that a signal from the terminal reaches the bridge alone.
+
+    `state` is to be set before it is opened: that has to be on the disk before a line is fed.
+    """
+
+    state: State
 
     def __init__(self, process: Process, settings: NodeSettings, is_known: bool) -> None:
         assert process.stdin and process.stdout and process.stderr
@@ -34,8 +43,8 @@ class Child:
         self._settings, self._is_known = settings, is_known
         self._transcript: Transcript | None = None
         self._refusal, self.found_lock, self.found_no_room = 0, False, False
-        # The state that has to be on the disk before a line is fed, where there is one.
-        self.state: State | None = None
+        # What it said last on standard error, or why the bridge does not take it.
+        self.words = deque[str](maxlen=10)
         # Whether the store has to be the very one that was copied with the state.
         self.is_backup = False
         # Whether the output ended within a line, or the transcript has not all of it.
@@ -59,7 +68,7 @@ class Child:
         """
         await self.write(self._settings.setup_line)
         line = await self._next_line()
-        opened: Members = read_json(line)
+        opened: Done = read_json(line)
         if opened["done"] != "opened":
             self._refusal, fault = 2, "the node refuses its setup"
         elif opened["serial"] < last_seen:
@@ -69,11 +78,12 @@ class Child:
         elif opened["rows"] > 0 and not (self._is_known or self._settings.takes_new_state):
             self._refusal, fault = 3, NEW_STATE
         if self._refusal:
-            LOG.error("%s: %s", fault, line.decode().rstrip())
+            self.words.append(f"{fault}: {line.decode().rstrip()}")
+            LOG.error("%s", self.words[-1])
             raise ChildEnded()
         if self._settings.transcript is not None:
             await self._record(partial(self._begin_transcript, self._settings.transcript, line))
-        return int(opened["serial"])
+        return opened["serial"]
 
     def _begin_transcript(self, path: Path, line: bytes) -> None:
         self._transcript = Transcript(path)
@@ -83,25 +93,21 @@ class Child:
     async def _record(self, write: Callable[[], None]) -> None:
         """Writes to the transcript, by the thread that waits for the disk. Raises NoRoom."""
         with self._noting_room():
-            if self.state is None:
-                write()
-            else:
-                await self.state.in_writer(write)
+            await self.state.in_writer(write)
 
     @contextmanager
     def _noting_room(self) -> Iterator[None]:
         try:
             yield
         except OSError as fault:
-            if fault.errno in FULL and self.state is not None and self._settings.transcript is not None:
+            if fault.errno in FULL and self._settings.transcript is not None:
                 raise self.state.room.lacks("transcript", self._settings.transcript) from None
             raise
 
     async def write(self, line: str) -> None:
         """Feeds a line. The transcript has it before the program does. Raises ChildEnded and NoRoom."""
         ended = line.encode() + b"\n"
-        if self.state is not None:
-            await self.state.synced()
+        await self.state.synced()
         if self._transcript is not None:
             await self._record(partial(self._transcript.echo, ended))
         try:
@@ -110,16 +116,17 @@ class Child:
         except ConnectionError:
             raise ChildEnded() from None
 
-    async def read(self) -> Members:
-        """The next line that the program writes. Raises ChildEnded where there is none, or where it was cut, and
-        NoRoom."""
+    async def read(self) -> Packet | Done:
+        """What the next line says that the program writes. Raises ChildEnded where there is none, or where it was cut,
+        and NoRoom."""
         line = await self._next_line()
         if self._transcript is not None:
             self.was_cut = True
             with self._noting_room():
                 self._transcript.append(line)
             self.was_cut = False
-        return dict(read_json(line))
+        told = read_json(line)
+        return Packet.of(told) if "kind" in told else cast(Done, told)
 
     async def _next_line(self) -> bytes:
         line = await self._output.readline()
@@ -144,6 +151,7 @@ class Child:
     async def _log_errors(self, errors: asyncio.StreamReader) -> None:
         async for line in errors:
             text = line.decode(errors="replace").rstrip()
+            self.words.append(text)
             self.found_lock = self.found_lock or LOCKED in text
             self.found_no_room = self.found_no_room or NO_ROOM in text
             LOG.warning("%s", text)

@@ -13,13 +13,13 @@ import time
 from collections import deque
 from collections.abc import Awaitable, Callable, Iterable
 from contextlib import suppress
-from typing import TypeVar, cast
+from typing import TypeVar
 
 from ..configuration import NodeSettings
 from ..events import Events, Outcome, Packet
 from ..json_text import write_json
 from ..metrics import Metrics
-from ..records import Done, Event, PacketLine
+from ..records import Event
 from ..state import State
 from .child import Child, ChildEnded
 from .lines import Line, Waiting, kept_line, next_line
@@ -210,12 +210,12 @@ class Feeder:
         while True:
             output = await child.read()
             line.is_fed_again = False
-            if "kind" in output:
-                packets.append(Packet.of(cast(PacketLine, output)))
-                self._serial = packets[-1].serial
+            if isinstance(output, Packet):
+                packets.append(output)
+                self._serial = output.serial
                 continue
             if "event" in output or not line.is_array:
-                outcomes.append(Outcome(line.waiting[output.get("event", 0)].event, cast(Done, output), tuple(packets)))
+                outcomes.append(Outcome(line.waiting[output.get("event", 0)].event, output, tuple(packets)))
                 packets = []
             if "event" not in output:
                 break

@@ -1,14 +1,16 @@
 """A feeder whose events may be revoked while they wait. It tells what a stop left, and waits where a disk is full."""
 import asyncio
 from collections.abc import Callable
+from contextlib import suppress
+from dataclasses import replace
 
-from ..configuration import NodeSettings
+from ..configuration import NodeSettings, refuse
 from ..events import Events, Outcome
 from ..metrics import Metrics
 from ..records import Event
 from ..room import NoRoom
 from ..state import State
-from .child import Child
+from .child import Child, ChildEnded
 from .feeder import Feeder
 from .lines import Line
 
@@ -23,6 +25,22 @@ class RevocableFeeder(Feeder):
         super().__init__(settings, events, state, metrics)
         # Called with the events of the line that a stop left, before the node is opened anew.
         self.before_opening: list[Callable[[list[Event]], None]] = []
+
+    async def reload(self, settings: NodeSettings, take: Callable[[], None]) -> None:
+        """Starts the node again with another setup, where it takes that over its store, and calls `take` before.
+
+        Raises WrongConfiguration where it does not, and NodeEnded.
+        """
+        async def change() -> None:
+            child = await Child.start(replace(settings, transcript=None), True)
+            child.state = self._state
+            with suppress(ChildEnded):
+                await child.open(self._serial)
+            if await child.end() != 0:
+                refuse("node.setup", "; ".join(child.words) or "the node does not take it")
+            self._settings = settings
+            take()
+        await self.while_closed(change)
 
     def revoke(self, event: Event) -> bool:
         """Takes back an event that nobody awaits any more. False where it stands in a line already, or is done."""

@@ -7,17 +7,18 @@ import asyncio
 import logging
 from collections.abc import Awaitable, Callable
 from contextlib import suppress
-from typing import Any, cast
+from typing import cast
 
 from ..clock import Clock, milliseconds_of, moment_of
 from ..configuration import Configuration
 from ..events import Events, Outcome, Packet
-from ..json_text import Members, NotJson, read_json, write_json
+from ..json_text import JsonObject, NotJson, read_json, write_json
 from ..node.feeder import NodeEnded, repeated
 from ..parties import party_key
-from ..records import Body, Event
+from ..records import Body, Data, Event
 from ..room import NoRoom
 from ..state import State
+from ..tasks import Tasks
 from .envelope import INVALID, SUCCESS, routing_headers
 from .exchange import Exchange, NoAddress, NoResponse, NotSent, Response
 from .lanes import AT_ONCE, Lanes
@@ -25,6 +26,7 @@ from .orders import Orders
 from .packets import AGED, COMMANDS, FORMS, path_of
 from .partners import Endpoints, Partner, Partners
 from .requests import NODES_URL, RESULTS_PATH, Requests, SentOnce, number_in, number_of
+from .tariffs import Tariffs
 
 ONCE = ("start_session", "reserve_now", "stop_session")
 # How long a request waits for a partner that said `Retry-After`, before it is lost.
@@ -41,64 +43,67 @@ class Client:
 
     def __init__(self, configuration: Configuration, state: State, partners: Partners, exchange: Exchange,
                  requests: Requests, events: Events, feed: Callable[[Event], Awaitable[Outcome]],
-                 orders: Orders) -> None:
-        self._orders = orders
+                 orders: Orders, tariffs: Tariffs | None = None) -> None:
+        """`tariffs` are an operator's."""
+        self._orders, self._tariffs = orders, tariffs
         self._url, self._state, self._sent, self._feed = configuration.ocpi.url, state, SentOnce(state), feed
         self.partners, self.exchange, self.requests, self.events = partners, exchange, requests, events
-        self._lanes = {party_key(partner.party): Lanes(events.clock) for partner in configuration.partners}
-        self._looking_up: dict[str, asyncio.Future[Endpoints]] = {}
+        self._lanes: dict[str, Lanes] = {}
+        self._workers, self._may_send = Tasks(), asyncio.Event()
+        self._looking_up = Tasks(NoResponse)
 
     def send(self, packet: Packet) -> None:
         """Takes a request of the node, to be sent to its receiver. Where too many wait it is lost."""
-        if not self._lanes[party_key(packet.receiver)].put(packet):
+        if not self._lanes_of(packet.receiver).put(packet):
             log.warning("%s to %s: lost, too many wait", packet.kind, packet.receiver)
 
     def takes_orders(self, party: str) -> bool:
         """Whether a partner may be sent one command or result more. (Of no partner its node has a word.)"""
-        lanes = self._lanes.get(party_key(party))
-        return lanes is None or not lanes.is_full
+        return not (self.partners.has(party) and self._lanes_of(party).is_full)
 
-    def told(self) -> list[Members]:
+    def _lanes_of(self, party: str) -> Lanes:
+        """The lanes of a partner, which are there from its first request on."""
+        key = party_key(party)
+        if key not in self._lanes:
+            self._lanes[key] = Lanes(self.events.clock)
+            for number in range(AT_ONCE):
+                self._workers.begin(self._work, key, number)
+        return self._lanes[key]
+
+    def told(self) -> list[JsonObject]:
         """Each partner: how it stands (`state`), and how many requests are `waiting` for it or under way."""
         return [{"party": partner.party, "kind": partner.kind, "registered": partner.is_registered,
                  "versions_url": partner.versions_url, "state": self._state_of(partner),
-                 "waiting": self._lanes[party_key(partner.party)].waiting} for partner in self.partners.all()]
+                 "waiting": self._lanes_of(partner.party).waiting} for partner in self.partners.all()]
 
     def _state_of(self, partner: Partner) -> str:
         if not partner.is_registered:
             return "UNREGISTERED"
         if self.exchange.is_resting(partner):
             return "RESTING"
-        return "FAILING" if self._lanes[party_key(partner.party)].is_failing else "ANSWERING"
+        return "FAILING" if self._lanes_of(partner.party).is_failing else "ANSWERING"
 
     async def run(self) -> None:
-        """Sends what waits, until it is cancelled or the bridge ends."""
-        await asyncio.gather(*(self._work(lanes, number == 0) for lanes in self._lanes.values()
-                               for number in range(AT_ONCE)))
+        """Sends what waits, until it is cancelled."""
+        self._may_send.set()
+        try:
+            await asyncio.Event().wait()
+        finally:
+            self._workers.cancel()
 
     async def endpoint(self, partner: Partner, module: str, role: str) -> str:
-        """Where a module of a partner stands. Its versions are asked where nothing is known yet, once for all that
-        wait for them. Raises NoResponse."""
-        endpoints = partner.endpoints
-        if not endpoints:
-            endpoints = await self._look_up_once(partner)
+        """Where a module of a partner stands. Raises NoResponse."""
+        endpoints = partner.endpoints or await self.look_up(partner)
         if (module, role) not in endpoints:
             raise NoAddress(f"it lists no {module} {role}")
         return endpoints[module, role]
 
-    async def _look_up_once(self, partner: Partner) -> Endpoints:
-        def end(ended: asyncio.Future[Endpoints]) -> None:
-            del self._looking_up[key]
-            if not ended.cancelled():
-                ended.exception()
+    async def look_up(self, partner: Partner) -> Endpoints:
+        """Asks where the modules of a partner stand by now, once for all that wait for it. Raises NoResponse."""
+        return await asyncio.shield(self._looking_up.begin(self._look_up, party_key(partner.party)))
 
-        key = party_key(partner.party)
-        if key not in self._looking_up:
-            self._looking_up[key] = asyncio.ensure_future(self._look_up(partner))
-            self._looking_up[key].add_done_callback(end)
-        return await asyncio.shield(self._looking_up[key])
-
-    async def _look_up(self, partner: Partner) -> Endpoints:
+    async def _look_up(self, party: str) -> Endpoints:
+        partner = self.partners.of(party)
         endpoints = await self.exchange.endpoints(partner)
         self.partners.set_endpoints(partner.party, partner.versions_url, endpoints)
         return endpoints
@@ -113,10 +118,13 @@ class Client:
             log.warning("%s of %s: nested too deep", packet.kind, packet.sender)
             return None
 
-    async def _work(self, lanes: Lanes, urgent_alone: bool) -> None:
-        """Sends one request after the other: any, or those alone that are awaited by somebody."""
+    async def _work(self, party: str, number: int) -> None:
+        """Sends a partner one request after the other. The first of its workers sends those alone that are awaited by
+        somebody."""
+        lanes = self._lanes[party]
+        await self._may_send.wait()
         while True:
-            packet, failures = await lanes.take(urgent_alone)
+            packet, failures = await lanes.take(urgent_alone=number == 0)
             was_answered = False
             try:
                 was_answered = await self._send(packet)
@@ -127,7 +135,10 @@ class Client:
             await lanes.finish(packet, failures, was_answered)
 
     async def _send(self, packet: Packet) -> bool:
-        """Sends one request. True where its partner answered, be it by an error, or where it is not asked at all."""
+        """Sends one request. True where its partner answered, be it by an error, or where it is not asked at all, as
+        one that is no partner any more."""
+        if not self.partners.has(packet.receiver):
+            return True
         partner = self.partners.of(packet.receiver)
         kept = self._sent.answer(packet) if _is_sent_once(packet, partner) else None
         may_ask = kept is None and await self.exchange.may_ask(partner, LONGEST_WAIT)
@@ -174,12 +185,12 @@ class Client:
             await self.deliver(answer)
         return response.status < 500 and response.status not in TRANSIENT
 
-    async def _request(self, packet: Packet, partner: Partner) -> tuple[str, str, Members | None]:
+    async def _request(self, packet: Packet, partner: Partner) -> tuple[str, str, object]:
         """The URL of the request that a packet is, the same as logs tell it, and its body. Raises NoResponse.
 
         No log tells a driver's token.
         """
-        form, body = FORMS[packet.kind], cast(Members, packet.body)
+        form, body = FORMS[packet.kind], packet.body.copy()
         if packet.kind == "command_result":
             url: str | None = body["response_url"]
             if partner.kind == "node":
@@ -189,10 +200,13 @@ class Client:
                 raise NoAddress("its result has no address")
             return url, url, {"result": body["result"]}
         if packet.kind in COMMANDS:
-            body = {**body, "response_url": self._url + RESULTS_PATH + body["response_url"].rpartition("/")[2]}
+            body["response_url"] = self._url + RESULTS_PATH + body["response_url"].rpartition("/")[2]
+        if packet.kind == "post_cdr" and partner.kind == "ocpi" and self._tariffs is not None:
+            body = self._tariffs.in_bill(body)
         address = await self.endpoint(partner, form.module, form.role)
+        hidden: JsonObject = {**packet.body, "uid": "...", "token_uid": "..."}
         url, told = (address.rstrip("/") + path_of(form.path, members) if form.path else address
-                     for members in (body, {**body, "uid": "...", "token_uid": "..."}))
+                     for members in (body, hidden))
         return url, told, body.get("location") if packet.kind == "authorize" else body
 
 
@@ -229,18 +243,20 @@ def answer_of(packet: Packet, kind: str, response: Response, clock: Clock) -> Pa
         with suppress(ValueError, OverflowError):
             body["timestamp"] = moment_of(milliseconds_of(str(response.body.get("timestamp"))) / 1000)
     if data is not None and status_code == SUCCESS and answering != "ack":
-        body["data"] = _restricted(data, packet.body.get("location")) if question and kind == "ocpi" else data
+        body["data"] = cast(Data, data)
+        if question and kind == "ocpi" and isinstance(data, dict) and data.get("allowed") == "ALLOWED":
+            body["data"]["allowed"] = _restricted(body["data"], packet.body.get("location"))
     return Packet(packet.receiver, packet.sender, serial or 0, packet.request, answering, body)
 
 
-def _restricted(data: Any, asked: Any) -> Any:
-    """An AuthorizationInfo with NOT_ALLOWED for an ALLOWED whose `location` lacks the EVSE that was asked about."""
-    if not isinstance(data, dict) or data.get("allowed") != "ALLOWED" or data.get("location") is None:
-        return data
-    return data if _evses(asked) <= _evses(data["location"]) else {**data, "allowed": "NOT_ALLOWED"}
+def _restricted(data: Data, asked: object) -> str:
+    """What an AuthorizationInfo of ALLOWED says: NOT_ALLOWED where its `location` lacks the EVSE in question."""
+    allowed_at = data.get("location")
+    return "ALLOWED" if allowed_at is None or _evses(asked) <= _evses(allowed_at) else "NOT_ALLOWED"
 
 
-def _evses(location: Any) -> set[tuple[str, str]]:
+def _evses(location: object) -> set[tuple[str, str]]:
     """The EVSEs of LocationReferences, each with its location, as they are compared."""
-    uids = location.get("evse_uids") if isinstance(location, dict) else None
-    return {(str(location.get("location_id")).upper(), str(uid).upper()) for uid in uids or []}
+    if not isinstance(location, dict):
+        return set()
+    return {(str(location.get("location_id")).upper(), str(uid).upper()) for uid in location.get("evse_uids") or []}

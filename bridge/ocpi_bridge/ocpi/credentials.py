@@ -14,7 +14,7 @@ from dataclasses import replace
 
 from ..clock import Clock
 from ..configuration import Configuration
-from ..json_text import Members
+from ..json_text import JsonObject
 from ..metrics import Metrics
 from ..parties import codes, party_key, party_of
 from ..state import State
@@ -23,8 +23,9 @@ from .exchange import VERSION, Exchange, NoResponse, OtherVersions, objects_of
 from .partners import Partner, Partners
 
 OPERATOR_MODULES = (("commands", "RECEIVER"), ("tokens", "RECEIVER"), ("sessions", "SENDER"), ("cdrs", "SENDER"),
-                    ("locations", "SENDER"))
-PROVIDER_MODULES = (("commands", "SENDER"), ("sessions", "RECEIVER"), ("cdrs", "RECEIVER"), ("tokens", "SENDER"))
+                    ("locations", "SENDER"), ("tariffs", "SENDER"))
+PROVIDER_MODULES = (("commands", "SENDER"), ("sessions", "RECEIVER"), ("cdrs", "RECEIVER"), ("tokens", "SENDER"),
+                    ("locations", "RECEIVER"), ("tariffs", "RECEIVER"))
 LOOK_UP_SECONDS = 8.0
 UNUSABLE = 3001
 UNSUPPORTED_VERSION = 3002
@@ -39,11 +40,11 @@ class Credentials:
         self._configuration, self._partners, self._exchange = configuration, partners, exchange
         self._url = f"{configuration.ocpi.url}/ocpi/{VERSION}"
 
-    def versions(self) -> list[Members]:
+    def versions(self) -> list[JsonObject]:
         """The versions that this bridge speaks."""
         return [{"version": VERSION, "url": self._url}]
 
-    def details(self) -> Members:
+    def details(self) -> JsonObject:
         """Where the modules of this bridge stand."""
         modules = OPERATOR_MODULES if self._configuration.is_operator else PROVIDER_MODULES
         endpoints = [{"identifier": module, "role": role, "url": f"{self._url}/{role.lower()}/{module}"}
@@ -51,7 +52,7 @@ class Credentials:
         own = {"identifier": "credentials", "role": "SENDER", "url": f"{self._url}/credentials"}
         return {"version": VERSION, "endpoints": [own, *endpoints]}
 
-    async def answer(self, partner: Partner, method: str, body: object) -> Members | None:
+    async def answer(self, partner: Partner, method: str, body: object) -> JsonObject | None:
         """Answers GET, POST, PUT or DELETE of the credentials by a partner. Raises Refusal."""
         if method == "GET":
             return self._own(partner.token or "")
@@ -98,7 +99,7 @@ class Credentials:
         self._partners.register(party, offered, told.their_token, told.versions_url,
                                 endpoints if told.versions_url == url else {})
 
-    def _own(self, token: str) -> Members:
+    def _own(self, token: str) -> JsonObject:
         """The credentials with which a partner reaches this bridge."""
         country, identifier = codes(self._configuration.node.party)
         role = {"role": "CPO" if self._configuration.is_operator else "EMSP", "party_id": identifier,

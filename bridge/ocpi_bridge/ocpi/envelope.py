@@ -6,7 +6,7 @@ from pathlib import Path
 
 from aiohttp import web
 
-from ..json_text import Members, read_json, write_json
+from ..json_text import read_json, write_json
 from ..parties import codes
 from ..records import Done
 
@@ -39,7 +39,7 @@ def refusal_of(done: Done) -> Refusal:
 def answer(timestamp: str, data: object = None, status_code: int = SUCCESS, message: str | None = None,
            http_status: int = 200, headers: Mapping[str, str] | None = None) -> web.Response:
     """A response in OCPI's format. `data` and `status_message` are left out where they are None."""
-    members: Members = {"data": data, "status_code": status_code, "status_message": message, "timestamp": timestamp}
+    members = {"data": data, "status_code": status_code, "status_message": message, "timestamp": timestamp}
     text = write_json({name: value for name, value in members.items() if value is not None})
     return web.Response(body=text.encode(), status=http_status, content_type="application/json", headers=headers)
 

@@ -11,7 +11,7 @@ import aiohttp
 from yarl import URL
 
 from ..clock import Clock
-from ..json_text import Members, NotJson, NumberTooLarge, read_json, write_json
+from ..json_text import JsonObject, NotJson, NumberTooLarge, read_json, write_json
 from ..metrics import Metrics
 from .envelope import SUCCESS, authorization
 from .partners import Endpoints, Partner
@@ -55,7 +55,7 @@ class Response:
 
     status: int
     headers: Mapping[str, str]
-    body: Members
+    body: JsonObject
     next_page: str | None
 
     @property
@@ -83,7 +83,7 @@ class Exchange:
             timeout=aiohttp.ClientTimeout(total=None, sock_connect=SECONDS_TO_CONNECT / clock.factor),
             auto_decompress=False, json_serialize=write_json)
 
-    async def ask(self, partner: Partner, method: str, url: str, body: Members | None = None,
+    async def ask(self, partner: Partner, method: str, url: str, body: object = None,
                   headers: Mapping[str, str] | None = None, told: str | None = None) -> Response:
         """Sends a request with the token that a partner gave, and gives what is answered. Raises NoResponse.
 
@@ -159,7 +159,7 @@ class Exchange:
     async def close(self) -> None:
         await self._session.close()
 
-    async def _ask(self, method: str, url: str, headers: Mapping[str, str], body: Members | None) -> Response:
+    async def _ask(self, method: str, url: str, headers: Mapping[str, str], body: object) -> Response:
         address = _address(url)
         async with self._session.request(method, address, headers=headers, json=body,
                                          allow_redirects=False) as response:
@@ -184,12 +184,11 @@ def _address(url: str) -> URL:
     raise NoAddress("no address of HTTP")
 
 
-def _members(text: bytes) -> Members:
-    try:
+def _members(text: bytes) -> JsonObject:
+    with suppress(NotJson, NumberTooLarge):
         body = read_json(text)
-    except (NotJson, NumberTooLarge):
-        return {}
-    return body if isinstance(body, dict) else {}
+        return body if isinstance(body, dict) else {}
+    return {}
 
 
 def objects_of(listed: object, *names: str) -> list[dict[str, str]]:

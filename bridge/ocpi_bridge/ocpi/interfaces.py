@@ -8,34 +8,29 @@ from collections.abc import Awaitable, Callable, Mapping, Sequence
 from dataclasses import dataclass
 from functools import partial
 from typing import cast
-from urllib.parse import unquote
 
 from aiohttp import web
 
-from ..clock import milliseconds_of
 from ..events import Events, Outcome, Packet
-from ..json_text import Members, read_json, write_json
+from ..json_text import JsonObject, write_json
 from ..parties import party_key, party_of, same_party
-from ..records import Body, Data, Event
+from ..records import Body, Event
+from .asked import RECEIVER, SENDER, compare, members_of, module_of, part_of, segments_of
 from .envelope import (INVALID, SERVER_ERROR, SUCCESS, UNKNOWN_LOCATION, UNKNOWN_TOKEN, Refusal, answer, is_printable,
                        refusal_of)
 from .locations import Locations
-from .objects import FOREVER, OBJECTS, Objects, Part
+from .objects import OBJECT_KINDS, OBJECTS, Objects, Part
 from .orders import LATE
 from .packets import AGED, COMMANDS, OBJECT_PATH, path_of
 from .partners import Partner
 from .requests import NODES_URL, RESULTS_PATH, Requests, digest_of, number_in, number_of, reference_of
 
 COMMAND_KINDS = {name: kind for kind, name in COMMANDS.items()}
-OBJECT_KINDS = {module: kind for kind, (module, _) in OBJECTS.items()}
-SENDER, RECEIVER = "/ocpi/2.2.1/sender", "/ocpi/2.2.1/receiver"
 # Segments of a path that may be empty, as an id may be.
 OBJECT = "{country_code:[^/]*}/{party_id:[^/]*}/{identifier:[^/]*}"
-# The longest line that a node reads, in bytes, and the longest address that a command may have. The most objects that a
-# response lists.
+# The longest line that a node reads, in bytes, and the longest address that a command may have.
 LONGEST_LINE = 1 << 20
 LONGEST_URL = 255
-MOST_LISTED = 1000
 # The most requests that wait for the node, be it that their senders wait no more.
 MOST_UNDER_WAY = 2000
 
@@ -83,12 +78,12 @@ class Interfaces:
         else:
             routes += [
                 ("POST", f"{RECEIVER}/commands/{{name:{'|'.join(COMMAND_KINDS)}}}", self.post_command),
-                ("GET", f"{SENDER}/{{module:sessions|cdrs|locations}}", self.get_list),
+                ("GET", f"{SENDER}/{{module:sessions|cdrs|locations|tariffs}}", self.get_list),
                 ("GET", SENDER + "/locations/{identifiers:[^/]*(/[^/]*){0,2}}", self.get)]
         return [web.route(method, path, handler) for method, path, handler in routes]
 
     async def post_command(self, request: web.Request) -> web.Response:
-        kind, body = COMMAND_KINDS[request.match_info["name"]], await _members(request)
+        kind, body = COMMAND_KINDS[request.match_info["name"]], await members_of(request)
         partner: Partner = request["partner"]
         if (kind == "start_session" and partner.kind == "ocpi" and not partner.own_references
                 and not body.get("authorization_reference")):
@@ -99,26 +94,26 @@ class Interfaces:
 
     async def post_result(self, request: web.Request) -> web.Response:
         url = f"{NODES_URL}{self._events.node}/{request.match_info['number']}"
-        return await self._deliver(request, "command_result", {**await _members(request), "response_url": url})
+        return await self._deliver(request, "command_result", {**await members_of(request), "response_url": url})
 
     async def authorize(self, request: web.Request) -> web.Response:
-        body: Members = {"token_uid": _segments(request)[0]}
+        body: JsonObject = {"token_uid": segments_of(request)[0]}
         if "type" in request.query:
             body["type"] = request.query["type"]
         if (await request.read()).strip():
-            body["location"] = await _members(request)
+            body["location"] = await members_of(request)
         return await self._deliver(request, "authorize", body)
 
     async def put(self, request: web.Request) -> web.Response:
         """Takes a whole session, token or CDR."""
-        body = await _members(request)
+        body = await members_of(request)
         _compare(request, body)
-        return await self._deliver(request, OBJECT_KINDS[_module(request)], body)
+        return await self._deliver(request, OBJECT_KINDS[module_of(request)], body)
 
     async def patch(self, request: web.Request) -> web.Response:
         """Puts the members of the body into the object that is held, and hands on the whole: one after another, and
         each behind what its partner asked for before."""
-        changes = await _members(request)
+        changes = await members_of(request)
         _compare(request, changes)
         if changes.get("last_updated") is None:
             raise Refusal(200, INVALID, "last_updated: missing")
@@ -126,28 +121,35 @@ class Interfaces:
             party = party_key(request["partner"].party)
             if before := [fed.outcome for key, fed in self._under_way.items() if key[0] == party]:
                 await asyncio.wait(before)
-            return await self._deliver(request, OBJECT_KINDS[_module(request)], {**self._held(request), **changes})
+            return await self._deliver(request, OBJECT_KINDS[module_of(request)], {**self._held(request), **changes})
 
     async def get(self, request: web.Request) -> web.Response:
         return answer(self._clock.moment(), self._held(request))
 
     async def get_list(self, request: web.Request) -> web.Response:
-        """The locations, the tokens, or the sessions or CDRs of the partner that asks."""
-        part, module = _part_of(request.query), _module(request)
-        listed: Sequence[object]
-        if module == "locations" and self._locations is not None:
-            count, listed = self._locations.page(part)
-        else:
-            count, listed = self._objects.page(module, "" if module == "tokens" else request["partner"].party, part)
+        """The locations, the tariffs, the tokens, or the sessions or CDRs of the partner that asks."""
+        part, module = part_of(request.query), module_of(request)
+        count, listed = self._listed(module, request["partner"], part)
         headers, following = {"X-Total-Count": str(count), "X-Limit": str(part.limit)}, part.offset + part.limit
         if following < count:
             path = request.rel_url.update_query(offset=following, limit=part.limit).raw_path_qs
             headers["Link"] = f'<{self._url}{path}>; rel="next"'
         return answer(self._clock.moment(), listed, headers=headers)
 
+    def _listed(self, module: str, partner: Partner, part: Part) -> tuple[int, Sequence[object]]:
+        """How many objects a list has by the dates of a part, and those of the part."""
+        if self._locations is None or module not in ("locations", "tariffs"):
+            count, listed = self._objects.page(module, "" if module == "tokens" else partner.party, part)
+            if self._locations is not None and module == "cdrs" and partner.kind == "ocpi":
+                listed = [self._locations.tariffs.in_bill(bill) for bill in listed]
+            return count, listed
+        if module == "tariffs":
+            return part.of(self._locations.tariffs.all())
+        return part.of(self._locations.all())
+
     def _held(self, request: web.Request) -> Mapping[str, object]:
         """What a path names: a place, or an object of the partner that asks. Raises Refusal where there is none."""
-        module, segments = _module(request), _segments(request)
+        module, segments = module_of(request), segments_of(request)
         found: Mapping[str, object] | None = None
         if module == "locations" and self._locations is not None:
             found = self._locations.find(*segments)
@@ -157,7 +159,7 @@ class Interfaces:
             raise Refusal(404, UNKNOWN_TOKEN if module == "tokens" else UNKNOWN_LOCATION, f"{module}: not held")
         return found
 
-    async def _deliver(self, request: web.Request, kind: str, body: Members) -> web.Response:
+    async def _deliver(self, request: web.Request, kind: str, body: JsonObject) -> web.Response:
         """Delivers a packet of a kind and a body, and answers as the node does. Raises Refusal."""
         partner: Partner = request["partner"]
         serial, number = await self._numbers(request, partner)
@@ -185,7 +187,8 @@ class Interfaces:
         if kind == "post_cdr" and status_code == SUCCESS:
             headers["Location"] = f"{self._url}{RECEIVER}/cdrs{path_of(OBJECT_PATH, body)}"
         if partner.kind == "ocpi" and "location" in body and data is not None and data.get("allowed") == "ALLOWED":
-            data = cast(Data, {**data, "location": body["location"]})
+            data = data.copy()
+            data["location"] = body["location"]
         # OCPI wants 404 of a question about a token that is not known. To a node's bridge it is a response like others.
         is_unknown = kind == "authorize" and status_code == UNKNOWN_TOKEN and partner.kind == "ocpi"
         return answer(sent.body["timestamp"], data, status_code, http_status=404 if is_unknown else 200,
@@ -233,47 +236,12 @@ class Interfaces:
         return serial, number
 
 
-def _module(request: web.Request) -> str:
-    return request.path.split("/")[4]
-
-
-def _segments(request: web.Request) -> list[str]:
-    """What stands behind the module in the path, without percent-encoding."""
-    return [unquote(segment) for segment in request.rel_url.raw_path.split("/")[5:]]
-
-
 def _token_type(request: web.Request) -> str:
     return request.query.get("type", "RFID")
 
 
-async def _members(request: web.Request) -> Members:
-    """The body. Raises Refusal where it is no object, and NotJson, UnicodeDecodeError and NumberTooLarge."""
-    body = read_json((await request.read()).decode())
-    if not isinstance(body, dict):
-        raise Refusal(200, INVALID, "body: wanted is an object")
-    return body
-
-
-def _compare(request: web.Request, body: Members) -> None:
-    """Raises Refusal where a body says otherwise than the path. What it does not say the node asks for."""
-    module = _module(request)
-    named = dict(zip(("country_code", "party_id", OBJECTS[OBJECT_KINDS[module]][1]), _segments(request)))
-    if module == "tokens":
-        named["type"] = _token_type(request)
-    for name, text in named.items():
-        value = body.get(name)
-        if isinstance(value, str) and value.upper() != text.upper():
-            raise Refusal(200, INVALID, f"{name}: the path says otherwise")
-
-
-def _part_of(query: Mapping[str, str]) -> Part:
-    """The part of a list that a query asks for. Raises Refusal."""
-    try:
-        dates = [milliseconds_of(query[name]) if name in query else otherwise
-                 for name, otherwise in (("date_from", -FOREVER), ("date_to", FOREVER))]
-    except (ValueError, OverflowError):
-        raise Refusal(200, INVALID, "date_from, date_to: wanted are moments, as 2025-01-01T10:00:00Z") from None
-    offset, limit = number_of(query.get("offset", "0")), number_of(query.get("limit", str(MOST_LISTED)))
-    if offset is None or not limit:
-        raise Refusal(200, INVALID, "offset, limit: wanted are whole numbers of at most 18 digits, and a limit above 0")
-    return Part(dates[0], dates[1], offset, min(limit, MOST_LISTED))
+def _compare(request: web.Request, body: JsonObject) -> None:
+    """Raises Refusal where a body says otherwise than the path."""
+    module = module_of(request)
+    named = dict(zip(("country_code", "party_id", OBJECTS[OBJECT_KINDS[module]][1]), segments_of(request)))
+    compare(named | {"type": _token_type(request)} if module == "tokens" else named, body)

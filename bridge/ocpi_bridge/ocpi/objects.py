@@ -4,23 +4,27 @@ While a node runs nobody else can read its rows. So the bridge keeps the newest 
 sent or accepted. Beside these stand the EVSEs that commands claim.
 """
 import logging
+from collections.abc import Sequence
 from dataclasses import dataclass
 from decimal import Decimal
-from typing import cast
+from typing import TypeVar
 
 from ..clock import milliseconds_of
 from ..events import Outcome, Packet
-from ..json_text import Members, Number, read_json, write_json
+from ..json_text import JsonObject, Number, read_json, write_json
 from ..parties import party_key, party_of, same_party
-from ..records import Body
+from ..records import Body, Location, Tariff
 from ..state import State
 
 # The module of each packet that carries an object, and the member that identifies the object.
 OBJECTS = {"put_session": ("sessions", "id"), "post_cdr": ("cdrs", "id"), "put_token": ("tokens", "uid")}
+OBJECT_KINDS = {module: kind for kind, (module, _) in OBJECTS.items()}
 ACCEPTED = 1000
 LIVING = "module = 'sessions' AND status IN ('PENDING', 'ACTIVE')"
 # Milliseconds behind all moments.
 FOREVER = 2**62
+
+Listed = TypeVar("Listed", Location, Tariff)
 
 log = logging.getLogger(__name__)
 
@@ -34,6 +38,11 @@ class Part:
     date_to: int
     offset: int
     limit: int
+
+    def of(self, objects: Sequence[Listed]) -> tuple[int, list[Listed]]:
+        """How many of some objects there are by the dates, and those of the part."""
+        found = [each for each in objects if self.date_from <= milliseconds_of(each["last_updated"]) < self.date_to]
+        return len(found), found[self.offset:self.offset + self.limit]
 
 
 class Objects:
@@ -63,7 +72,7 @@ class Objects:
             self._keep(packet, packet.sender)
 
     def _keep(self, packet: Packet, partner: str) -> None:
-        (module, identifier), body = OBJECTS[packet.kind], packet.body
+        module, body = OBJECTS[packet.kind][0], packet.body
         status, evse_uid = (body["status"], body["evse_uid"].upper()) if module == "sessions" else ("", "")
         self._state.query(
             """INSERT INTO object_of (module, party, identifier, token_type, partner, last_updated, status, evse_uid,
@@ -71,7 +80,7 @@ class Objects:
             ON CONFLICT DO UPDATE SET partner = excluded.partner, last_updated = excluded.last_updated,
                 status = excluded.status, evse_uid = excluded.evse_uid, body = excluded.body
             WHERE excluded.last_updated > last_updated AND status NOT IN ('COMPLETED', 'INVALID')""",
-            module, party_key(_party(body)), _text(body, identifier).upper(),
+            module, party_key(_party(body)), _identifier(module, body),
             body["type"] if module == "tokens" else "",
             party_key(partner), milliseconds_of(body["last_updated"]), status, evse_uid, write_json(body))
 
@@ -121,7 +130,7 @@ class Objects:
         """The objects of a module, the newest first: all of them, or so many at most."""
         return self._bodies("module = ? ORDER BY last_updated DESC, identifier DESC LIMIT ?", module, most)
 
-    def totals(self, date_from: int, date_to: int) -> list[Members]:
+    def totals(self, date_from: int, date_to: int) -> list[JsonObject]:
         """Of the bills by their `last_updated`, in each currency: how many there are and how many were taken back, and
         their energy and price without those."""
         rows = self._state.query(
@@ -163,14 +172,12 @@ def ten_thousandths(amount: int) -> Number:
 
 def _key(module: str, body: Body) -> tuple[str, str, str, str]:
     """What an object of a module is known by."""
-    identifier = next(own for kept, own in OBJECTS.values() if kept == module)
-    return (module, party_key(_party(body)), _text(body, identifier).upper(),
+    return (module, party_key(_party(body)), _identifier(module, body),
             str(body.get("type", "RFID")) if module == "tokens" else "")
 
 
-def _text(body: Body, name: str) -> str:
-    """The member of a name."""
-    return str(cast(Members, body)[name])
+def _identifier(module: str, body: Body) -> str:
+    return str(body["uid"] if module == "tokens" else body["id"]).upper()
 
 
 def _party(body: Body) -> str:

@@ -6,25 +6,22 @@ and whose result does not come, gets the result TIMEOUT.
 """
 import logging
 from collections.abc import Awaitable, Callable
-from typing import Any
 
 from ..clock import milliseconds_of
 from ..configuration import Configuration
 from ..events import Events, Outcome, Packet
-from ..json_text import Members
 from ..node.feeder import NodeEnded, OutcomeLost
-from ..parties import party_key
-from ..records import Body, Event, Session
+from ..parties import party_key, same_party
+from ..records import Body, Data, Event, Session
 from ..state import State
+from ..tasks import Tasks
 from .objects import Objects
 from .packets import COMMANDS
 from .requests import NODES_URL, Requests, number_of
 
 # In milliseconds: the age from which on an order is late, how long a result may come behind the `timeout` of its
-# response, and how long until a session that still goes on is ordered to stop once more. Each so many seconds it is
-# looked whether something is due.
+# response, and how long until a session that still goes on is ordered to stop once more.
 LATE, RESULT_WITHIN, STOPPED_WITHIN = 60_000, 30_000, 60_000
-LOOK_EVERY = 2.0
 USUAL_TIMEOUT, LONGEST_TIMEOUT = 30, 86_400
 
 log = logging.getLogger(__name__)
@@ -36,8 +33,7 @@ class Orders:
     def __init__(self, configuration: Configuration, state: State, events: Events, objects: Objects,
                  requests: Requests, feed: Callable[[Event], Awaitable[Outcome]]) -> None:
         self._state, self._events, self._objects, self._requests, self._feed = state, events, objects, requests, feed
-        self._others = {party_key(partner.party) for partner in configuration.partners
-                        if partner.kind == "ocpi" and not configuration.is_operator}
+        self._configuration, self._tasks = configuration, Tasks(NodeEnded, OutcomeLost)
         # When the orders were given that a stop left in the line that was under way.
         self._left: list[int] = []
 
@@ -55,13 +51,18 @@ class Orders:
                 self._state.query("INSERT OR IGNORE INTO order_given (request, operator, reference, at, state)"
                                   " VALUES (?, ?, ?, ?, 'open')", packet.request, party_key(packet.receiver),
                                   packet.body.get("authorization_reference"), min(moments))
-        if event["event"] == "deliver" and party_key(event["packet"]["from"]) in self._others:
+        if event["event"] == "deliver" and self._is_of_other(event["packet"]["from"]):
             self._note_delivered(outcome, Packet.of(event["packet"]))
+
+    def _is_of_other(self, party: str) -> bool:
+        """Whether an operator is one of kind `ocpi`."""
+        return not self._configuration.is_operator and any(
+            partner.kind == "ocpi" and same_party(partner.party, party) for partner in self._configuration.partners)
 
     def _note_delivered(self, outcome: Outcome, packet: Packet) -> None:
         operator, body = party_key(packet.sender), packet.body
         if packet.kind == "command_response":
-            data: Any = body.get("data") if isinstance(body.get("data"), dict) else {}
+            data: Data = body["data"] if isinstance(body.get("data"), dict) else {}
             until = None
             if data.get("result") == "ACCEPTED":
                 timeout = number_of(str(data.get("timeout"))) or USUAL_TIMEOUT
@@ -113,18 +114,10 @@ class Orders:
             "status_code": 1000, "timestamp": self._events.clock.moment(),
             "data": {"result": "REJECTED", "timeout": 0}})
 
-    async def run(self) -> None:
-        """Does what is due, until it is cancelled or the bridge ends."""
-        while self._others:
-            await self._events.clock.sleep(LOOK_EVERY)
-            try:
-                await self._do_what_is_due()
-            except NodeEnded:
-                return
-            except OutcomeLost:
-                continue
-            except Exception:
-                log.exception("what is due of orders was not done")
+    def act(self, outcome: Outcome) -> None:
+        """Begins with each tick what is due then. Called behind the transaction that ends its line."""
+        if outcome.event["event"] == "tick" and not self._configuration.is_operator:
+            self._tasks.begin(self._do_what_is_due)
 
     async def _do_what_is_due(self) -> None:
         now, node = self._now(), self._events.node

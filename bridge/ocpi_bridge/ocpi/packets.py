@@ -1,8 +1,7 @@
 """Which packet is which request over HTTP: module, interface, method and path, for the server and the client."""
+from collections.abc import Mapping
 from dataclasses import dataclass
 from urllib.parse import quote
-
-from ..json_text import Members
 
 COMMANDS = {"start_session": "START_SESSION", "stop_session": "STOP_SESSION", "reserve_now": "RESERVE_NOW",
             "cancel_reservation": "CANCEL_RESERVATION", "unlock_connector": "UNLOCK_CONNECTOR"}
@@ -34,7 +33,7 @@ FORMS = {
     "authorize": Form("tokens", "SENDER", "POST", "/{token_uid}/authorize?type={type}", "authorization")}
 
 
-def path_of(path: str, body: Members) -> str:
+def path_of(path: str, body: Mapping[str, object]) -> str:
     """A path with the members of a body that it names. Without a `type` in the body it has no query."""
     written = path if "type" in body else path.partition("?")[0]
     return written.format_map({name: quote(text, safe="") for name, text in body.items() if isinstance(text, str)})

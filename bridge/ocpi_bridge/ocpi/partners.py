@@ -8,44 +8,51 @@ another process may register.
 import hashlib
 import secrets
 from collections.abc import Mapping
-from contextlib import AbstractContextManager
-from dataclasses import asdict, dataclass, field, replace
+from dataclasses import dataclass, field, fields, replace
 
 from ..configuration import Configuration, PartnerSettings
-from ..json_text import Members
-from ..parties import party_key
+from ..parties import party_key, same_party
 from ..state import State
 
-# What is kept of a registration, of which the first ones count once it is decided.
-DECIDED = ("token", "their_token", "versions_url", "used")
-KEPT = (*DECIDED, "former", "offer", "details_of")
 # The URL of each module and role (`SENDER` or `RECEIVER`).
 Endpoints = Mapping[tuple[str, str], str]
 
 
 @dataclass(frozen=True)
-class Partner:
+class Partner(PartnerSettings):
     """One party, as one of its tokens shows it. Without `is_registered` that token opens nothing but registering."""
 
-    party: str
-    kind: str
+    endpoints: Endpoints = field(default_factory=dict)
+    is_registered: bool = False
+
+
+@dataclass(frozen=True)
+class Registration:
+    """What is kept of a partner. The four behind `is_decided` count only where that is so."""
+
+    is_decided: bool = False
     token: str | None = None
     their_token: str | None = None
     versions_url: str | None = None
-    endpoints: Endpoints = field(default_factory=dict)
-    is_registered: bool = False
-    token_base64: bool = True
-    own_references: bool = False
+    used: str | None = None
+    former: str | None = None
+    offer: str | None = None
+    details_of: str | None = None
+
+
+COLUMNS = ", ".join(each.name for each in fields(Registration))
 
 
 class Partners:
     """All partners of the configuration, with what the state has of them."""
 
     def __init__(self, configuration: Configuration, state: State) -> None:
-        self._settings = {party_key(settings.party): settings for settings in configuration.partners}
-        self._state = state
-        # Which version of the state was read: what it says of each partner, and whom each token shows.
-        self._version: int | None = None
+        self._configuration, self._state = configuration, state
+        # What is kept inside is kept together, or not at all.
+        self.together = state.transaction
+        # Of which settings and of which version of the state this is: what is known of each partner, and whom each
+        # token shows.
+        self._read_of: object = None
         self._partners: dict[str, Partner] = {}
         self._shown: dict[bytes, dict[str, Partner]] = {}
         self._former: set[str] = set()
@@ -57,7 +64,7 @@ class Partners:
 
         A registration's new token ends the one of before when it is used: until then its partner may not have it.
         """
-        self._read()
+        self._known()
         found = self._shown.get(self._digest(token, is_base64), {})
         for key in [key for key in found if key in self._former and token == self._partners[key].token]:
             self._keep(key, former=None)
@@ -65,47 +72,49 @@ class Partners:
 
     def of(self, party: str) -> Partner:
         """The partner of a party. Raises KeyError where the configuration has none."""
-        self._read()
-        return self._partners[party_key(party)]
+        return self._known()[party_key(party)]
+
+    def has(self, party: str) -> bool:
+        """Whether there is one, as long as no other configuration is read."""
+        return party_key(party) in self._known()
 
     def all(self) -> list[Partner]:
-        self._read()
-        return list(self._partners.values())
+        return list(self._known().values())
 
     def _digest(self, token: str, is_base64: bool) -> bytes:
         return hashlib.blake2b(token.encode("utf-8", "surrogatepass"), key=self._secret,
                                person=b"base64" if is_base64 else b"as it is").digest()
 
-    def _read(self) -> None:
-        """Reads the state, where it has changed."""
-        version = self._state.version()
-        if version == self._version:
-            return
+    def _known(self) -> Mapping[str, Partner]:
+        """The partners by their parties. Reads settings and state, where one has changed."""
+        read_of = self._configuration.partners, self._state.version()
+        if read_of == self._read_of:
+            return self._partners
         self._partners, self._shown, self._former = {}, {}, set()
-        for key, settings in self._settings.items():
+        for settings in self._configuration.partners:
+            key = party_key(settings.party)
             kept = self._kept(key)
             partner = self._partners[key] = self._partner(settings, kept)
-            unused = None if kept.get("used", settings.token) == settings.token else settings.token
+            unused = settings.token if kept.is_decided and kept.used != settings.token else None
             registering = Partner(settings.party, settings.kind, token_base64=settings.token_base64)
-            for known, shown in ((kept.get("former"), partner), (partner.token, partner),
-                                 (kept.get("offer"), registering), (unused, registering)):
+            for known, shown in ((kept.former, partner), (partner.token, partner),
+                                 (kept.offer, registering), (unused, registering)):
                 if known:
                     digest = self._digest(known, settings.token_base64)
                     self._shown.setdefault(digest, {})[key] = replace(shown, token=known)
-            if kept.get("former"):
+            if kept.former:
                 self._former.add(key)
-        self._version = version
+        self._read_of = read_of
+        return self._partners
 
-    def _partner(self, settings: PartnerSettings, kept: Members) -> Partner:
-        known: Members = {**asdict(settings), **kept}
-        listed = known.get("endpoints", []) if known.get("details_of") == known["versions_url"] else []
-        return Partner(settings.party, settings.kind, known["token"], known["their_token"], known["versions_url"],
-                       {(module, role): url for module, role, url in listed}, known["their_token"] is not None,
-                       settings.token_base64, settings.own_references)
-
-    def together(self) -> AbstractContextManager[None]:
-        """What is kept inside is kept together, or not at all."""
-        return self._state.transaction()
+    def _partner(self, settings: PartnerSettings, kept: Registration) -> Partner:
+        """A partner by its settings, and by what is kept in the place of them."""
+        known: Registration | PartnerSettings = kept if kept.is_decided else settings
+        listed = self._state.query("SELECT module, role, url FROM endpoint WHERE party = ?", party_key(settings.party))
+        return Partner(settings.party, settings.kind, known.token, known.their_token, known.versions_url,
+                       settings.token_base64, settings.own_references,
+                       {(module, role): url for module, role, url in listed if kept.details_of == known.versions_url},
+                       known.their_token is not None)
 
     def register(self, party: str, token: str, their_token: str | None, versions_url: str | None,
                  endpoints: Endpoints, former: str | None = None) -> None:
@@ -114,13 +123,17 @@ class Partners:
         A `former` token shows the partner too, until it uses the new one.
         """
         self._keep(party, token=token, their_token=their_token, versions_url=versions_url, offer=None, former=former,
-                   used=self._settings[party_key(party)].token, is_decided=True)
+                   used=self._token_of(party), is_decided=True)
         self.set_endpoints(party, versions_url, endpoints)
 
     def unregister(self, party: str) -> None:
         """Ends a registration: neither token is used any more."""
         self._keep(party, token=None, their_token=None, versions_url=None, former=None,
-                   used=self._settings[party_key(party)].token, is_decided=True)
+                   used=self._token_of(party), is_decided=True)
+
+    def _token_of(self, party: str) -> str | None:
+        """The token of the configuration."""
+        return next(settings.token for settings in self._configuration.partners if same_party(settings.party, party))
 
     def offer(self, party: str) -> str:
         """A new token, of at most 64 characters, by which the partner may look up this bridge while it registers."""
@@ -137,17 +150,12 @@ class Partners:
                 self._state.query("INSERT INTO endpoint (party, module, role, url) VALUES (?, ?, ?, ?)",
                                   party_key(party), module, role, url)
 
-    def _kept(self, key: str) -> Members:
-        """What the state has of a partner: only the members that go before its configuration."""
-        for is_decided, *values in self._state.query(
-                f"SELECT is_decided, {', '.join(KEPT)} FROM registration WHERE party = ?", key):
-            kept: Members = {name: value for name, value in zip(KEPT, values) if is_decided or name not in DECIDED}
-            kept["endpoints"] = self._state.query("SELECT module, role, url FROM endpoint WHERE party = ?", key)
-            return kept
-        return {}
+    def _kept(self, key: str) -> Registration:
+        rows = self._state.query(f"SELECT {COLUMNS} FROM registration WHERE party = ?", key)
+        return Registration(*rows[0]) if rows else Registration()
 
     def _keep(self, party: str, **members: object) -> None:
-        self._version = None
+        self._read_of = None
         with self._state.transaction():
             self._state.query("INSERT OR IGNORE INTO registration (party) VALUES (?)", party_key(party))
             self._state.query(f"UPDATE registration SET {', '.join(f'{name} = ?' for name in members)} WHERE party = ?",

@@ -128,10 +128,8 @@ def reference_of(party: str, number: int) -> str:
 
 def digest_of(asked: str, body: bytes) -> bytes:
     """What tells a request from another: method, path and body, in whatever order its members stand."""
-    try:
+    with suppress(ValueError, RecursionError):
         body = json.dumps(json.loads(body), sort_keys=True).encode()
-    except (ValueError, RecursionError):
-        pass
     return hashlib.blake2b(f"{asked}\n".encode() + body, digest_size=16).digest()
 
 

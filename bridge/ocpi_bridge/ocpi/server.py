@@ -19,6 +19,7 @@ from .envelope import (CLIENT_ERROR, INVALID, SERVER_ERROR, Refusal, answer, is_
                        written_token)
 from .interfaces import Interfaces
 from .partners import Partner, Partners
+from .receiving import Receiving
 
 logger = logging.getLogger(__name__)
 
@@ -49,7 +50,9 @@ class Server:
     """Answers whoever has a token. What a registered partner may ask for is handled by `interfaces`."""
 
     def __init__(self, events: Events, partners: Partners, credentials: Credentials, interfaces: Interfaces,
-                 metrics: Metrics, state: State) -> None:
+                 metrics: Metrics, state: State, receiving: Receiving | None = None) -> None:
+        """`receiving` is a provider's."""
+        self._receiving = receiving
         self._state, self._room = state, state.room
         self._party, self._clock, self._partners = events.node, events.clock, partners
         self._credentials, self._interfaces, self._metrics = credentials, interfaces, metrics
@@ -58,7 +61,8 @@ class Server:
     def application(self) -> web.Application:
         application = web.Application(middlewares=[self.respond], client_max_size=LARGEST_BODY + 1)
         application.add_routes([
-            *self._interfaces.routes(), web.route("GET", VERSIONS, self.versions),
+            *self._interfaces.routes(), *(self._receiving.routes() if self._receiving is not None else ()),
+            web.route("GET", VERSIONS, self.versions),
             web.route("GET", DETAILS, self.details),
             *(web.route(method, CREDENTIALS, self.credentials) for method in ("GET", "POST", "PUT", "DELETE"))])
         return application

@@ -1,12 +1,12 @@
-"""The central system of OCPP 1.6-J: charge points connect to it, and it stands between them and the node."""
+"""The central system of OCPP 1.6 and 2.0.1 over JSON: charge points connect to it, and it stands between them and the
+node."""
 import asyncio
 import base64
 import hmac
 import logging
-from collections.abc import Callable, Coroutine
+from collections.abc import Callable
 from dataclasses import asdict
 from functools import partial
-from typing import Any
 
 from aiohttp import web
 
@@ -18,15 +18,20 @@ from ..node.feeder import Feeder, NodeEnded
 from ..ocpi.objects import Objects
 from ..room import when_there_is_room
 from ..state import State
+from ..tasks import Tasks
 from .connection import Connection
+from .messages import Version
 from .orders import Orders
 from .readings import Readings
 from .reports import Reports
 from .site import ChargePoint, Site
+from .version_16 import Version16
+from .version_201 import Version201
 from .watch import Watch
 
 LOG = logging.getLogger("ocpp")
-SUBPROTOCOL = "ocpp1.6"
+# The versions of OCPP by the subprotocols that stand for them.
+VERSIONS: dict[str, Version] = {"ocpp2.0.1": Version201(), "ocpp1.6": Version16()}
 LARGEST_FRAME = 1_048_576
 # Seconds of real time: between pings, so that a connection that is gone is seen, and for a charge point to close one.
 PING_EACH, CLOSED_WITHIN = 30.0, 2.0
@@ -45,11 +50,24 @@ class CentralSystem:
         """`count` adds to a metric."""
         self._clock, self._objects, self._synced = events.clock, objects, state.synced
         self._site = Site(settings, events, state, feeder, objects)
+        # What a node that ended leaves is taken up at the next start.
+        self._tasks = Tasks(NodeEnded)
+        self._spawn = self._tasks.begin
         self._orders = Orders(self._site, self._spawn)
+        self.expect_late, self.evse_status = self._site.commands.expect_late, self._site.evse_status
         self._readings = Readings(self._site, state, count)
         self._watch = Watch(self._site, self._readings, self._orders.stop, self._spawn)
-        self._reports = Reports(self._site, self._readings, self._watch, self._orders.stop)
-        self._tasks: dict[object, asyncio.Task[None]] = {}
+        self._reports = Reports(self._site, state, self._readings, self._watch, self._orders.stop)
+
+    def take(self, settings: OcppSettings) -> None:
+        """Takes charge points in place of those of before. Connections go on, but those of charge points that are no
+        more."""
+        for charge_point in self._site.take(settings):
+            if charge_point.connection is not None:
+                self._spawn(charge_point.connection.close)
+        for charge_point in self._site.by_id.values():
+            if charge_point.connection is not None:
+                self._spawn(self._look_after, charge_point, charge_point.connection)
 
     def application(self) -> web.Application:
         """The web application at `/ocpp/{id}`. Its shutdown closes all connections."""
@@ -58,26 +76,10 @@ class CentralSystem:
         application.on_shutdown.append(self._close)
         return application
 
-    def _spawn(self, work: Callable[..., Coroutine[Any, Any, None]], *arguments: object) -> None:
-        """Has something done in a task of its own, unless that is under way already."""
-        key = (work, *arguments)
-        if key not in self._tasks or self._tasks[key].done():
-            task = self._tasks[key] = asyncio.create_task(work(*arguments))
-            task.add_done_callback(partial(self._end_task, key))
-
-    def _end_task(self, key: object, task: asyncio.Task[None]) -> None:
-        """Tells why a task failed, but where the node ended: what that leaves is taken up at the next start."""
-        if self._tasks[key] is task:
-            del self._tasks[key]
-        fault = None if task.cancelled() else task.exception()
-        if fault is not None and not isinstance(fault, NodeEnded):
-            LOG.error("a charge point could not be served", exc_info=fault)
-
     async def _close(self, application: web.Application) -> None:
         points = self._site.by_id.values()
         await asyncio.gather(*(point.connection.close() for point in points if point.connection is not None))
-        for task in self._tasks.values():
-            task.cancel()
+        self._tasks.cancel()
 
     async def _connect(self, request: web.Request) -> web.WebSocketResponse:
         charge_point = self._site.by_id.get(request.match_info["id"])
@@ -85,23 +87,30 @@ class CentralSystem:
             raise web.HTTPNotFound()
         if not _is_authentic(charge_point.settings, request.headers.get("Authorization", "")):
             raise web.HTTPUnauthorized(headers={"WWW-Authenticate": 'Basic realm="OCPP"'})
-        socket = web.WebSocketResponse(protocols=(SUBPROTOCOL,), timeout=CLOSED_WITHIN, heartbeat=PING_EACH,
+        offered = ",".join(request.headers.getall("Sec-WebSocket-Protocol", ())).split(",")
+        chosen = next((name.strip() for name in offered if name.strip() in VERSIONS), None)
+        if chosen is None:
+            LOG.warning("%s: offers no subprotocol of %s", charge_point.settings.id, ", ".join(VERSIONS))
+            raise web.HTTPBadRequest(text=f"the subprotocols are {', '.join(VERSIONS)}")
+        socket = web.WebSocketResponse(protocols=(chosen,), timeout=CLOSED_WITHIN, heartbeat=PING_EACH,
                                        max_msg_size=LARGEST_FRAME)
         await socket.prepare(request)
-        if socket.ws_protocol == SUBPROTOCOL and request.transport is not None:
-            await self._serve(charge_point, socket, request.transport.abort)
+        if request.transport is not None:
+            await self._serve(charge_point, VERSIONS[chosen], socket, request.transport.abort)
         return socket
 
-    async def _serve(self, charge_point: ChargePoint, socket: web.WebSocketResponse, abort: Callable[[], None]) -> None:
+    async def _serve(self, charge_point: ChargePoint, version: Version, socket: web.WebSocketResponse,
+                     abort: Callable[[], None]) -> None:
         """Serves a connection until it ends. It takes the place of one that the charge point has."""
         async def answer(action: str, payload: Members) -> Members:
-            return await when_there_is_room(partial(self._reports.answer, charge_point, socket, action, payload))
+            return await when_there_is_room(
+                partial(self._reports.answer, charge_point, socket, version, action, payload))
 
-        connection = Connection(socket, self._clock, answer, abort, charge_point.settings.id, self._synced)
+        connection = Connection(socket, version, self._clock, answer, abort, charge_point.settings.id, self._synced)
         if charge_point.connection is not None:
             self._spawn(charge_point.connection.close)
         charge_point.connection = connection
-        LOG.info("%s: connected", charge_point.settings.id)
+        LOG.info("%s: connected by OCPP %s", charge_point.settings.id, version.name)
         self._watch.connected(charge_point)
         self._spawn(connection.work)
         self._spawn(self._look_after, charge_point, connection)
@@ -110,7 +119,8 @@ class CentralSystem:
             await connection.read()
         finally:
             if charge_point.connection is connection:
-                charge_point.connection = None
+                charge_point.connection, charge_point.away_since = None, self._clock.passed()
+                self._orders.begin()
                 LOG.info("%s: connection ended", charge_point.settings.id)
 
     async def _look_after(self, charge_point: ChargePoint, connection: Connection) -> None:
@@ -119,12 +129,18 @@ class CentralSystem:
         await self._clock.sleep(TOLD_WITHIN)
         if charge_point.connection is connection:
             self._watch.stop_all(charge_point)
+        self._spawn(self._ask_of_transactions, charge_point, connection)
         await self._clock.sleep(STATUS_WITHIN - TOLD_WITHIN)
-        for connector in charge_point.settings.connectors:
-            message = {"requestedMessage": "StatusNotification", "connectorId": connector}
-            async with connection.asking("TriggerMessage", message) as answer:
-                if answer is None:
-                    return
+        for place in list(charge_point.places.values()):
+            for connector in place.settings.connector_ids:
+                async with connection.asking(*connection.version.status(place.connector, connector)) as answer:
+                    if answer is None:
+                        return
+
+    async def _ask_of_transactions(self, charge_point: ChargePoint, connection: Connection) -> None:
+        """Asks whether transactions go on, until it has told of all."""
+        while charge_point.connection is connection and await self._watch.ask_of_transactions(charge_point, connection):
+            await self._clock.sleep(STATUS_WITHIN)
 
     def note(self, outcome: Outcome) -> None:
         """Keeps what an outcome opens and ends. Called inside of the transaction that forgets its line."""
@@ -138,8 +154,10 @@ class CentralSystem:
         if outcome.event["event"] == "tick":
             self._end_unused()
             self._watch.tick()
-        if outcome.event["event"] == "fault" and outcome.word in ("stepped", "idle"):
-            self._watch.stop_at(outcome.event["evse_uid"])
+            self._orders.begin()
+        if outcome.event["event"] == "fault" and outcome.word in ("stepped", "idle") and (
+                place := self._site.place(outcome.event["evse_uid"])) is not None:
+            self._watch.stop_all(place.charge_point)
         if outcome.sent("command_response"):
             self._orders.begin()
 
@@ -152,7 +170,8 @@ class CentralSystem:
         """Ends each PENDING session for which nobody plugged in."""
         for session in self._objects.pending_sessions():
             place = self._site.place(session["evse_uid"])
-            if place is not None and place.charge_point.connection is not None:
+            if (place is not None and place.charge_point.connection is not None
+                    and self._site.transactions.of_session(session["id"]) is None):
                 until = seconds_of(session["last_updated"]) + PLUGGED_IN_WITHIN
                 if self._clock.seconds() > max(until, place.charge_point.connection.since + TOLD_WITHIN):
                     self._spawn(self._end_session, place.charge_point, session["id"])
@@ -184,10 +203,6 @@ class CentralSystem:
         """The commands that are open, with their `provider`, `number`, `kind`, and what they are about."""
         return [asdict(command) for command in self._site.commands.opened()]
 
-    def evse_status(self, evse_uid: str) -> str | None:
-        """`OUTOFORDER` where the charge point is away or Faulted, `INOPERATIVE` where out of service, else None."""
-        return self._site.evse_status(evse_uid)
-
     async def change_availability(self, evse_uid: str, in_service: bool) -> str:
         """Asks a charge point to take an EVSE out of service or back. The caller feeds `service`.
 
@@ -196,8 +211,8 @@ class CentralSystem:
         place = self._site.place(evse_uid)
         if place is None or place.charge_point.connection is None:
             return "Unreachable"
-        payload = {"connectorId": place.connector, "type": "Operative" if in_service else "Inoperative"}
-        async with place.charge_point.connection.asking("ChangeAvailability", payload) as answer:
+        connection = place.charge_point.connection
+        async with connection.asking(*connection.version.availability(place.connector, in_service)) as answer:
             return "Unreachable" if answer is None else str(answer.get("status"))
 
     def connected_count(self) -> int:

@@ -9,7 +9,7 @@ from ..state import State
 # Commands that a charge point carries out. The node ends each by itself after this time, in seconds.
 KINDS = ("start_session", "stop_session", "unlock_connector")
 OPEN_FOR = 30.0
-OPEN, ASKED, REFUSED, PAST = "open", "asked", "refused", "past"
+OPEN, LATE, ASKED, REFUSED, PAST = "open", "late", "asked", "refused", "past"
 
 
 @dataclass(frozen=True)
@@ -32,11 +32,17 @@ class Commands:
     def __init__(self, state: State, clock: Clock) -> None:
         self._state, self._clock = state, clock
 
+    def expect_late(self, provider: str, number: int) -> None:
+        """Keeps that a command which is about to be fed was ordered too long ago: no charge point is asked for it."""
+        self._state.query("INSERT OR IGNORE INTO late_command (provider, number) VALUES (?, ?)", provider, number)
+
     def note(self, outcome: Outcome) -> None:
         """Keeps what an outcome opens, ends and begins. Called inside of the transaction that forgets its line."""
         event = outcome.event
         if event["event"] == "deliver":
-            self._note_accepted(outcome, Packet.of(event["packet"]))
+            command = Packet.of(event["packet"])
+            self._note_accepted(outcome, command)
+            self._note_late(command.sender, command.request)
         for packet in outcome.sent("command_result"):
             self._end(packet, event["packet"]["request"] if event["event"] == "deliver" else event.get("number"))
         for packet in outcome.sent("put_session"):
@@ -55,6 +61,32 @@ class Commands:
                 command.sender, command.request, command.kind, body.get("evse_uid"), body.get("connector_id"),
                 body.get("token", {}).get("uid"), body.get("authorization_reference"), body.get("session_id"),
                 body["response_url"], seconds_of(answer.body["timestamp"]) + OPEN_FOR)
+            if command.kind == "start_session":
+                self._number(command.sender, command.request, body["token"].get("type", "RFID"))
+
+    def _number(self, provider: str, number: int, token_type: str) -> None:
+        self._state.query("INSERT OR IGNORE INTO ocpp_remote_start (provider, number, token_type) VALUES (?, ?, ?)",
+                          provider, number, token_type)
+
+    def remote_start(self, command: Command) -> tuple[int, str]:
+        """The number by which a charge point of OCPP 2.0.1 tells of a start, and the type of its token."""
+        # One that was kept by an earlier bridge has none.
+        self._number(command.provider, command.number, "RFID")
+        rows = self._state.query("SELECT remote_start, token_type FROM ocpp_remote_start WHERE provider = ?"
+                                 " AND number = ?", command.provider, command.number)
+        return rows[0][0], rows[0][1]
+
+    def of_remote_start(self, remote_start: int) -> Command | None:
+        """The start that has a number. None where it is not known."""
+        return next(iter(self._where(
+            "(provider, number) = (SELECT provider, number FROM ocpp_remote_start WHERE remote_start = ?)",
+            remote_start)), None)
+
+    def _note_late(self, *key: object) -> None:
+        """A command that came late is so, where no charge point was asked for it before."""
+        if self._state.query("DELETE FROM late_command WHERE provider = ? AND number = ? RETURNING number", *key):
+            self._state.query("UPDATE ocpp_command SET state = ? WHERE provider = ? AND number = ? AND state = ?"
+                              " AND ended_by IS NULL", LATE, *key, OPEN)
 
     def _end(self, result: Packet, number: int | None) -> None:
         """Ends the command of a result: that of a number, or behind a tick that of its `response_url`.
@@ -84,9 +116,14 @@ class Commands:
         """The commands that are open."""
         return self._where("ended_by IS NULL ORDER BY number")
 
-    def unasked(self) -> list[Command]:
-        """Those of them that no charge point was asked for."""
-        return self._where(f"ended_by IS NULL AND state = '{OPEN}' ORDER BY number")
+    def unasked(self, word: str = OPEN) -> list[Command]:
+        """Those of them that no charge point was asked for: that may be asked for, or that are refused (LATE)."""
+        return self._where("ended_by IS NULL AND state = ? ORDER BY number", word)
+
+    def refuse(self, command: Command) -> None:
+        """No charge point is asked for a command: it is as one that came late."""
+        self._state.query("UPDATE ocpp_command SET state = ? WHERE provider = ? AND number = ? AND state = ?", LATE,
+                          command.provider, command.number, OPEN)
 
     def begin(self, command: Command) -> bool:
         """Keeps that a charge point is asked for a command now. False where the command ended since it was found, or

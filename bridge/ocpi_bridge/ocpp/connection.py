@@ -11,6 +11,7 @@ from ..clock import Clock
 from ..json_text import Members, write_json
 from ..node.feeder import NodeEnded
 from .frames import CALL, RESULT, CallError, Frame, read_frame
+from .messages import Version
 
 LOG = logging.getLogger("ocpp")
 ANSWER_WITHIN = 30.0
@@ -29,11 +30,12 @@ class Connection:
     remote start and tell of the transaction in the next frame.
     """
 
-    def __init__(self, socket: web.WebSocketResponse | ClientWebSocketResponse, clock: Clock, handler: Handler,
-                 abort: Callable[[], None] = lambda: None, name: str = "a charge point",
+    def __init__(self, socket: web.WebSocketResponse | ClientWebSocketResponse, version: Version, clock: Clock,
+                 handler: Handler, abort: Callable[[], None] = lambda: None, name: str = "a charge point",
                  synced: Callable[[], Awaitable[None]] | None = None) -> None:
         """`abort` ends the connection where the other side does not read any more. `name` is what the log calls it.
         `synced` is awaited before each frame is sent: what that rests on is on the disk."""
+        self.version = version
         self._socket, self._clock, self._handler, self._abort, self._name = socket, clock, handler, abort, name
         self._inbox: asyncio.Queue[tuple[str, Frame] | None] = asyncio.Queue()
         self._times: dict[str, int] = {}
@@ -42,6 +44,11 @@ class Connection:
         self._asking, self._handling = asyncio.Lock(), asyncio.Lock()
         self._asked: tuple[str, asyncio.Future[Members | None]] | None = None
         self._is_open, self.since, self._synced = True, clock.seconds(), synced
+
+    @property
+    def has_waiting(self) -> bool:
+        """Whether a call came that is not answered."""
+        return bool(self._times)
 
     async def read(self) -> None:
         """Reads frames until the connection ends. Calls that nobody began to handle by then are forgotten."""
@@ -98,7 +105,7 @@ class Connection:
             raise
         except Exception:
             LOG.exception("%s: a call %.50s could not be handled", self._name, call.action)
-            answer = CallError("InternalError", "it could not be handled").frame(call.message_id)
+            answer = CallError("InternalError", "it could not be handled").frame(call.message_id, self.version.name)
         self._waiting -= len(text)
         for _ in range(self._times.pop(text)):
             await self._send(answer)
@@ -106,7 +113,7 @@ class Connection:
     def _refusal(self, error: CallError, what: str, message_id: str) -> str:
         """The CALLERROR that tells what is wrong, which is logged too."""
         LOG.warning("%s: %.50s is refused: %s, %s", self._name, what, error.code, error)
-        return error.frame(message_id)
+        return error.frame(message_id, self.version.name)
 
     @asynccontextmanager
     async def asking(self, action: str, payload: Members,

@@ -1,7 +1,7 @@
-"""Frames of OCPP 1.6-J: calls, their results and their errors, a list of JSON each.
+"""Frames of OCPP over JSON: calls, their results and their errors, a list each. They are those of both versions.
 
-Of what a charge point calls those members are checked that the bridge uses. They stand in `fields.json`, each with its
-form, and with a `?` where it may be left out. All others are read past, whatever they are.
+Of what a charge point calls those members are checked that the bridge uses. They stand in `fields.json` by version,
+each with its form, and with a `?` where it may be left out. All others are read past, whatever they are.
 """
 import json
 from contextlib import suppress
@@ -22,12 +22,13 @@ class CallError(Exception):
     """What is wrong with a frame or with a call: OCPP's error code, words, and the message id where it can be read."""
 
     def __init__(self, code: str, description: str, message_id: str = "-1") -> None:
+        """The code is that of 1.6."""
         super().__init__(description)
         self.code, self.message_id = code, message_id
 
-    def frame(self, message_id: str) -> str:
-        """The CALLERROR that tells it."""
-        return write_json([ERROR, message_id, self.code, str(self)[:255], {}])
+    def frame(self, message_id: str, version: str) -> str:
+        """The CALLERROR that tells it, with the code as a version spells it."""
+        return write_json([ERROR, message_id, TABLES[version]["codes"].get(self.code, self.code), str(self)[:255], {}])
 
 
 @dataclass(frozen=True)
@@ -58,28 +59,37 @@ def read_frame(text: str) -> Frame:
         return Frame(message_id, None, rest[0])
     if message_type == ERROR and rest and is_text(rest[0]):
         return Frame(message_id, None, {"status": rest[0]})
-    raise CallError("FormationViolation", "neither a call nor an answer of OCPP 1.6", message_id)
+    raise CallError("FormationViolation", "neither a call nor an answer of OCPP", message_id)
 
 
-def check_payload(action: str, payload: Members) -> None:
-    """Raises CallError where the action is not known, or where a member that is used is missing or does not fit."""
-    if action not in TABLES["calls"]:
+def check_payload(version: str, action: str, payload: Members) -> None:
+    """Raises CallError where the version has no such action, or where a member that is used is missing or does not
+    fit."""
+    if action not in TABLES[version]["calls"]:
         raise CallError("NotImplemented", f"{action[:50]}: unknown")
-    for field, form in TABLES["calls"][action].items():
+    _check(TABLES[version], action, TABLES[version]["calls"][action], payload)
+
+
+def _check(table: Members, path: str, fields: Members, members: Members) -> None:
+    for field, form in fields.items():
         name = field.removesuffix("?")
-        if payload.get(name) is None and name == field:
-            raise CallError("OccurenceConstraintViolation", f"{action}.{name}: missing")
-        if payload.get(name) is not None and not _fits(form, payload[name]):
-            raise CallError("PropertyConstraintViolation", f"{action}.{name}: no {form}")
+        value = members.get(name)
+        if value is None and name == field:
+            raise CallError("OccurenceConstraintViolation", f"{path}.{name}: missing")
+        if isinstance(form, dict) and isinstance(value, dict):
+            _check(table, f"{path}.{name}", form, value)
+        elif value is not None and (isinstance(form, dict) or not _fits(table, form, value)):
+            raise CallError("PropertyConstraintViolation",
+                            f"{path}.{name}: no {'object' if isinstance(form, dict) else form}")
 
 
-def _fits(form: str, value: Any) -> bool:
+def _fits(table: Members, form: str, value: Any) -> bool:
     if form in LEAST:
         return type(value) is int and value >= LEAST[form]
     if not is_text(value):
         return form == "list" and isinstance(value, list)
     if form == "dateTime":
         return seconds_in(value) is not None
-    if form == "IdToken":
-        return len(value) <= 20 and value.isascii() and value.isprintable()
-    return value in TABLES["words"].get(form, ())
+    if form in table["longest"]:
+        return len(value) <= int(table["longest"][form]) and value.isascii() and value.isprintable()
+    return bool(value in table["words"].get(form, ()))

@@ -1,30 +1,40 @@
 """Asks charge points for what the node's open commands want, and tells the node what they answered.
 
 A charge point is asked once for each command, and that is kept right before. It is asked one thing at a time: what has
-ended when its turn comes is not asked for. One that has no connection, or loses it before, is asked when it has one
-again, if the command is still open then. Where it does not answer nothing is fed, and the node ends the command at its
-time. Where a transaction starts nevertheless, as behind an answer that a stop of the bridge lost, that
-is the command's: it is let charge if the node still takes that the charge point accepted, and stopped if not.
+ended when its turn comes is not asked for. Where it has no connection, or loses it before, a start or an unlock is
+refused at once, or some seconds behind the start of the bridge; a stop is asked for when it has one again, if that is
+still open then. Where it does not answer nothing is fed, and the node ends the command at its time. Where a transaction
+starts nevertheless, as behind an answer that a stop of the bridge lost, that is the command's: it is let charge if the
+node still takes that the charge point accepted, and stopped if not.
 """
 from collections.abc import Callable
 from functools import partial
 
 from ..node.feeder import repeated
-from .commands import REFUSED, Command
-from .site import ChargePoint, Site
+from .commands import LATE, REFUSED, Command
+from .messages import IdToken, Request, Version
+from .site import ChargePoint, Place, Site
 from .transactions import OVER, STOPPED, Transaction
+
+# Writes a request as a version of OCPP has it.
+Writer = Callable[[Version], Request]
 
 
 class Orders:
     """Carries out commands. `spawn` has each done in a task of its own, that is not under way already."""
 
-    def __init__(self, site: Site, spawn: Callable[..., None]) -> None:
+    def __init__(self, site: Site, spawn: Callable[..., object]) -> None:
         self._site, self._commands, self._spawn = site, site.commands, spawn
 
     def begin(self) -> None:
-        """Begins with each open command that no charge point was asked for yet."""
+        """Begins with each open command that no charge point was asked for yet, and refuses each that came late."""
         for command in self._commands.unasked():
             self._spawn(self._carry_out, command.provider, command.number)
+        for command in self._commands.unasked(LATE):
+            self._spawn(self._refuse, command.provider, command.number)
+
+    async def _refuse(self, provider: str, number: int) -> None:
+        await repeated(partial(self._site.report, "refuses", provider=provider, number=number))
 
     async def _carry_out(self, provider: str, number: int) -> None:
         """Asks for a command. A start that names no EVSE is accepted before: only its session tells where it is.
@@ -36,18 +46,29 @@ class Orders:
         if not names_evse:
             command = await repeated(partial(self._site.accept, command))
         place = self._site.place(command.evse_uid)
-        if place is not None and command.kind == "unlock_connector":
-            if place.settings.connector_id.upper() == str(command.connector_id).upper():
-                await self._ask(command, place.charge_point, "UnlockConnector", connectorId=place.connector)
-        elif not names_evse and (place is None or place.charge_point.connection is None):
+        write = None if place is None else self._request_for(command, place)
+        if names_evse and command.kind == "start_session" and place is not None and self._site.at(place):
+            return
+        if place is not None and write is not None and await self._ask(command, place.charge_point, write):
+            return
+        if not names_evse:
             alone = repeated if place is None else place.charge_point.alone
             await alone(partial(self._site.withdraw, command.session_id))
-        elif place is not None and not (names_evse and self._site.at(place)):
-            was_asked = await self._ask(command, place.charge_point, "RemoteStartTransaction",
-                                        connectorId=place.connector,
-                                        idTag=self._site.id_tag_of(str(command.token_uid)))
-            if not (was_asked or names_evse):
-                await place.charge_point.alone(partial(self._site.withdraw, command.session_id))
+        elif place is None or write is None or self._site.is_away(place.charge_point):
+            self._commands.refuse(command)
+            await self._refuse(provider, number)
+
+    def _request_for(self, command: Command, place: Place) -> Writer | None:
+        """What asks for a start or an unlock at a place. None where that has no such connector."""
+        if command.kind == "unlock_connector":
+            connector = place.settings.number_of(command.connector_id)
+            return None if connector is None else partial(_unlock, place.connector, connector)
+        remote_start, token_type = self._commands.remote_start(command)
+
+        def start(version: Version) -> Request:
+            token = IdToken(self._site.id_tag_of(str(command.token_uid), version.longest_token), token_type)
+            return version.start(place.connector, token, remote_start)
+        return start
 
     async def _stop_session(self, command: Command) -> None:
         """Asks for it. A session without a transaction is ended here: no charge point has anything to stop."""
@@ -60,13 +81,14 @@ class Orders:
             if transaction is None and self._commands.begin(command):
                 await repeated(partial(self._end_unused, command))
         if transaction is not None:
-            await self._ask(command, place.charge_point, "RemoteStopTransaction", transactionId=transaction.number)
+            stopped = transaction
+            await self._ask(command, place.charge_point, lambda version: version.stop(stopped))
 
     async def _end_unused(self, command: Command) -> None:
         await self._site.accept(command)
         await self._site.withdraw(command.session_id)
 
-    async def _ask(self, command: Command, charge_point: ChargePoint, action: str, **payload: object) -> bool:
+    async def _ask(self, command: Command, charge_point: ChargePoint, write: Writer) -> bool:
         """Asks in the turn of the connection, or of one that takes its place before that. False where the command has
         ended by then, or no connection is left: then it stays as it is."""
         was_asked = False
@@ -77,7 +99,7 @@ class Orders:
             return was_asked
 
         while (connection := charge_point.connection) is not None:
-            async with connection.asking(action, payload, is_wanted) as answer:
+            async with connection.asking(*write(connection.version), is_wanted) as answer:
                 if answer is not None:
                     await charge_point.alone(partial(self._tell, command, answer.get("status")))
             if was_asked or connection is charge_point.connection:
@@ -107,5 +129,11 @@ class Orders:
 
         connection = self._site.by_id[charge_point].connection
         if connection is not None:
-            async with connection.asking("RemoteStopTransaction", {"transactionId": number}, runs):
-                pass
+            transaction = self._site.transactions.find(charge_point, number)
+            if transaction is not None:
+                async with connection.asking(*connection.version.stop(transaction), runs):
+                    pass
+
+
+def _unlock(evse: int, connector: int, version: Version) -> Request:
+    return version.unlock(evse, connector)

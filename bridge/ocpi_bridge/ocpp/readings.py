@@ -10,6 +10,7 @@ from ..configuration import ConnectorSettings
 from ..json_text import Members
 from ..records import Session
 from ..state import State
+from .messages import MeterReading
 from .site import EventRefused, Site
 from .transactions import Transaction
 
@@ -17,7 +18,10 @@ LOG = logging.getLogger("ocpp")
 # What the members of a sampled value say where it is the register. None: they are left out.
 REGISTER: dict[str, tuple[str | None, ...]] = {
     "measurand": (None, "Energy.Active.Import.Register"), "phase": (None,), "format": (None, "Raw"),
-    "unit": (None, "Wh", "kWh"), "location": (None, "Outlet")}
+    "location": (None, "Outlet")}
+# The decimal places of a unit in Wh.
+UNITS = {None: 0, "Wh": 0, "kWh": 3}
+MOST_MULTIPLIER = 18
 # The Wh by which a reading may always rise, and how many of those that were dropped are kept.
 ALWAYS_MAY_RISE = 1000
 MOST_DROPPED = 1000
@@ -70,7 +74,7 @@ class Readings:
         for at, register in self._state.query("SELECT at, register FROM ocpp_reading WHERE number = ?",
                                               transaction.number):
             return Reading(at, Decimal(register))
-        return Reading(milliseconds_of(session["start_date_time"]), Decimal(transaction.meter_start))
+        return Reading(milliseconds_of(session["start_date_time"]), transaction.meter_start)
 
     def _drop(self, transaction: Transaction, connector: ConnectorSettings, at: int, register: Decimal | None,
               last: Reading) -> None:
@@ -95,15 +99,40 @@ def _most_risen(connector: ConnectorSettings, milliseconds: int) -> Decimal:
     return ALWAYS_MAY_RISE + connector.max_kw * 1000 * max(0, milliseconds) / MILLISECONDS_OF_HOUR
 
 
-def register_of(meter_value: object) -> Decimal | None:
+def meter_readings(meter_values: object, timestamp: object, context: str | None = None) -> tuple[MeterReading, ...]:
+    """The registers among meter values, those of a context where one is named. One without a moment has that of its
+    message."""
+    found = []
+    for meter_value in meter_values if isinstance(meter_values, list) else []:
+        register = _register_of(meter_value, context)
+        if register is not None:
+            found.append(MeterReading(meter_value.get("timestamp") or timestamp, register))
+    return tuple(found)
+
+
+def _register_of(meter_value: object, context: str | None) -> Decimal | None:
     """The register in Wh among the sampled values of one moment, and None where none is there that can be read."""
     samples = meter_value.get("sampledValue") if isinstance(meter_value, dict) else None
     for sample in samples if isinstance(samples, list) else []:
-        if isinstance(sample, dict) and all(sample.get(name) in words for name, words in REGISTER.items()):
-            value = number_in(sample.get("value"))
-            if value is not None:
-                return value * 1000 if sample.get("unit") == "kWh" else value
+        if (isinstance(sample, dict) and all(sample.get(name) in words for name, words in REGISTER.items())
+                and context in (None, sample.get("context"))):
+            value, places = number_in(sample.get("value")), _places_of(sample)
+            if value is not None and places is not None:
+                return number_in(value.scaleb(places))
     return None
+
+
+def _places_of(sample: Members) -> int | None:
+    """By how many decimal places a value is behind that in Wh. None where it cannot be told.
+
+    The unit stands in the sample in 1.6, and in 2.0.1 beside a multiplier in a member of it.
+    """
+    measure = sample.get("unitOfMeasure")
+    members = measure if isinstance(measure, dict) else sample
+    unit, multiplier = members.get("unit"), members.get("multiplier", 0)
+    if not (unit is None or isinstance(unit, str)) or unit not in UNITS:
+        return None
+    return UNITS[unit] + multiplier if type(multiplier) is int and abs(multiplier) <= MOST_MULTIPLIER else None
 
 
 def number_in(value: object) -> Decimal | None:

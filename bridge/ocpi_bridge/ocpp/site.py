@@ -1,7 +1,7 @@
 """The site of a node: its EVSEs with their charge points, what is kept of these, and how the node is told of them."""
 import asyncio
 import hashlib
-from collections.abc import Awaitable, Callable, Sequence
+from collections.abc import Awaitable, Callable
 from dataclasses import dataclass, field
 from typing import TypeVar
 
@@ -16,12 +16,14 @@ from ..records import Event, Session
 from ..state import State
 from .commands import Command, Commands
 from .connection import Connection
+from .messages import IdToken, StatusReport
 from .transactions import Transactions
 
 OUT_OF_SERVICE = {"Unavailable", "Faulted"}
-LONGEST_ID_TAG = 20
 # 2020 in seconds since 1970. What a charge point dates earlier was told without a clock.
 EARLIEST = 1_577_836_800.0
+# The seconds in which a charge point is awaited behind the start of the bridge.
+CONNECTS_WITHIN = 10.0
 # The seconds for which a node awaits what a provider says of a token.
 QUESTION_WITHIN = 10.0
 Result = TypeVar("Result")
@@ -41,6 +43,9 @@ class ChargePoint:
     # When its last call came since the bridge was started, and the errors that it told, by connector (0: its own).
     heard: float | None = None
     errors: dict[int, str] = field(default_factory=dict)
+    # Since when it is away if it has no connection, as the clock counts what passed, and what connectors told, by EVSE.
+    away_since: float = 0.0
+    statuses: dict[tuple[int, int], str] = field(default_factory=dict)
     lock: asyncio.Lock = field(default_factory=asyncio.Lock)
 
     async def alone(self, action: Callable[[], Awaitable[Result]]) -> Result:
@@ -51,11 +56,12 @@ class ChargePoint:
 
 @dataclass(frozen=True)
 class Place:
-    """Where an EVSE is: a connector of a charge point."""
+    """Where an EVSE is: a connector of a charge point of OCPP 1.6, or an EVSE of one of 2.0.1. It is the same whatever
+    its settings are."""
 
     charge_point: ChargePoint
     connector: int
-    settings: ConnectorSettings
+    settings: ConnectorSettings = field(compare=False)
 
 
 class Site:
@@ -63,15 +69,28 @@ class Site:
 
     def __init__(self, settings: OcppSettings, events: Events, state: State, feeder: Feeder, objects: Objects) -> None:
         self.transactions, self.commands, self.clock = Transactions(state), Commands(state, events.clock), events.clock
-        self.by_id = {name: ChargePoint(point) for name, point in settings.charge_points.items()}
-        self._places: dict[str, Place] = {}
-        for point in self.by_id.values():
-            for number, connector in point.settings.connectors.items():
-                point.places[number] = self._places[connector.evse_uid.upper()] = Place(point, number, connector)
+        self.by_id: dict[str, ChargePoint] = {}
+        self.take(settings)
         self._state, self._events, self._feeder, self._objects = state, events, feeder, objects
+        self.all_living = objects.living_sessions
         # Until when each question awaits its answer, and whether a stop of the node ended that.
         self._questions: dict[tuple[str, int], tuple[float, asyncio.Future[bool]]] = {}
         self._was_open = False
+
+    def take(self, settings: OcppSettings) -> list[ChargePoint]:
+        """Takes charge points in place of those of before, whose connections stay. Gives those that are no more."""
+        before, self.by_id, self._places = self.by_id, {}, dict[str, Place]()
+        for name, of_point in settings.charge_points.items():
+            point = self.by_id[name] = before.get(name) or ChargePoint(
+                of_point, away_since=self.clock.passed() + CONNECTS_WITHIN)
+            point.settings, point.places = of_point, {}
+            for number, connector in of_point.connectors.items():
+                point.places[number] = self._places[connector.evse_uid.upper()] = Place(point, number, connector)
+        return [point for name, point in before.items() if name not in self.by_id]
+
+    def is_away(self, charge_point: ChargePoint, seconds: float = 0) -> bool:
+        """Whether a charge point is away for so long. One that a new bridge has not seen so far may come at once."""
+        return charge_point.connection is None and self.clock.passed() >= charge_point.away_since + seconds
 
     def place(self, evse_uid: str | None) -> Place | None:
         """Where an EVSE is. None where no charge point has it."""
@@ -80,6 +99,19 @@ class Site:
     def status(self, place: Place) -> str | None:
         """The last status that a connector reported."""
         return self._kept(place.settings.evse_uid)[0]
+
+    def status_behind(self, place: Place, report: StatusReport) -> str:
+        """The status of an EVSE behind a report about it, or about one of its connectors: it is out of service where
+        all of these are, and has the status of one that is not Available before others."""
+        connectors = place.settings.connector_ids
+        if report.connector and report.connector not in connectors:
+            return self.status(place) or report.status
+        statuses = place.charge_point.statuses
+        for connector in [report.connector] if report.connector else connectors:
+            statuses[place.connector, connector] = report.status
+        told = [statuses.get((place.connector, connector), self.status(place)) for connector in connectors]
+        usable = [status for status in told if status is not None and status not in OUT_OF_SERVICE]
+        return next((status for status in usable if status != "Available"), usable[0] if usable else report.status)
 
     def set_status(self, place: Place, status: str) -> None:
         if status != self.status(place):
@@ -97,9 +129,15 @@ class Site:
                           f" SET {column} = excluded.{column}", evse_uid.upper(), word)
 
     def note_service(self, event: Event) -> None:
-        """Keeps what an event `service` said, and whether the owner takes the EVSE out of service by it."""
-        word = "in" if event["in_service"] else "owner" if event.get("owner") else "out"
-        self._keep(event["evse_uid"], "service", word)
+        """Keeps what an event `service` said, and whether the owner takes the EVSE out of service by it, or the bridge
+        since the charge point is away."""
+        word = "owner" if event.get("owner") else "away" if event.get("away") else "out"
+        self._keep(event["evse_uid"], "service", "in" if event["in_service"] else word)
+
+    def out_of_service(self) -> dict[str, str]:
+        """The EVSEs of which the node was told last that they are out of service, by their uids in upper case: whether
+        by the `owner`, since their charge point is `away`, or by it (`out`)."""
+        return dict(self._state.query("SELECT evse_uid, service FROM ocpp_evse WHERE service <> 'in'"))
 
     def is_in_service(self, place: Place) -> bool:
         """Whether the node was told last that an EVSE is in service, or nothing."""
@@ -110,17 +148,20 @@ class Site:
         return self._kept(place.settings.evse_uid)[1] == "owner"
 
     def evse_status(self, evse_uid: str) -> str | None:
-        """`OUTOFORDER` where nothing can be charged, `INOPERATIVE` where the EVSE is out of service, else None."""
-        place = self.place(evse_uid)
-        if place is None or place.charge_point.connection is None or self.status(place) == "Faulted":
+        """`OUTOFORDER` where nothing can be charged, `INOPERATIVE` where the EVSE is out of service, `BLOCKED` where a
+        car is plugged in, else None."""
+        place, (status, service) = self.place(evse_uid), self._kept(evse_uid)
+        if place is None or place.charge_point.connection is None or status == "Faulted":
             return "OUTOFORDER"
-        return "INOPERATIVE" if self._kept(evse_uid)[1] in ("out", "owner") else None
+        if service in ("out", "owner"):
+            return "INOPERATIVE"
+        return None if status in (None, "Available", "Unavailable", "Reserved") else "BLOCKED"
 
-    def id_tag_of(self, uid: str) -> str:
-        """What a token is called at charge points: its uid, or a text of the bridge where that is too long for OCPP."""
-        if len(uid) <= LONGEST_ID_TAG:
+    def id_tag_of(self, uid: str, longest: int) -> str:
+        """What a token is called at a charge point: its uid, or a text of the bridge where that is too long there."""
+        if len(uid) <= longest:
             return uid
-        id_tag = hashlib.sha256(uid.upper().encode()).hexdigest()[:LONGEST_ID_TAG].upper()
+        id_tag = hashlib.sha256(uid.upper().encode()).hexdigest()[:longest].upper()
         self._state.query("INSERT INTO ocpp_id_tag (id_tag, token_uid) VALUES (?, ?) ON CONFLICT DO UPDATE"
                           " SET token_uid = excluded.token_uid WHERE token_uid <> excluded.token_uid", id_tag, uid)
         return id_tag
@@ -131,11 +172,11 @@ class Site:
                                                        id_tag.upper())), id_tag)
 
     def seconds_at(self, timestamp: object, session: Session | None = None) -> float:
-        """When a message says that something was, in seconds since 1970.
+        """When a message says that something was, in seconds since 1970. It may tell these.
 
         It is the clock's moment where that cannot be: before 2020, before the start of its session, or later than now.
         """
-        now, told = self.clock.seconds(), seconds_in(timestamp)
+        now, told = self.clock.seconds(), timestamp if isinstance(timestamp, float) else seconds_in(timestamp)
         start = EARLIEST if session is None else max(EARLIEST, seconds_of(session["start_date_time"]))
         return told if told is not None and round(start, 3) <= round(told, 3) <= now else now
 
@@ -163,10 +204,6 @@ class Site:
         session = self.session(session_id)
         return session if session is not None and session["status"] in ("PENDING", "ACTIVE") else None
 
-    def all_living(self) -> Sequence[Session]:
-        """The sessions that are PENDING or ACTIVE."""
-        return self._objects.living_sessions()
-
     async def accept(self, command: Command) -> Command:
         """Feeds that a command is carried out, and gives it as it stands then: a start has a session, or had ended."""
         command = self.commands.find(command.provider, command.number)
@@ -175,15 +212,16 @@ class Site:
         return self.commands.find(command.provider, command.number)
 
     async def withdraw(self, session_id: str | None) -> None:
-        """Ends a session in which nobody charges so far."""
+        """Ends a session for which no transaction came so far."""
         session = self.living(session_id)
-        if session is not None and session["status"] == "PENDING":
+        if session is not None and session["status"] == "PENDING" and self.transactions.of_session(session_id) is None:
             await self.report("stops", evse_uid=session["evse_uid"])
 
-    async def swipe(self, place: Place, token_uid: str) -> None:
+    async def swipe(self, place: Place, token: IdToken, connector: int = 1) -> None:
         """Feeds that a token was shown, and waits until it is decided. A session that began of it then stands there."""
-        outcome = await self.report("swipe", evse_uid=place.settings.evse_uid, token_uid=token_uid, token_type="RFID",
-                                    connector_id=place.settings.connector_id)
+        outcome = await self.report(
+            "swipe", evse_uid=place.settings.evse_uid, token_uid=token.uid, token_type=token.type,
+            connector_id=place.settings.connector_ids.get(connector, place.settings.connector_id))
         for question in outcome.sent("authorize"):
             waiting = self._questions.get((party_key(question.receiver), question.request))
             if waiting is not None and await waiting[1]:

@@ -2,10 +2,12 @@
 sessions of which no message comes any more."""
 import logging
 from collections.abc import Callable
+from functools import partial
 
 from ..clock import moment_of, seconds_of
 from ..json_text import Members
 from ..records import Session
+from .connection import Connection
 from .readings import Readings
 from .site import ChargePoint, Place, Site
 from .transactions import LOST, NEW, Transaction
@@ -14,6 +16,8 @@ LOG = logging.getLogger("ocpp")
 # In seconds: between two looks at all transactions, and for how long a connector has to be Available until its
 # charge point will not tell of the end of a transaction there any more.
 LOOK_EACH, AVAILABLE_FOR = 60.0, 120.0
+# After how many seconds without a connection the EVSEs of a charge point are out of service.
+AWAY_FOR = 60.0
 # After so many seconds without any message a session is silent, which is warned of as often.
 SILENT_BEHIND = 3600.0
 
@@ -22,7 +26,7 @@ class Watch:
     """`stop` has a transaction stopped, and `spawn` has something done in a task of its own."""
 
     def __init__(self, site: Site, readings: Readings, stop: Callable[[Transaction], None],
-                 spawn: Callable[..., None]) -> None:
+                 spawn: Callable[..., object]) -> None:
         self._site, self._transactions, self._stop, self._spawn = site, site.transactions, stop, spawn
         self._readings, self._looked = readings, site.clock.passed()
         # When the last message about each EVSE came since the start, and when its silence was warned of.
@@ -36,6 +40,7 @@ class Watch:
         """Called when a connection begins."""
         for place in charge_point.places.values():
             self._available.pop(place, None)
+        self._look_for_absence()
 
     def note_status(self, place: Place, status: str) -> None:
         """Called with each status that a connector reports."""
@@ -57,23 +62,43 @@ class Watch:
         for place, (since, _) in self._available.items():
             if place.charge_point.connection is not None and now >= since + AVAILABLE_FOR:
                 self._spawn(self._end_all, place)
+        self._look_for_absence()
         if now >= self._looked + LOOK_EACH:
             self._looked = now
             for charge_point in self._site.by_id.values():
                 self.stop_all(charge_point)
             self._warn_of_silence()
 
+    def _look_for_absence(self) -> None:
+        """Has the EVSEs out of service whose charge point is away for some time, and puts back those of one that is
+        not away any more. What the owner said of one, or its charge point, stands."""
+        words = self._site.out_of_service()
+        for charge_point in self._site.by_id.values():
+            for place in charge_point.places.values():
+                if self._absence(place, words) is not None:
+                    self._spawn(self._change_service, place)
+
+    def _absence(self, place: Place, words: dict[str, str]) -> bool | None:
+        """Whether the charge point of an EVSE is away, where the EVSE has to go out of service for that, or back."""
+        word = words.get(place.settings.evse_uid.upper())
+        if place.charge_point.connection is not None:
+            return False if word == "away" else None
+        return True if word is None and self._site.is_away(place.charge_point, AWAY_FOR) else None
+
+    async def _change_service(self, place: Place) -> None:
+        async def change() -> None:
+            is_away = self._absence(place, self._site.out_of_service())
+            if is_away is not None:
+                await self._site.report("service", evse_uid=place.settings.evse_uid, in_service=not is_away,
+                                        **({"away": True} if is_away else {}))
+
+        await place.charge_point.alone(change)
+
     def stop_all(self, charge_point: ChargePoint) -> None:
         """Has each transaction stopped that goes on without a session."""
         for transaction in self._transactions.running(charge_point.settings.id):
             if transaction.state != NEW and self._site.living(transaction.session_id) is None:
                 self._stop(transaction)
-
-    def stop_at(self, evse_uid: str) -> None:
-        """The same of the charge point that has an EVSE."""
-        place = self._site.place(evse_uid)
-        if place is not None:
-            self.stop_all(place.charge_point)
 
     async def _end_all(self, place: Place) -> None:
         """Ends what runs at a connector, where that is still Available."""
@@ -86,17 +111,42 @@ class Watch:
 
     async def end_lost(self, charge_point: ChargePoint, connector: int, timestamp: object, before: int = 2**62) -> None:
         """Ends the transactions of a connector, those with numbers below one that is given: it was told of no end, and
-        will not be told. Their sessions end by their last readings, at a moment in seconds or as a message tells it."""
+        will not be told. Their sessions end by their last readings, at a moment in seconds or as a message tells it.
+        One of which it is not known who charges has none."""
         for transaction in self._transactions.running(charge_point.settings.id, connector):
-            if transaction.number >= before:
-                continue
-            session = self._site.living(transaction.session_id)
-            if session is not None:
-                LOG.warning("%s: transaction %d: no StopTransaction came, and session %s ends by its last reading",
-                            charge_point.settings.id, transaction.number, session["id"])
-                seconds = timestamp if isinstance(timestamp, float) else self._site.seconds_at(timestamp, session)
-                await self._site.report("stops", seconds, evse_uid=session["evse_uid"])
-            self._transactions.update(transaction, LOST, transaction.session_id)
+            is_undecided = transaction.state == NEW and transaction.session_id is None
+            if transaction.number < before and not is_undecided:
+                await self._end_one(transaction, timestamp)
+
+    async def _end_one(self, transaction: Transaction, timestamp: object) -> None:
+        session = self._site.living(transaction.session_id)
+        if session is not None:
+            LOG.warning("%s: transaction %d: its end did not come, and session %s ends by its last reading",
+                        transaction.charge_point, transaction.number, session["id"])
+            await self._site.report("stops", self._site.seconds_at(timestamp, session), evse_uid=session["evse_uid"])
+        self._transactions.update(transaction, LOST, transaction.session_id)
+
+    async def ask_of_transactions(self, charge_point: ChargePoint, connection: Connection) -> bool:
+        """Asks whether what runs goes on, and ends what does not. Whether messages about it are still on their way.
+
+        What came before the answer is told first.
+        """
+        has_more = False
+        for transaction in self._transactions.running(charge_point.settings.id):
+            if (request := connection.version.transaction_status(transaction)) is None:
+                return False
+            async with connection.asking(*request) as answer:
+                told = answer or {}
+                has_more = has_more or told.get("messagesInQueue") is True or connection.has_waiting
+                if (told.get("ongoingIndicator"), told.get("messagesInQueue"), connection.has_waiting) == (
+                        False, False, False):
+                    await charge_point.alone(partial(self._end_over, transaction.charge_point, transaction.number))
+        return has_more
+
+    async def _end_over(self, charge_point: str, number: int) -> None:
+        for transaction in self._transactions.running(charge_point):
+            if transaction.number == number:
+                await self._end_one(transaction, self._site.clock.seconds())
 
     def silent(self) -> list[Members]:
         """The sessions of which no message came for an hour: since when (`at`), `evse_uid`, and what to do."""

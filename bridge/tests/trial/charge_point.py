@@ -28,8 +28,10 @@ class Transaction:
     meter_start: int
     energy: int
     ends: str
+    remote_start: int | None = None
     status: str = ""
-    number: int = 0
+    number: int | str = 0
+    is_told_late: bool = False
     is_reported: bool = False
     is_claimed: bool = False
     asked_to_end: asyncio.Event = field(default_factory=asyncio.Event)
@@ -43,6 +45,9 @@ class Transaction:
 class ChargePoint:
     """Connects again whenever its connection is lost. `address` tells where, or None while nobody listens."""
 
+    subprotocol = "ocpp1.6"
+    boot: Payload = {"chargePointVendor": "Trial", "chargePointModel": "One"}
+
     def __init__(self, identifier: str, password: str, address: Callable[[], str | None], chance: Random,
                  factor: float) -> None:
         self.transactions: list[Transaction] = []
@@ -53,9 +58,12 @@ class ChargePoint:
         self._is_swiped = False
         self._register = chance.randrange(1_000_000)
         self._tasks: set["asyncio.Task[None]"] = set()
-        self._connection = Connection(identifier, password, address, chance, factor, self._answer, self._booted)
+        self._connection = Connection(identifier, password, address, chance, factor, self._answer, self._booted,
+                                      self.subprotocol, self.boot)
         self.faults = self._connection.faults
         self._changed = asyncio.Event()
+        # Whoever reports several messages, which belong together, has it.
+        self._telling = asyncio.Lock()
 
     @property
     def _is_busy(self) -> bool:
@@ -122,10 +130,10 @@ class ChargePoint:
             return False
         return bool(answer["idTagInfo"]["status"] == "Accepted")
 
-    def _begin(self, id_tag: str) -> None:
+    def _begin(self, id_tag: str, remote_start: int | None = None) -> None:
         """Lets a transaction run from now on. Its energy is that of no other transaction here."""
         energy = 1000 * self._chance.randrange(1, 40) + len(self.transactions) + 1
-        transaction = Transaction(id_tag, self._register, energy, self.ends.get(id_tag, "Local"))
+        transaction = Transaction(id_tag, self._register, energy, self.ends.get(id_tag, "Local"), remote_start)
         self.transactions.append(transaction)
         self._running = transaction
         self._spawn(self._charge(transaction))
@@ -144,38 +152,53 @@ class ChargePoint:
 
     async def _charge(self, transaction: Transaction) -> None:
         """Reports a transaction from its start to its end. Each report is repeated until it is answered."""
-        started = {"connectorId": CONNECTOR, "idTag": transaction.id_tag, "meterStart": transaction.meter_start,
-                   "timestamp": self._connection.moment()}
-        answer = await self._connection.report("StartTransaction", started)
-        transaction.number = int(answer["transactionId"])
-        transaction.status = str(answer["idTagInfo"]["status"])
+        await self._report_start(transaction)
         self._changed.set()
-        if transaction.was_let_charge:
+        if transaction.was_let_charge or transaction.is_told_late:
             await self._notify("Charging")
             await self._get_energy(transaction)
         else:
             transaction.energy = 0
             transaction.reason = "DeAuthorized"
         self._register = transaction.meter_start + transaction.energy
+        reporting = self._report_end(transaction)
+        self._running = None
+        self._changed.set()
+        await reporting
+        transaction.is_reported = True
+        self._changed.set()
+        if self._running is None:
+            await self._notify("Available")
+
+    async def _report_start(self, transaction: Transaction) -> None:
+        """Reports that a transaction began, and takes in whether it may charge."""
+        started = {"connectorId": CONNECTOR, "idTag": transaction.id_tag, "meterStart": transaction.meter_start,
+                   "timestamp": self._connection.moment()}
+        answer = await self._connection.report("StartTransaction", started)
+        transaction.number = int(answer["transactionId"])
+        transaction.status = str(answer["idTagInfo"]["status"])
+
+    def _report_end(self, transaction: Transaction) -> Awaitable[None]:
+        """Reports that a transaction ended, as of now."""
         stopped: Payload = {"transactionId": transaction.number, "meterStop": self._register,
                             "timestamp": self._connection.moment(), "reason": transaction.reason}
         if happens(self._chance):
             stopped["idTag"] = transaction.id_tag
         if happens(self._chance, 0.5):
             stopped["transactionData"] = [{"timestamp": stopped["timestamp"], "sampledValue": ODD}]
-        self._running = None
-        self._changed.set()
-        await self._connection.report("StopTransaction", stopped)
-        transaction.is_reported = True
-        self._changed.set()
-        if self._running is None:
-            await self._notify("Available")
+
+        async def report() -> None:
+            await self._connection.report("StopTransaction", stopped)
+        return report()
+
+    async def _report_energy(self, transaction: Transaction, energy: int) -> None:
+        await self._connection.report("MeterValues", self._reading(transaction, energy))
 
     async def _get_energy(self, transaction: Transaction) -> None:
         """Charges, reports readings meanwhile, and waits for what ends it."""
         for part in sorted(self._chance.uniform(0.1, 0.9) for _ in range(self._chance.randrange(3))):
             await asyncio.sleep(self._chance.uniform(0.1, 0.5))
-            await self._connection.report("MeterValues", self._reading(transaction, int(transaction.energy * part)))
+            await self._report_energy(transaction, int(transaction.energy * part))
         if transaction.ends != "Local":
             try:
                 await asyncio.wait_for(transaction.asked_to_end.wait(), LONGEST_CHARGE)
@@ -210,7 +233,7 @@ class ChargePoint:
     async def _answer(self, action: str, payload: Payload) -> Payload | None:
         """The answer to a call of the central system, or None to an action that it does not know."""
         if action == "RemoteStartTransaction":
-            return {"status": self._start_from_afar(payload)}
+            return {"status": self._start_from_afar(payload["idTag"], payload.get("connectorId", CONNECTOR))}
         if action == "RemoteStopTransaction":
             return {"status": self._end_from_afar("Remote", payload["transactionId"])}
         if action == "UnlockConnector":
@@ -218,19 +241,19 @@ class ChargePoint:
             return {"status": "Unlocked"}
         return {"status": "Accepted"} if action in ("ChangeAvailability", "TriggerMessage") else None
 
-    def _start_from_afar(self, payload: Payload) -> str:
+    def _start_from_afar(self, id_tag: str, connector: int, remote_start: int | None = None) -> str:
         running = self._running
         if running is not None and running.was_let_charge:
-            self.faults.append(f"asked to start {payload['idTag']} while {running.id_tag} charges")
-        if payload.get("connectorId", CONNECTOR) != CONNECTOR:
-            self.faults.append(f"asked to start at connector {payload['connectorId']}")
+            self.faults.append(f"asked to start {id_tag} while {running.id_tag} charges")
+        if connector != CONNECTOR:
+            self.faults.append(f"asked to start at connector {connector}")
         if self._is_busy or happens(self._chance, 0.05):
             return "Rejected"
-        self.accepted_starts.append(payload["idTag"])
-        self._begin(payload["idTag"])
+        self.accepted_starts.append(id_tag)
+        self._begin(id_tag, remote_start)
         return "Accepted"
 
-    def _end_from_afar(self, reason: str, number: int | None) -> str:
+    def _end_from_afar(self, reason: str, number: int | str | None) -> str:
         running = self._running
         if running is None or number is not None and running.number != number:
             return "Rejected"

@@ -172,6 +172,12 @@ def weaves(bridges: Mapping[str, RunningBridge]) -> list[str]:
     return faults
 
 
+def has_no_traceback(bridges: Mapping[str, RunningBridge]) -> list[str]:
+    """Nothing that befell a bridge was a fault of its own."""
+    return [f"the log of {party} has a traceback: {bridge.log().partition('Traceback')[2][-2000:]}"
+            for party, bridge in bridges.items() if "Traceback" in bridge.log()]
+
+
 def keeps_secrets(bridges: Mapping[str, RunningBridge], secrets: Secrets, charges: Iterable[Charge]) -> list[str]:
     """No token and no password stands in a log, and what a bridge keeps is for its owner alone."""
     faults = []

@@ -34,7 +34,9 @@ class Connection:
 
     def __init__(self, identifier: str, password: str, address: Callable[[], str | None], chance: Random,
                  factor: float, answer: Callable[[str, Payload], Awaitable[Payload | None]],
-                 booted: Callable[[], Awaitable[None]]) -> None:
+                 booted: Callable[[], Awaitable[None]], subprotocol: str, boot: Payload) -> None:
+        """`boot` is the payload of its BootNotification."""
+        self._subprotocol, self._boot = subprotocol, boot
         self._path = f"/{identifier}"
         credentials = base64.b64encode(f"{identifier}:{password}".encode()).decode()
         self._headers = {"Authorization": f"Basic {credentials}"}
@@ -98,7 +100,7 @@ class Connection:
 
     async def _live(self, session: ClientSession, url: str) -> None:
         """One connection, from its beginning until it is lost."""
-        async with session.ws_connect(url, protocols=("ocpp1.6",), headers=self._headers, autoclose=True) as opened:
+        async with session.ws_connect(url, protocols=(self._subprotocol,), headers=self._headers) as opened:
             self._socket = opened
             beginning = asyncio.create_task(self._begin())
             life = asyncio.get_running_loop().call_later(self._chance.expovariate(1 / LIVES_FOR_ABOUT), self._lose)
@@ -119,8 +121,7 @@ class Connection:
     async def _begin(self) -> None:
         """Boots, takes the time once, and lets reports go out."""
         try:
-            boot = {"chargePointVendor": "Trial", "chargePointModel": "One"}
-            answer = await self._send("BootNotification", boot, str(uuid.uuid4()))
+            answer = await self._send("BootNotification", self._boot, str(uuid.uuid4()))
             if self._origin is None:
                 theirs = datetime.fromisoformat(answer["currentTime"].replace("Z", "+00:00"))
                 self._origin = ((theirs - datetime(1970, 1, 1, tzinfo=timezone.utc)) / timedelta(seconds=1),

@@ -16,14 +16,14 @@ from .charges import Charge
 from .chance import happens
 from .parties import CONNECTOR, LOCATION, Secrets
 
-# In seconds of the machine. A command lasts 1.5 of them, and a question about a token half a second.
-A_START_TAKES = 4.0
-A_SWIPE_TAKES = 1.0
+# In seconds of the machine. A command lasts 2.5 of them, and a question about a token 0.8.
+A_START_TAKES = 5.0
+A_SWIPE_TAKES = 1.5
 A_RESERVATION_TAKES = 3.0
 AN_END_TAKES = 2.5
 A_REPORT_TAKES = 20.0
-A_CHARGE_TAKES = 90.0
-# In seconds of the bridges' clocks: 12 of the machine.
+A_CHARGE_TAKES = 180.0
+# In seconds of the bridges' clocks: 20 of the machine.
 A_RESERVATION_LASTS = timedelta(seconds=240)
 
 

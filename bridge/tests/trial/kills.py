@@ -1,4 +1,4 @@
-"""Kills bridges and nodes at moments that are drawn by chance, and starts the bridges again."""
+"""Kills bridges and nodes at moments that are drawn by chance, and starts the bridges again. Once a disk is full."""
 import asyncio
 import os
 import signal
@@ -6,6 +6,7 @@ from collections.abc import Mapping
 from random import Random
 
 from ..running import RunningBridge
+from .disk import Disk
 
 KILLS = 10
 VICTIMS = ("bridge", "node", "both")
@@ -17,15 +18,18 @@ LONGEST_ABSENCE = 1.0
 class Kills:
     """Who was killed, and the most memory that a bridge had by then."""
 
-    def __init__(self, bridges: Mapping[str, RunningBridge], chance: Random) -> None:
-        self._bridges = bridges
+    def __init__(self, bridges: Mapping[str, RunningBridge], disk: Disk, chance: Random) -> None:
+        self._bridges, self._disk = bridges, disk
         self._chance = chance
         self.told: list[str] = []
         self.most_memory = 0
 
     async def carry_out(self) -> None:
-        """Kills ten times, one after another. Ends with all bridges up."""
-        for _ in range(KILLS):
+        """Kills ten times, one after another, and in between has the disk full. Ends with all bridges up."""
+        full_before = self._chance.randrange(KILLS)
+        for number in range(KILLS):
+            if number == full_before:
+                await self._disk.become_full(self._bridges[self._disk.party])
             await asyncio.sleep(self._chance.uniform(0.3, LONGEST_PAUSE))
             party = self._chance.choice(sorted(self._bridges))
             victim = self._chance.choice(VICTIMS)

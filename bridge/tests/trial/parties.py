@@ -12,7 +12,7 @@ PROVIDERS = ("NL/TNM", "FR/ZZZ")
 PARTIES = OPERATORS + PROVIDERS
 LOCATION = "LOC1"
 CONNECTOR = "1"
-CLOCK_FACTOR = 20.0
+CLOCK_FACTOR = 12.0
 
 
 @dataclass(frozen=True)
@@ -22,11 +22,15 @@ class Place:
     operator: str
     charge_point: str
     evse_uid: str
+    version: str
 
 
 def places_of(party: str) -> list[Place]:
-    """Three places of an operator. Their names tell the operator, so that no two of a trial are the same."""
-    return [Place(party, f"{party[3:]}-CP{number}", f"{party[3:]}-E{number}") for number in (1, 2, 3)]
+    """Three places of an operator. Their names tell the operator, so that no two of a trial are the same. Each other
+    one speaks OCPP 2.0.1."""
+    first = OPERATORS.index(party)
+    return [Place(party, f"{party[3:]}-CP{number}", f"{party[3:]}-E{number}",
+                  ("1.6", "2.0.1")[(first + number) % 2]) for number in (1, 2, 3)]
 
 
 def partners_of(party: str) -> tuple[str, ...]:

@@ -11,7 +11,7 @@ from .chance import happens
 
 # Headers of one connection, which are not passed on.
 OF_A_CONNECTION = ("host", "connection", "keep-alive", "content-length", "transfer-encoding")
-# In seconds of the machine. A bridge of a trial awaits a response for half a second.
+# In seconds of the machine. A bridge of a trial awaits a response for 0.8 of them.
 LONGEST_DELAY = 0.4
 LONGEST_DELAY_OF_A_RESPONSE = 0.3
 LONGEST_DELAY_OF_A_REPEAT = 1.5
@@ -67,11 +67,11 @@ class Request:
 class Proxy:
     """Listens at a port of its own, which stays when the bridge behind it starts again at another one."""
 
-    def __init__(self, chance: Random, budget: Budget) -> None:
+    def __init__(self, chance: Random, budget: Budget, slowness: float) -> None:
+        """Each answer takes `slowness` seconds longer."""
         self.target: str | None = None
         self.url = ""
-        self._chance = chance
-        self._budget = budget
+        self._chance, self._budget, self._slowness = chance, budget, slowness
         self._copies: set["asyncio.Task[web.Response | None]"] = set()
 
     @property
@@ -104,7 +104,7 @@ class Proxy:
         fate = Fate.drawn(self._chance)
         response = await self._pass_on(request, fate) if self._budget.take() else None
         if response is not None and not fate.is_response_lost:
-            await asyncio.sleep(fate.response_delay)
+            await asyncio.sleep(self._slowness + fate.response_delay)
             return response
         if not fate.is_loss_told:
             await asyncio.sleep(SILENCE)

@@ -9,7 +9,7 @@ from pathlib import Path
 
 from ..running import PROGRAM, Members, RunningBridge
 
-READS_WITHIN = 60.0
+READS_WITHIN = 120.0
 
 
 def read_exactly(text: str) -> Members:

@@ -1,4 +1,5 @@
-"""One trial: four nodes behind four bridges, bad links between them, kills, and thirty charges."""
+"""One trial: four nodes behind four bridges, bad links between them, kills, a slow partner, a full disk, two restored
+backups, and thirty charges."""
 import asyncio
 import re
 import tempfile
@@ -14,20 +15,25 @@ from ..running import RunningBridge
 from . import checks
 from .chance import stream
 from .charge_point import ChargePoint
+from .charging_station import ChargingStation
 from .charges import drawn
+from .disk import Disk
 from .drivers import Drivers
 from .kills import Kills
-from .parties import CLOCK_FACTOR, OPERATORS, PARTIES, PLACES, Secrets, bridges
+from .parties import CLOCK_FACTOR, OPERATORS, PARTIES, PLACES, PROVIDERS, Place, Secrets, bridges
 from .proxy import Budget, Proxy
 from .records import records_of
+from .restore import restore
 
 MOST_REQUESTS = 20_000
 MOST_MEMORY = 300_000_000
 # In seconds of the machine.
-ENDS_WITHIN = 210.0
-CHARGES_WITHIN = 150.0
-QUIET_WITHIN = 60.0
+ENDS_WITHIN = 600.0
+CHARGES_WITHIN = 240.0
+QUIET_WITHIN = 90.0
 QUIET_FOR = 1.5
+# How long one of the parties takes for each answer: by the bridges' clocks that is four seconds.
+SLOW = 0.3
 NUMBERS = ("ocpi_open_commands", "ocpi_unacknowledged_pushes")
 WAITING = re.compile(r"^(\w+) (\d+)(?:\.0)?$", re.MULTILINE)
 
@@ -49,19 +55,22 @@ class Trial:
         self._secrets = Secrets.drawn(stream(seed, "secrets"))
         self._charges = drawn(stream(seed, "charges"))
         self._budget = Budget(MOST_REQUESTS)
-        self._proxies = {party: Proxy(stream(seed, "proxy", party), self._budget) for party in PARTIES}
-        self._charge_points = {place.charge_point: self._charge_point(seed, place.operator, place.charge_point)
-                               for place in PLACES}
+        self._slow, self._disk = stream(seed, "slow").choice(PARTIES), Disk(stream(seed, "disk"))
+        self._proxies = {party: Proxy(stream(seed, "proxy", party), self._budget, SLOW if party == self._slow else 0.0)
+                         for party in PARTIES}
+        self._restored = [stream(seed, "restored").choice(parties) for parties in (OPERATORS, PROVIDERS)]
+        self._charge_points = {place.charge_point: self._charge_point(seed, place) for place in PLACES}
         self._bridges: dict[str, RunningBridge] = {}
         self._seed = seed
         self.faults: list[str] = []
 
-    def _charge_point(self, seed: int, operator: str, identifier: str) -> ChargePoint:
+    def _charge_point(self, seed: int, place: Place) -> ChargePoint:
         def address() -> str | None:
-            bridge = self._bridges[operator]
+            bridge = self._bridges[place.operator]
             return bridge.ocpp_url if "ocpp" in bridge.addresses else None
-        return ChargePoint(identifier, self._secrets.passwords[identifier], address,
-                           stream(seed, "charge point", identifier), CLOCK_FACTOR)
+        kind = ChargePoint if place.version == "1.6" else ChargingStation
+        return kind(place.charge_point, self._secrets.passwords[place.charge_point], address,
+                    stream(seed, "charge point", place.charge_point), CLOCK_FACTOR)
 
     async def carry_out(self) -> str:
         """Runs the trial, and gives what it had in words. Its faults are in `faults`."""
@@ -71,6 +80,7 @@ class Trial:
                                 self._secrets)
         for party, proxy in self._proxies.items():
             proxy.target = self._bridges[party].ocpi_url
+        self._disk.mount(self._bridges[self._disk.party])
         running = [asyncio.create_task(charge_point.run()) for charge_point in self._charge_points.values()]
         try:
             await asyncio.gather(*(bridge.start() for bridge in self._bridges.values()))
@@ -84,12 +94,19 @@ class Trial:
                 await proxy.close()
             for bridge in self._bridges.values():
                 bridge.kill()
+            self._disk.unmount()
 
     async def _charge_and_check(self) -> str:
-        kills = Kills(self._bridges, stream(self._seed, "kills"))
+        kills = Kills(self._bridges, self._disk, stream(self._seed, "kills"))
         drivers = Drivers(self._bridges, self._charge_points, self._secrets, stream(self._seed, "drivers"))
-        work = [drivers.carry_out([charge for charge in self._charges if charge.place == place]) for place in PLACES]
-        await self._all_of(kills.carry_out(), *work)
+        work = [[charge for charge in self._charges if charge.place == place] for place in PLACES]
+        # The last charge at each place comes behind the restored backups.
+        await self._all_of(kills.carry_out(), *(drivers.carry_out(charges[:-1]) for charges in work))
+        await self._quiet()
+        for party in self._restored:
+            kills.note_memory(party)
+            await restore(self._bridges[party], self._folder)
+        await self._all_of(*(drivers.carry_out(charges[-1:]) for charges in work))
         await self._quiet()
         for party, bridge in self._bridges.items():
             kills.note_memory(party)
@@ -140,6 +157,7 @@ class Trial:
     def _check(self, drivers: Drivers, kills: Kills) -> None:
         """Adds what is at fault at the end."""
         records = records_of(self._bridges)
+        self.faults += self._disk.faults + checks.has_no_traceback(self._bridges)
         self.faults += checks.has_quiet_rows(records) + checks.settles(self._bridges, records)
         self.faults += checks.is_held_alike(records) + checks.is_started_once(records, self._charge_points)
         self.faults += checks.is_billed_once(records, self._charge_points)
@@ -156,7 +174,9 @@ class Trial:
         transactions = [one for charge_point in self._charge_points.values() for one in charge_point.transactions]
         refused = sum(1 for one in transactions if not one.was_let_charge)
         return (f"{len(self._charges)} charges, {len(transactions)} transactions of which {refused} were refused, "
-                f"{len(kills.told)} kills, {self._budget.made} requests, {kills.most_memory / 1e6:.0f} MB at most")
+                f"{len(kills.told)} kills, {self._slow} slow, {self._disk.told}, "
+                f"{' and '.join(self._restored)} restored, {self._budget.made} requests, "
+                f"{kills.most_memory / 1e6:.0f} MB at most")
 
 
 def room() -> str | None:

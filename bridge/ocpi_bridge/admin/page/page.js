@@ -247,7 +247,32 @@ function showBills() {
   }));
 }
 
+// The connectors of all operators, as these tell them: those that are free first.
+function showOffers() {
+  fill("offers", shown.offers.map((offer) => {
+    const price = typeof offer.price === "number" ? `${offer.price.toFixed(4)} ${offer.currency}/kWh` : "";
+    const connector = [offer.connector_id, offer.standard && `(${offer.standard})`].filter(Boolean).join(" ");
+    return {
+      key: `${offer.operator} ${offer.location_id} ${offer.evse_uid} ${offer.connector_id}`, says: offer, cells: [
+        offer.evse_uid, offer.operator, offer.location, badge(offer.status), connector,
+        { number: offer.kw ? `${offer.kw} kW` : "" }, { number: price + (offer.has_more ? " and more" : "") },
+        offer.status === "AVAILABLE" ? button("Choose", `Choose ${offer.evse_uid}`, () => choose(offer)) : ""] };
+  }));
+}
+
+// Enters an offer into the form.
+function choose(offer) {
+  const chosen = { operator: offer.operator, location: offer.location_id, evse: offer.evse_uid,
+    connector: offer.connector_id };
+  for (const [name, value] of Object.entries(chosen)) {
+    start.elements[name].value = value;
+    showChoices();
+  }
+  start.elements.token.focus();
+}
+
 function showProvider() {
+  showOffers();
   fill("owed", shown.owed.map((owed) => ({
     key: `${owed.operator} ${owed.currency}`, says: owed,
     cells: [owed.operator, { number: costOf({ excl_vat: owed.amount }, owed.currency) }] })));
@@ -279,7 +304,9 @@ function showChoices() {
   const site = shown.operators.find((node) => node.party === operator.value)?.site;
   offer(location, (site?.locations || []).map((place) => [place.id, `${place.address}, ${place.city}`]));
   const place = site?.locations.find((one) => one.id === location.value);
-  offer(evse, (place?.evses || []).map((one) => [one.uid, `${one.uid} (${one.evse_id})`]));
+  const statusOf = (uid) => wordsOf(shown.offers.find((one) => one.operator === operator.value &&
+    one.location_id === location.value && one.evse_uid === uid)?.status);
+  offer(evse, (place?.evses || []).map((one) => [one.uid, `${one.uid} (${one.evse_id}) ${statusOf(one.uid)}`.trim()]));
   const connectors = place?.evses.find((one) => one.uid === evse.value)?.connectors || [];
   offer(connector, connectors.map((one) => [one.id, `${one.id} (${one.standard})`]));
   offer(token, shown.tokens.map((one) => [JSON.stringify([one.uid, one.type]), `${one.uid} (${one.type})`]));

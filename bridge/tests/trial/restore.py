@@ -1,0 +1,45 @@
+"""Restores the backup of a party that has sent nothing since, as its owner would."""
+import asyncio
+import shutil
+import sqlite3
+from contextlib import closing
+from pathlib import Path
+
+from ..running import RunningBridge
+
+# How often a backup is made anew, since something was sent behind it.
+MOST_BACKUPS = 5
+REFUSED = 3
+
+
+async def restore(bridge: RunningBridge, folder: Path) -> None:
+    """Makes a backup in a folder, ends the bridge, and starts it over the copies. Raises AssertionError."""
+    for number in range(MOST_BACKUPS):
+        backup = folder / f"{bridge.folder.name}-{number}"
+        answer = await bridge.admin_post("/backup", {"to": str(backup)})
+        assert answer["status"] == 200, answer
+        status = await bridge.stop()
+        assert status in (0, 1), f"{bridge.party} ended with status {status}"
+        if serial_of(backup / "state.db") == serial_of(bridge.folder / "bridge.db"):
+            break
+        await bridge.start()
+    else:
+        raise AssertionError(f"{bridge.party} does not stop sending")
+    for copy, place in ((backup / "store.db", bridge.store), (backup / "state.db", bridge.folder / "bridge.db")):
+        file = place.resolve()
+        for beside in file.parent.glob(f"{file.name}*"):
+            beside.unlink()
+        shutil.copy(copy, file)
+    bridge.begin()
+    status = await bridge.ended()
+    assert status == REFUSED, f"{bridge.party} starts over a backup without a word, status {status}"
+    bridge.words = ["--restored"]
+    await bridge.start()
+    bridge.words = []
+    await asyncio.to_thread(shutil.rmtree, backup)
+
+
+def serial_of(state: Path) -> str:
+    """The serial of the last packet that a bridge saw of its node."""
+    with closing(sqlite3.connect(f"file:{state.resolve()}?mode=ro", uri=True)) as connection:
+        return str(connection.execute("SELECT value FROM value_of WHERE name = 'node.serial'").fetchone()[0])
