@@ -42,7 +42,7 @@ ends_behind : (xs ys : List ℕ) → EndsLine ys → EndsLine (xs ++ 10 ∷ ys)
 ends_behind xs ys NoLine = AtFeed xs
 ends_behind xs ys (AtFeed before) = subst EndsLine (append_assoc xs (10 ∷ before) (10 ∷ [])) (AtFeed (xs ++ 10 ∷ before))
 
-no_feed_in : (text : List ℕ) → ((k d : ℕ) → k < length text → get_or text k d ≢ 10) → feeds_of text ≡ 0
+pub no_feed_in : (text : List ℕ) → ((k d : ℕ) → k < length text → get_or text k d ≢ 10) → feeds_of text ≡ 0
 unfolding feeds_of
 no_feed_in [] plain = refl
 no_feed_in (c ∷ text) plain =

@@ -8,7 +8,7 @@ pub data EndsLine : List ℕ → Type 0 where
   NoLine : EndsLine []
   AtFeed : (before : List ℕ) → EndsLine (before ++ 10 ∷ [])
 
-decide : (b : Bool) → (b ≡ true) ⊎ (b ≡ false)
+pub decide : (b : Bool) → (b ≡ true) ⊎ (b ≡ false)
 decide true = inl refl
 decide false = inr refl
 

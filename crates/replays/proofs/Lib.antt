@@ -21,3 +21,7 @@ pub mod LineFacts
 pub mod HistoryLemmas
 pub mod FitLemmas
 pub mod PartyLemmas
+pub mod LinesRead
+pub mod SetupRead
+pub mod TranscriptLemmas
+pub mod FileRead

@@ -10,6 +10,7 @@ use Rattle.replays.specs.Reading.{AreCut, Fits, MayBe, OpensOver, Reader, WasOpe
 use Rattle.replays.specs.declared.opening.Fit.{Fit}
 use Rattle.replays.specs.declared.opening.Fit.TheVariants as fit
 use Rattle.replays.specs.declared.opening.Opened.{Opened}
+use Rattle.replays.specs.declared.opening.Piece.{Piece}
 use Rattle.replays.specs.declared.opening.Tried.{Tried}
 use Rattle.replays.specs.declared.opening.Tried.TheVariants as tried
 use Rattle.replays.specs.declared.opening.Ways.{Ways}
@@ -76,3 +77,6 @@ pub data IsPassed (r : Reader) (setup : List Node) (closed : Bool) (piece : List
   Not : (member : Node) → slice_get setup place ≡ Some member → IsTried setup member held closed piece tried.No → after ≡ before → IsPassed r setup closed piece held place before after
   May : (member : Node) → slice_get setup place ≡ Some member → MayBe r (party_of member) → IsTried setup member held closed piece tried.May → after ≡ before ++ party_of member ∷ []
       → IsPassed r setup closed piece held place before after
+
+abbrev pub IsPassedBy : Reader → List Node → Piece → Held → ℕ → List (List ℕ) → List (List ℕ) → Type 0
+IsPassedBy r setup p held place before after = IsPassed r setup p.is_closed p.bytes.now held place before after
