@@ -1,7 +1,6 @@
 -- How what stands behind a setup line fits a line.
 use Rattle.std.proofs.Common.{append_assoc, ◌≡◌, ◌≢◌, ◌<◌, ℕ, ◌+◌, List, [], ◌∷◌, ◌++◌, All, Bool, true, false, eqb, length, refl, sym, ap, subst, ◌∙◌, append-nil, arith, length-append, true≢false, drop, eqb-true, eq-eqb, Decides, IfOk, Result, Ok, Err, ◌-◌, ap₂, codes, decimal, take, take_at}
 use Rattle.std.proofs.lemmas.Fmt.{decimal_nonempty, length-decimal-le_succ}
-use Rattle.std.proofs.lemmas.Slice.Eq.{starts_is}
 use Rattle.std.specs.List.{starts_with}
 use Rattle.node_core.specs.Members.{IsMadeOfRows, StartsAgainFrom}
 use Rattle.node_runs.specs.DoneLines.{opened_line, text_json}
@@ -14,25 +13,13 @@ use Rattle.provider_rows.specs.Steps as provider_steps
 use Rattle.std.specs.declared.alloc.AllocError.{AllocError}
 use Rattle.stored_laws.specs.Nodes.{CanStartAgain, last_serial, restarted}
 use Rattle.world_steps.specs.World.{NodeState, Operates, Provides}
+use Rattle.replays.proofs.FrontLemmas.{front_of, not_begun}
 use Rattle.replays.proofs.Lists.{Cuts, First, IsPlain, Second, cuts, last_one, plain_has_feed}
 use Rattle.replays.specs.LineTurns.{Held, Store, held_in}
 use Rattle.replays.specs.declared.opening.Tried.{Tried}
 use Rattle.replays.specs.declared.opening.Tried.TheVariants as tried
 use Rattle.replays.specs.Reading.{Fits, IsCut, IsWhole, OpensOver, told_line}
 use Rattle.replays.specs.Ways.{IsBegun, IsClosed, IsLineTried, IsNodeTried, IsTried}
-
--- that it begins so, or not
-numbers_decide : (a b : ℕ) → Decides (eqb a b) (a ≡ b)
-numbers_decide a b = (eqb-true a b, eq-eqb a b)
-
-front_of : (xs ys : List ℕ) → starts_with eqb xs ys ≡ true → (rest : List ℕ) × (xs ≡ ys ++ rest)
-front_of xs ys is = (drop (length ys) xs, (starts_is numbers_decide xs ys (starts_with eqb xs ys) refl).0 is)
-
-begins : (ys rest : List ℕ) → starts_with eqb (ys ++ rest) ys ≡ true
-begins ys rest = (starts_is numbers_decide (ys ++ rest) ys (starts_with eqb (ys ++ rest) ys) refl).1 rest refl
-
-not_begun : {X : Type 0} (xs ys rest : List ℕ) → starts_with eqb xs ys ≡ false → xs ≡ ys ++ rest → X
-not_begun xs ys rest no_front is = absurd (true≢false (sym (begins ys rest) ∙ ap (λ l. starts_with eqb l ys) (sym is) ∙ no_front))
 
 pub fit_no : (closed : Bool) (piece line : List ℕ) → starts_with eqb line piece ≡ false → Fits closed piece line → ⊥
 fit_no closed piece line no_front (IsWhole is) = not_begun line piece (10 ∷ []) no_front is

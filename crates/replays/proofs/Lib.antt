@@ -19,7 +19,10 @@ pub mod AnswerLemmas
 pub mod LineLemmas
 pub mod LineFacts
 pub mod HistoryLemmas
+pub mod FrontLemmas
 pub mod FitLemmas
+pub mod ResultLemmas
+pub mod AnsweredLines
 pub mod PartyLemmas
 pub mod LinesRead
 pub mod SetupRead

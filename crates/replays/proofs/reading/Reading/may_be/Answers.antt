@@ -1,7 +1,7 @@
 use Rattle.std.proofs.Common.{◌↔◌, IsTrue, subst, true, false}
 use Rattle.replays.proofs.PartyLemmas.{may_be_any, may_be_some, may_not_be, nobody, none_of, some_of}
 use Rattle.replays.specs.Reading.{IsAmong, MayBe, Reader}
-use Rattle.replays.proofs.members.Reading.may_be.Goals as goal
+use Rattle.replays.proofs.reading.Reading.may_be.Goals as goal
 
 pub returns-then-is_empty : goal.returns-then-is_empty
 returns-then-is_empty c =
