@@ -14,7 +14,7 @@ use Rattle.std.specs.declared.alloc.AllocError.{AllocError}
 use Rattle.stored_laws.specs.Nodes.{CanStartAgain, last_serial, restarted}
 use Rattle.world_steps.specs.World.{NodeState, Operates, Provides}
 use Rattle.replays.proofs.FrontLemmas.{front_of, not_begun}
-use Rattle.replays.proofs.Lists.{Cuts, First, IsPlain, Second, cuts, last_one, plain_has_feed}
+use Rattle.replays.proofs.Lists.{behind_front, Cuts, First, IsPlain, Second, cuts, last_one, plain_has_feed}
 use Rattle.replays.specs.LineTurns.{Held, Store, held_in}
 use Rattle.replays.specs.declared.opening.Tried.{Tried}
 use Rattle.replays.specs.declared.opening.Tried.TheVariants as tried
@@ -161,7 +161,10 @@ module _ (setup : List Node) (member : Node) (store : Store) (rows : List Row) (
         ap₂ (λ l k. opened_line store.line (party_of member) l k) (ap length o.lists) (sym (same_serial s) ∙ ap last_serial (sym is))
     of : (x : Tried) → IsNodeTried member (held_in store) store.rows n closed piece x → IsTried setup member (held_in store) closed piece x
     of tried.No found = λ s o fits. found (subst (Fits closed piece) (one s o) fits)
-    of tried.May found = (n, (over, found))
+    of tried.May found = ((n, (over, found)), (λ s o whole. no_whole found.1.0 found.1.1 found.1.2 (sym (one s o) ∙ whole)))
+      where
+      no_whole : (missing : List ℕ) → told_line (held_in store) store.rows member n ≡ piece ++ missing → 1 < length missing → told_line (held_in store) store.rows member n ≡ piece ++ 10 ∷ [] → ⊥
+      no_whole missing is long whole = let size = ap length (behind_front piece missing (10 ∷ []) (sym is ∙ whole)) in omega (arith, size, long)
     of (tried.Was o) (node_is, tells, serial) = record {
       opens = record { rows = store.rows; lists = refl; made = subst (λ k. IsMadeOfRows setup member store.rows k) (sym node_is) over.made; starts = subst CanStartAgain (sym node_is) starts };
       tells = ap (λ k. told_line (held_in store) store.rows member k) node_is ∙ tells;

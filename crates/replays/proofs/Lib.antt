@@ -23,6 +23,8 @@ pub mod FrontLemmas
 pub mod FitLemmas
 pub mod ResultLemmas
 pub mod AnsweredLines
+pub mod WayLemmas
+pub mod OpenLemmas
 pub mod PartyLemmas
 pub mod LinesRead
 pub mod SetupRead

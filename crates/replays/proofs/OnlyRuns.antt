@@ -33,7 +33,7 @@ pub record Onward (r after : Reader) (bytes run : List ℕ) (ended : Bool) (w : 
   pub quiet : after.story.openings ≡ [] → openings_in said ≡ []
   pub goes : ((run ≡ bytes) ⊎ IsTrue ended) → MayBe after w × IsOption after.story left
 
-pub none_within : {X : Type 0} (x : List ℕ) → Contains [] x → X
+pub none_within : {X A : Type 0} (x : A) → Contains {X = A} [] x → X
 none_within x within = absurd (All-contains (λ y. ⊥) [] x (All-nil (λ y. ⊥)) within)
 
 same_some : (d e : Doubt) (o : Option Doubt) → o ≡ Some d → o ≡ Some e → d ≡ e

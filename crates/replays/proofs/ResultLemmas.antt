@@ -1,5 +1,5 @@
 -- What clauses say of a result, together.
-use Rattle.std.proofs.Common.{OnOk, Result, Ok, Err}
+use Rattle.std.proofs.Common.{IfErr, OnOk, Result, Ok, Err}
 
 pub on_four_ok : {A E P Q R S T : Type 0} (r : Result A E) → (P → Q → R → S → T) → OnOk r P → OnOk r Q → OnOk r R → OnOk r S → OnOk r T
 on_four_ok (Ok x) f p q r s = f p q r s
@@ -13,3 +13,7 @@ on_five_ok (Err e) f p q r s t = tt
 pub under_ok : {A E P : Type 0} (Q : Type 0) (r : Result A E) → (P → OnOk r Q) → OnOk r (P → Q)
 under_ok Q (Ok x) f = f
 under_ok Q (Err e) f = tt
+
+pub on_err : {A E : Type 0} {P Q : E → Type 0} (r : Result A E) → ((e : E) → P e → Q e) → IfErr r P → IfErr r Q
+on_err (Ok x) f p = tt
+on_err (Err e) f p = f e p

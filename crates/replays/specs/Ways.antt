@@ -1,5 +1,5 @@
 -- In which ways a node may have been opened, by what stands behind its setup line.
-use Rattle.std.specs.Prelude.{◌≡◌, ◌<◌, ℕ, List, [], ◌∷◌, ◌++◌, Some, Bool, IsFalse, length, slice_get}
+use Rattle.std.specs.Prelude.{◌≡◌, ◌≢◌, ◌<◌, ℕ, List, [], ◌∷◌, ◌++◌, Some, Bool, IsFalse, length, slice_get}
 use Rattle.ocpi_types.specs.declared.rows.Row.{Row}
 use Rattle.ocpi_types.specs.declared.setup.Node.{Node}
 use Rattle.ocpi_types.specs.Setups.{party_of}
@@ -39,7 +39,9 @@ pub record IsOpened (setup : List Node) (member : Node) (held : Held) (piece : L
 -- whether the node of a member was
 abbrev pub IsTried : List Node → Node → Held → Bool → List ℕ → Tried → Type 0
 IsTried setup member held closed piece tried.No = (state : NodeState) (over : OpensOver setup member held state) → Fits closed piece (told_line held over.rows member state) → ⊥
-IsTried setup member held closed piece tried.May = (state : NodeState) × ((over : OpensOver setup member held state) × IsBegun closed piece (told_line held over.rows member state))
+IsTried setup member held closed piece tried.May =
+    ((state : NodeState) × ((over : OpensOver setup member held state) × IsBegun closed piece (told_line held over.rows member state)))
+    × ((state : NodeState) (over : OpensOver setup member held state) → told_line held over.rows member state ≢ piece ++ 10 ∷ [])
 IsTried setup member held closed piece (tried.Was o) = IsOpened setup member held piece o
 
 -- one that was is at its place in the setup
