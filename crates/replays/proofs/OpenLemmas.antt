@@ -1,5 +1,6 @@
 -- How a node that was opened is begun with, and how ways that are cut are settled.
-use Rattle.std.proofs.Common.{◌≡◌, ◌≢◌, ◌⊎◌, ℕ, suc, ◌+◌, List, [], ◌∷◌, ◌++◌, Bool, Option, None, Some, length, slice_get, refl, sym, ap, ap₂, subst, ◌∙◌, arith, length-append}
+use Rattle.std.proofs.Common.{◌≡◌, ◌≢◌, ◌⊎◌, ℕ, suc, ◌+◌, List, [], ◌∷◌, ◌++◌, Bool, Option, None, Some, get_or, length, slice_get, refl, sym, ap, ap₂, subst, ◌∙◌, arith, length-append}
+use Rattle.std.proofs.lemmas.Option.{same_Some, slice_get_read, slice_get_within}
 use Rattle.node_runs.specs.NodeTurns.{number_from}
 use Rattle.ocpi_types.specs.Setups.{party_of}
 use Rattle.ocpi_types.specs.declared.rows.Row.{Row}
@@ -77,3 +78,7 @@ begun r t line setup base piece place o w is doubt party party_is parties earlie
 
 pub known_as : (r : Reader) (earlier parties : List (List ℕ)) (s also : Story) → earlier ≡ r.earlier → s ≡ also → record { earlier = earlier; parties = parties; story = s } ≡ with_parties r parties also
 known_as r earlier parties s also e same = ap₂ (λ (x : List (List ℕ)) (y : Story). record { earlier = x; parties = parties; story = y }) e same
+
+-- the member at a place
+pub member_is : (setup : List Node) (place : ℕ) (x m : Node) → x ≡ get_or setup place x → slice_get setup place ≡ Some m → x ≡ m
+member_is setup place x m is there = same_Some x m (sym (slice_get_read setup (length setup) place x refl (slice_get_within setup place m there) is) ∙ there)
