@@ -30,3 +30,4 @@ pub mod LinesRead
 pub mod SetupRead
 pub mod TranscriptLemmas
 pub mod FileRead
+pub mod TranscriptRead

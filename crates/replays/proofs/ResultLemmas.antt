@@ -1,5 +1,5 @@
 -- What clauses say of a result, together.
-use Rattle.std.proofs.Common.{IfErr, OnOk, Result, Ok, Err}
+use Rattle.std.proofs.Common.{◌≡◌, IfErr, IfOk, OnOk, Result, Ok, Err, false, is_err, true≢false}
 
 pub on_four_ok : {A E P Q R S T : Type 0} (r : Result A E) → (P → Q → R → S → T) → OnOk r P → OnOk r Q → OnOk r R → OnOk r S → OnOk r T
 on_four_ok (Ok x) f p q r s = f p q r s
@@ -17,3 +17,11 @@ under_ok Q (Err e) f = tt
 pub on_err : {A E : Type 0} {P Q : E → Type 0} (r : Result A E) → ((e : E) → P e → Q e) → IfErr r P → IfErr r Q
 on_err (Ok x) f p = tt
 on_err (Err e) f p = f e p
+
+pub ok_so : {A E P : Type 0} (r : Result A E) → OnOk r P → is_err r ≡ false → P
+ok_so (Ok x) p no_error = p
+ok_so (Err e) p no_error = absurd (true≢false no_error)
+
+pub if_ok : {A E : Type 0} {P Q : A → Type 0} (r : Result A E) → ((x : A) → P x → Q x) → IfOk r P → IfOk r Q
+if_ok (Ok x) f p = f x p
+if_ok (Err e) f p = tt

@@ -1,7 +1,8 @@
 -- What is read behind a setup line.
-use Rattle.std.proofs.Common.{◌≡◌, ◌⊎◌, ℕ, suc, ◌+◌, List, [], ◌∷◌, ◌++◌, Bool, Option, sym, ap, subst, ◌∙◌, append_assoc}
+use Rattle.std.proofs.Common.{◌≡◌, ◌⊎◌, ℕ, suc, ◌+◌, List, [], ◌∷◌, ◌++◌, Bool, Option, sym, ap, subst, ◌∙◌, append_assoc, ◌≢◌, refl, length, length-append, arith}
 use Rattle.ocpi_types.specs.declared.setup.Node.{Node}
-use Rattle.replays.proofs.Lists.{joined_is_none, some_is_none, tails}
+use Rattle.replays.proofs.Lists.{heads, joined_is_none, some_is_none, tails}
+use Rattle.replays.specs.CutRuns.{HasNumbers}
 use Rattle.replays.specs.Fronts.{feeds_of}
 use Rattle.replays.specs.LineTurns.{Running}
 use Rattle.replays.specs.Reading as read
@@ -74,3 +75,23 @@ module _ (r t : Reader) (line : List ℕ) (setup : List Node) (base : Option ℕ
       → (at ≡ number) ⊎ (at ≡ suc number) → SetupRefused r line setup base piece closed rest number at
   none_refused before after number at cut (cut_too, none_too) none nothing place = λ bytes behind h.
       read.NotOpened h (subst (λ l. AreCut r setup closed piece r.story.held l) none cut) (λ d is. subst (λ l. AreCut r setup closed piece d.held l) nothing (cut_too d is)) place
+
+-- the numbers of what stands there can be told
+pub numbers_behind : (number : ℕ) (bytes line behind piece rest : List ℕ) (closed : Bool) → IsRunText bytes → bytes ≡ line ++ 10 ∷ behind → IsBehind behind piece closed rest → HasNumbers number bytes
+    → HasNumbers (number + 2) rest
+numbers_behind number bytes line behind piece rest closed t is (read.Line more whole) fits = of line refl
+  where
+  of : (l : List ℕ) → line ≡ l → HasNumbers (number + 2) rest
+  of [] none = absurd (t.begins (heads t.first 10 t.others behind (sym t.some ∙ is ∙ ap (λ l. l ++ 10 ∷ behind) none)))
+  of (e ∷ l) some =
+      let a = ap length is in let b = length-append line (10 ∷ behind) in let c = ap length whole in let d = length-append piece (10 ∷ rest) in let f = ap length some in
+      omega (arith, a, b, c, d, f, fits)
+numbers_behind number bytes line behind piece rest closed t is (read.Beginning whole) fits = of line refl
+  where
+  of : (l : List ℕ) → line ≡ l → HasNumbers (number + 2) []
+  of [] none = absurd (t.begins (heads t.first 10 t.others behind (sym t.some ∙ is ∙ ap (λ l. l ++ 10 ∷ behind) none)))
+  of (e ∷ l) some = let a = ap length is in let b = length-append line (10 ∷ behind) in let f = ap length some in omega (arith, a, b, f, fits)
+
+-- something stands behind its first line
+pub some_behind : (bytes line behind : List ℕ) → IsRunText bytes → bytes ≡ line ++ 10 ∷ behind → behind ≢ []
+some_behind bytes line behind t is none = t.ends line (is ∙ ap (λ l. line ++ 10 ∷ l) none)

@@ -1,5 +1,6 @@
 -- What the parts of the reading of one run give.
 use Rattle.std.specs.Prelude.{◌≡◌, ◌≢◌, ◌⊎◌, ℕ, suc, ◌+◌, List, [], ◌∷◌, ◌++◌, Option, None, Some, Bool, length}
+use Rattle.json_text.specs.declared.fault.JsonFault.TheVariants.{Memory}
 use Rattle.json_text.specs.declared.fault.JsonFault.{JsonFault}
 use Rattle.node_runs.specs.DoneLines.{malformed_line}
 use Rattle.ocpi_types.specs.Setups.{party_of}
@@ -32,11 +33,17 @@ pub record IsRestOfRun (rest : List ℕ) : Type 0 where
   pub plain : HasNoEmptyLine (10 ∷ rest)
   pub ends : (before : List ℕ) → rest ≢ before ++ 10 ∷ []
 
--- something else stands behind a first line that is no setup, whose number that is
-abbrev pub IsNotSaid : JsonFault → List ℕ → ℕ → ReplayFault → Type 0
-IsNotSaid fault behind number f =
-    ((missing : List ℕ) → malformed_line 1 None fault ≢ behind ++ missing)
-    × ((line_of f ≡ number) ⊎ (line_of f ≡ suc number) ⊎ ((line_of f ≡ suc (suc number)) × ((more : List ℕ) × (behind ≡ malformed_line 1 None fault ++ more))))
+-- what stands behind a first line that is no setup is what is said of it, or a beginning of that
+pub record IsSaid (fault : JsonFault) (behind : List ℕ) : Type 0 where
+  pub real : fault ≢ Memory
+  pub missing : List ℕ
+  pub is : malformed_line 1 None fault ≡ behind ++ missing
+
+-- something else stands there; the line, whose number that is, or one of the two behind it is named
+pub record IsNotSaid (fault : JsonFault) (behind : List ℕ) (number : ℕ) (f : ReplayFault) : Type 0 where
+  pub real : fault ≢ Memory
+  pub none : (missing : List ℕ) → malformed_line 1 None fault ≢ behind ++ missing
+  pub place : (line_of f ≡ number) ⊎ (line_of f ≡ suc number) ⊎ ((line_of f ≡ suc (suc number)) × ((more : List ℕ) × (behind ≡ malformed_line 1 None fault ++ more)))
 
 -- ---- lines behind an opening
 

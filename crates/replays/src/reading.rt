@@ -2,7 +2,6 @@
 
 ghost use Rattle.std.specs.Prelude.{◌≡◌, ◌≢◌, ◌≤◌, ◌+◌, ◌++◌, ◌∷◌, All, IfErr, IfNone, IfOk, IfSome, IsTrue, List, None, OnOk, Some, [], drop, false, length, suc, true, ℕ};
 ghost use Rattle.json_text.specs.Fault.{Fails as FailsToRead};
-ghost use Rattle.node_runs.specs.DoneLines.{malformed_line};
 ghost use Rattle.node_runs.specs.SetupLines.{numbered_setup_in};
 ghost use Rattle.ocpi_text.specs.Text.{key};
 ghost use Rattle.ocpi_types.specs.Setups.{party_of};
@@ -11,7 +10,7 @@ ghost use Rattle.replays.specs.CutRuns.{HasNumbers};
 ghost use Rattle.replays.specs.Happenings.{Happening};
 ghost use Rattle.replays.specs.Reading.{AreCut, Doubts, RunRefused, RunTaken};
 ghost use Rattle.replays.specs.LineTurns.{IsLeftBy, held_in};
-ghost use Rattle.replays.specs.RunParts.{AreCutBehind, AreLinesTaken, BeginsBehind, BegunBehind, DiffersAt, IsNoWay, IsNotSaid, IsRestOfRun, IsRunText, IsSameNode, IsSettled, NamesOpening, RefusedBehind, TakenBehind};
+ghost use Rattle.replays.specs.RunParts.{AreCutBehind, AreLinesTaken, BeginsBehind, BegunBehind, DiffersAt, IsNoWay, IsNotSaid, IsRestOfRun, IsRunText, IsSaid, IsSameNode, IsSettled, NamesOpening, RefusedBehind, TakenBehind};
 ghost use Rattle.replays.specs.Telling.{Tells};
 ghost use Rattle.replays.specs.Transcripts.{AccusesRightly, BlamesNoLineBefore, IsToldBy, IsTranscriptOf, line_of};
 ghost use Rattle.replays.specs.Ways.{IsWay};
@@ -129,7 +128,6 @@ impl<'a, 'b> Reading<'a, 'b> {
                 let behind = behind_setup(line, rest, run.is_ended);
                 self.take_setup(setup, base, behind, scratch, text, words)
             }
-            Err(JsonFault::Memory) => Err(ReplayFault::Memory),
             Err(fault) => self.take_malformed(fault, line, rest, text, words),
         }
     }
@@ -144,9 +142,12 @@ impl<'a, 'b> Reading<'a, 'b> {
         words: &mut String,
     ) -> Result<(), ReplayFault>
         requires { line.number + 2 ≤ 9223372036854775808 }
-        ensures ok { OnOk result ((missing : List ℕ) × (malformed_line 1 None fault ≡ rest.entry.now ++ missing)) }
+        ensures ok { OnOk result (IsSaid fault rest.entry.now) }
         ensures err { IfErr result (λ f. f ≢ ReplayFault.Memory → IsNotSaid fault rest.entry.now line.entry.number f) }
     {
+        if let JsonFault::Memory = fault {
+            return Err(ReplayFault::Memory);
+        }
         text.clear();
         if write_malformed(1, None, fault, text).is_err() {
             return Err(ReplayFault::Memory);
@@ -471,9 +472,11 @@ pub fn read_transcript<'a>(
     ensures none { IfErr result (AccusesRightly earlier.now start.held text.now) }
     ensures line { IfErr result (BlamesNoLineBefore earlier.now start.held text.now) }
 {
+    start.is_numbered();
     let mut reading = Reading::new(alloc, seed, start, earlier);
     let mut printed = String::new(alloc);
     let mut runs = Runs::new(text);
+    runs.is_numbered();
     while let Some(run) = runs.next() {
         match reading.take_run(run, scratch, &mut printed, words) {
             Ok(()) => {}
