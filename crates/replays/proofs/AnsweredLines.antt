@@ -4,7 +4,6 @@ use Rattle.replays.proofs.LineFacts.{line_closed}
 use Rattle.replays.proofs.LinesRead.{differs, one_read, to_gift}
 use Rattle.replays.proofs.Lists.{IsPlain}
 use Rattle.replays.proofs.PartyLemmas.{none_of, some_of}
-
 use Rattle.replays.specs.Answering.{IsEntered, IsOtherwise, shown}
 use Rattle.replays.specs.CutRuns.{HasNumbers}
 use Rattle.replays.specs.Fronts.{feeds_of}

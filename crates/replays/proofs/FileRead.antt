@@ -42,9 +42,9 @@ front_feeds : (text : List ℕ) → Fronted text
 front_feeds [] = (0, ([], refl, Empty))
 front_feeds (c ∷ text) = of (front_feeds text) (decide (c == 10))
   where
-  of : Fronted text → ((c == 10) ≡ true) ⊎ ((c == 10) ≡ false) → Fronted (c ∷ text)
-  of f (inl is) = feed_more c text (eqb-true c 10 is) f
-  of f (inr is) = (0, (c ∷ text, refl, Other c text (λ same. true≢false (sym (ap (λ x. x == 10) same) ∙ is))))
+    of : Fronted text → ((c == 10) ≡ true) ⊎ ((c == 10) ≡ false) → Fronted (c ∷ text)
+    of f (inl is) = feed_more c text (eqb-true c 10 is) f
+    of f (inr is) = (0, (c ∷ text, refl, Other c text (λ same. true≢false (sym (ap (λ x. x == 10) same) ∙ is))))
 
 not_anew : {X : Type 0} (c : ℕ) (text l : List ℕ) → BeginsAnew l → l ≡ c ∷ text → c ≡ 10 → X
 not_anew c text l Empty is feed = some_is_none c text (sym is)
@@ -120,11 +120,11 @@ module _ (Good : Running → Type 0) (gifts : Gifts Good) (Own : Held → Type 0
   someone : (r : Reader) → ((p : List ℕ) → Contains r.parties p → IsOther r.earlier p) → (w : List ℕ) × MayBe r w
   someone r others = of r.parties refl
     where
-    of : (parties : List (List ℕ)) → r.parties ≡ parties → (w : List ℕ) × MayBe r w
-    of [] none = let f = fresh r.earlier in (f.0, (f.1, inl none))
-    of (p ∷ ps) some =
-        let within = subst (λ l. Contains l p) (sym some) (Contains-append_left (p ∷ []) ps p (Contains-push [] p)) in
-        (p, (others p within, inr (p, within, refl)))
+      of : (parties : List (List ℕ)) → r.parties ≡ parties → (w : List ℕ) × MayBe r w
+      of [] none = let f = fresh r.earlier in (f.0, (f.1, inl none))
+      of (p ∷ ps) some =
+          let within = subst (λ l. Contains l p) (sym some) (Contains-append_left (p ∷ []) ps p (Contains-push [] p)) in
+          (p, (others p within, inr (p, within, refl)))
 
   -- nothing was read yet
   abbrev pub at_start : Reader
@@ -153,10 +153,11 @@ module _ (Good : Running → Type 0) (gifts : Gifts Good) (Own : Held → Type 0
         (drop_feeds (Prints w) (silent w) (begins w) start (10 ∷ 10 ∷ text) all (suc (suc f.0)) f.1.0 f.1.2 whole printed);
   }
     where
-    f : (count : ℕ) × ((more : List ℕ) × (text ≡ feeds count ++ more) × BeginsAnew more)
-    f = front_feeds text
-    whole : 10 ∷ 10 ∷ text ≡ feeds (suc (suc f.0)) ++ f.1.0
-    whole = ap (λ l. 10 ∷ 10 ∷ l) f.1.1
+      f : (count : ℕ) × ((more : List ℕ) × (text ≡ feeds count ++ more) × BeginsAnew more)
+      f = front_feeds text
+
+      whole : 10 ∷ 10 ∷ text ≡ feeds (suc (suc f.0)) ++ f.1.0
+      whole = ap (λ l. 10 ∷ 10 ∷ l) f.1.1
 
   module _ (r : Reader) (all : Runs) (s : IsSoFar Own Asked earlier start text r all.rest.now all.number) where
     -- ---- the next run
@@ -209,8 +210,8 @@ module _ (Good : Running → Type 0) (gifts : Gifts Good) (Own : Held → Type 0
         same = earlier_kept r after run.bytes.now run.is_ended taken ∙ s.same;
         own = λ asked. own_on Good gifts Own known r after run.bytes.now run.is_ended (s.own asked) taken;
         comes = λ asked w other told printed.
-          comes_on Good gifts Own known r run.bytes.now next.rest.now n.more n.after t single (s.own asked) n.behind_is n.rest_is n.anew w told after run.is_ended
-          (λ far. n.closed.1 (three_behind n.after n.more far.0 n.anew (sym n.rest_is ∙ far.1))) taken (comes asked w other told printed);
+            comes_on Good gifts Own known r run.bytes.now next.rest.now n.more n.after t single (s.own asked) n.behind_is n.rest_is n.anew w told after run.is_ended
+            (λ far. n.closed.1 (three_behind n.after n.more far.0 n.anew (sym n.rest_is ∙ far.1))) taken (comes asked w other told printed);
       }
 
       -- no runs printed it
@@ -224,7 +225,7 @@ module _ (Good : Running → Type 0) (gifts : Gifts Good) (Own : Held → Type 0
           → (w : List ℕ) × IsOther earlier w × ((told : List Happening) × ArePrintedBy (Prints w) start (10 ∷ 10 ∷ lines_front line text) told)
       some_printed at line refused is =
           let x = blamed start text run.bytes.now n.more n.after t enough before (cut ∙ ap (λ l. before ++ (run.bytes.now ++ l)) n.rest_is) Counted counting r knows malformed_ends
-            (someone r knows.others) run.number at line number_is refused is in
+          (someone r knows.others) run.number at line number_is refused is in
           (x.w, subst (λ l. IsOther l x.w) s.same x.other, (x.told, x.printed_so))
 
     -- ---- at its end
@@ -236,9 +237,11 @@ module _ (Good : Running → Type 0) (gifts : Gifts Good) (Own : Held → Type 0
       -- some runs printed it
       pub all_read : (w : List ℕ) × IsOther earlier w × ArePrintedBy (Prints w) start (10 ∷ 10 ∷ text) s.knows.told
       all_read =
-          let x = someone r s.knows.others in
-          (x.0, subst (λ l. IsOther l x.0) s.same x.1.0,
-          all_printed (Prints x.0) start (10 ∷ 10 ∷ text) s.knows.told r.story.held (subst (λ l. Reached (Prints x.0) start (10 ∷ 10 ∷ text) l s.knows.told r.story.held) nothing (s.knows.reached x.0 x.1)))
+          let x = someone r s.knows.others in (
+            x.0,
+            subst (λ l. IsOther l x.0) s.same x.1.0,
+            all_printed (Prints x.0) start (10 ∷ 10 ∷ text) s.knows.told r.story.held (subst (λ l. Reached (Prints x.0) start (10 ∷ 10 ∷ text) l s.knows.told r.story.held) nothing (s.knows.reached x.0 x.1)),
+          )
 
       -- where none was opened, none was by any runs that did
       pub none_opened : r.story.openings ≡ [] → Asked → (w : List ℕ) → IsOther earlier w → (told : List Happening) → ArePrintedBy (Prints w) start (10 ∷ 10 ∷ text) told → openings_in told ≡ []

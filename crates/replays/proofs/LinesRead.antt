@@ -49,9 +49,9 @@ none_read first all s number fits doubt = record {
   counted = let none = no_feeds in omega (arith, none);
 }
   where
-  none_from : (n : ℕ) → AreSourcesOf n [] []
-  none_from zero = tt
-  none_from (suc n) = tt
+    none_from : (n : ℕ) → AreSourcesOf n [] []
+    none_from zero = tt
+    none_from (suc n) = tt
 
 -- ---- one line more
 
@@ -67,9 +67,9 @@ module _ (first : Running) (all : List ℕ) (s : Story) (number : ℕ) (now : Ru
     pub fed : IsLine line
     fed = record { some = of line is; plain = plain }
       where
-      of : (l : List ℕ) → rest ≡ l ++ 10 ∷ more → 0 < length l
-      of [] none = absurd (r.fits.plain [] more (ap (λ l. 10 ∷ l) none))
-      of (c ∷ l) some = zero-lt-suc (length l)
+        of : (l : List ℕ) → rest ≡ l ++ 10 ∷ more → 0 < length l
+        of [] none = absurd (r.fits.plain [] more (ap (λ l. 10 ∷ l) none))
+        of (c ∷ l) some = zero-lt-suc (length l)
 
     -- something stands behind it
     pub some_more : more ≢ []
@@ -91,8 +91,8 @@ module _ (first : Running) (all : List ℕ) (s : Story) (number : ℕ) (now : Ru
         from = sources_join (length s.openings) (length s.openings) r.told (came_by line entered) r.adds.added added r.adds.from count from;
       }
         where
-        count : length s.openings + length (openings_in r.told) ≡ length s.openings
-        count = let none = ap length (quiet_walk first now r.text r.told r.walks) in omega (arith, none)
+          count : length s.openings + length (openings_in r.told) ≡ length s.openings
+          count = let none = ap length (quiet_walk first now r.text r.told r.walks) in omega (arith, none)
 
       -- what it gives stands there, whole
       pub one_read : (left : List ℕ) → IsClosed out → more ≡ out ++ left → AreRead first all s number next left u (at + 1 + feeds_of out)
@@ -110,14 +110,16 @@ module _ (first : Running) (all : List ℕ) (s : Story) (number : ℕ) (now : Ru
         counted = let joined = feeds_join r.text (echo_of line ++ out) in let one = feeds_of_echo line out plain in let so = r.counted in omega (arith, joined, one, so);
       }
         where
-        rest_is : rest ≡ (line ++ 10 ∷ body) ++ 10 ∷ left
-        rest_is = is ∙ ap (λ l. line ++ 10 ∷ l) (whole ∙ ap (λ l. l ++ left) closed ∙ append_assoc body (10 ∷ []) left) ∙ sym (append_assoc line (10 ∷ body) (10 ∷ left))
-        behind_it : (before tail : List ℕ) → 10 ∷ left ≡ before ++ tail → rest ≡ ((line ++ 10 ∷ body) ++ before) ++ tail
-        behind_it before tail e = rest_is ∙ ap (λ l. (line ++ 10 ∷ body) ++ l) e ∙ sym (append_assoc (line ++ 10 ∷ body) before tail)
-        at_end : (before : List ℕ) → left ≡ before ++ 10 ∷ [] → rest ≡ ((line ++ 10 ∷ (body ++ 10 ∷ [])) ++ before) ++ 10 ∷ []
-        at_end before e =
-            rest_is ∙ ap (λ l. (line ++ 10 ∷ body) ++ 10 ∷ l) e ∙ sym (append_assoc (line ++ 10 ∷ body) (10 ∷ []) (before ++ 10 ∷ []))
-            ∙ ap (λ l. l ++ (before ++ 10 ∷ [])) (append_assoc line (10 ∷ body) (10 ∷ [])) ∙ sym (append_assoc (line ++ 10 ∷ (body ++ 10 ∷ [])) before (10 ∷ []))
+          rest_is : rest ≡ (line ++ 10 ∷ body) ++ 10 ∷ left
+          rest_is = is ∙ ap (λ l. line ++ 10 ∷ l) (whole ∙ ap (λ l. l ++ left) closed ∙ append_assoc body (10 ∷ []) left) ∙ sym (append_assoc line (10 ∷ body) (10 ∷ left))
+
+          behind_it : (before tail : List ℕ) → 10 ∷ left ≡ before ++ tail → rest ≡ ((line ++ 10 ∷ body) ++ before) ++ tail
+          behind_it before tail e = rest_is ∙ ap (λ l. (line ++ 10 ∷ body) ++ l) e ∙ sym (append_assoc (line ++ 10 ∷ body) before tail)
+
+          at_end : (before : List ℕ) → left ≡ before ++ 10 ∷ [] → rest ≡ ((line ++ 10 ∷ (body ++ 10 ∷ [])) ++ before) ++ 10 ∷ []
+          at_end before e =
+              rest_is ∙ ap (λ l. (line ++ 10 ∷ body) ++ 10 ∷ l) e ∙ sym (append_assoc (line ++ 10 ∷ body) (10 ∷ []) (before ++ 10 ∷ []))
+              ∙ ap (λ l. l ++ (before ++ 10 ∷ [])) (append_assoc line (10 ∷ body) (10 ∷ [])) ∙ sym (append_assoc (line ++ 10 ∷ (body ++ 10 ∷ [])) before (10 ∷ []))
 
       -- a beginning of it does
       pub to_gift : (ended : Bool) (v : Story) (missing : List ℕ) → out ≡ more ++ missing → IsOtherwise u v → IsLeftBy next v.held → v.doubt ≡ u.doubt → LinesTaken first all ended s v
@@ -128,20 +130,23 @@ module _ (first : Running) (all : List ℕ) (s : Story) (number : ℕ) (now : Ru
 
       -- something else does
       pub differs : ((m : List ℕ) → out ≢ more ++ m) → ((m : List ℕ) → more ≢ out ++ m) → (d : LinesDiffer first all) × (at ≡ number + feeds_of d.text)
-      differs not_cut not_whole = (record {
-        text = r.text;
-        line = line;
-        more = more;
-        told = r.told;
-        now = now;
-        is = all_is;
-        walks = r.walks;
-        fed = fed;
-        out = out;
-        entered = entered;
-        did = did;
-        next = next;
-        gives = gives;
-        not_cut = not_cut;
-        not_whole = not_whole;
-      }, r.counted)
+      differs not_cut not_whole = (
+        record {
+          text = r.text;
+          line = line;
+          more = more;
+          told = r.told;
+          now = now;
+          is = all_is;
+          walks = r.walks;
+          fed = fed;
+          out = out;
+          entered = entered;
+          did = did;
+          next = next;
+          gives = gives;
+          not_cut = not_cut;
+          not_whole = not_whole;
+        },
+        r.counted,
+      )

@@ -18,9 +18,9 @@ may_be_any r w other none = ((λ so. (other, inl none)), (λ may. refl))
 pub may_be_some : (r : Reader) (w : List ℕ) (b : Bool) → IsOther r.earlier w → r.parties ≢ [] → (IsTrue b ↔ IsAmong r.parties w) → (IsTrue b ↔ MayBe r w)
 may_be_some r w b other some tells = ((λ so. (other, inr (tells.0 so))), (λ may. of may.1))
   where
-  of : (r.parties ≡ []) ⊎ IsAmong r.parties w → IsTrue b
-  of (inl none) = absurd (some none)
-  of (inr among) = tells.1 among
+    of : (r.parties ≡ []) ⊎ IsAmong r.parties w → IsTrue b
+    of (inl none) = absurd (some none)
+    of (inr among) = tells.1 among
 
 pub may_not_be : (r : Reader) (w : List ℕ) (b : Bool) → (IsTrue b ↔ IsAmong r.earlier w) → b ≡ true → (IsTrue false ↔ MayBe r w)
 may_not_be r w b tells so = ((λ bad. absurd (true≢false (sym bad))), (λ may. let a = tells.0 so in absurd (may.0 a.0 a.1 a.2)))

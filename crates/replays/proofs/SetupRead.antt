@@ -17,17 +17,17 @@ rest_of_run bytes line behind piece rest closed t is (read.Line more whole) = re
   ends = λ before e. t.ends ((line ++ 10 ∷ piece) ++ 10 ∷ before) (behind_it (10 ∷ before) (10 ∷ []) (ap (λ l. 10 ∷ l) e));
 }
   where
-  behind_it : (before tail : List ℕ) → 10 ∷ rest ≡ before ++ tail → bytes ≡ ((line ++ 10 ∷ piece) ++ before) ++ tail
-  behind_it before tail e =
-      is ∙ ap (λ l. line ++ 10 ∷ l) whole ∙ sym (append_assoc line (10 ∷ piece) (10 ∷ rest)) ∙ ap (λ l. (line ++ 10 ∷ piece) ++ l) e ∙ sym (append_assoc (line ++ 10 ∷ piece) before tail)
+    behind_it : (before tail : List ℕ) → 10 ∷ rest ≡ before ++ tail → bytes ≡ ((line ++ 10 ∷ piece) ++ before) ++ tail
+    behind_it before tail e =
+        is ∙ ap (λ l. line ++ 10 ∷ l) whole ∙ sym (append_assoc line (10 ∷ piece) (10 ∷ rest)) ∙ ap (λ l. (line ++ 10 ∷ piece) ++ l) e ∙ sym (append_assoc (line ++ 10 ∷ piece) before tail)
 rest_of_run bytes line behind piece rest closed t is (read.Beginning whole) = record {
   plain = none;
   ends = λ before e. joined_is_none before 10 [] (sym e);
 }
   where
-  none : (before after : List ℕ) → 10 ∷ [] ≡ before ++ 10 ∷ 10 ∷ after → ⊥
-  none [] after e = some_is_none 10 after (sym (tails 10 10 [] (10 ∷ after) e))
-  none (c ∷ before) after e = joined_is_none before 10 (10 ∷ after) (sym (tails 10 c [] (before ++ 10 ∷ 10 ∷ after) e))
+    none : (before after : List ℕ) → 10 ∷ [] ≡ before ++ 10 ∷ 10 ∷ after → ⊥
+    none [] after e = some_is_none 10 after (sym (tails 10 10 [] (10 ∷ after) e))
+    none (c ∷ before) after e = joined_is_none before 10 (10 ∷ after) (sym (tails 10 c [] (before ++ 10 ∷ 10 ∷ after) e))
 
 module _ (r t : Reader) (line : List ℕ) (setup : List Node) (base : Option ℕ) (piece : List ℕ) (closed : Bool) (rest : List ℕ) where
   -- a node was opened, and its lines were read
@@ -53,12 +53,13 @@ module _ (r t : Reader) (line : List ℕ) (setup : List Node) (base : Option ℕ
       → SetupRefused r line setup base piece closed rest number at
   begun_differs now place number at begun (d, is) = of begun
     where
-    -- the same, of that node
-    moved : (x : Running) → now ≡ x → (e : LinesDiffer x rest) × (at ≡ suc (suc number) + feeds_of e.text)
-    moved x same = subst (λ (y : Running). (e : LinesDiffer y rest) × (at ≡ suc (suc number) + feeds_of e.text)) same (d, is)
-    of : IsBegun r t line setup base piece now place → SetupRefused r line setup base piece closed rest number at
-    of (parts.Before b) = λ bytes behind h. let m = moved (begun_over r.story.held b.way.member b.way.state base) b.shows in read.DiffersBefore h b.way m.0 m.1
-    of (parts.After doubt there b) = λ bytes behind h. let m = moved (begun_over doubt.held b.way.member b.way.state base) b.shows in read.DiffersAfter h doubt there b.way m.0 m.1
+      -- the same, of that node
+      moved : (x : Running) → now ≡ x → (e : LinesDiffer x rest) × (at ≡ suc (suc number) + feeds_of e.text)
+      moved x same = subst (λ (y : Running). (e : LinesDiffer y rest) × (at ≡ suc (suc number) + feeds_of e.text)) same (d, is)
+
+      of : IsBegun r t line setup base piece now place → SetupRefused r line setup base piece closed rest number at
+      of (parts.Before b) = λ bytes behind h. let m = moved (begun_over r.story.held b.way.member b.way.state base) b.shows in read.DiffersBefore h b.way m.0 m.1
+      of (parts.After doubt there b) = λ bytes behind h. let m = moved (begun_over doubt.held b.way.member b.way.state base) b.shows in read.DiffersAfter h doubt there b.way m.0 m.1
 
   -- the line of an opening is cut
   pub settled_taken : (before after : List (List ℕ)) (ended : Bool) → AreCut r setup closed piece r.story.held before → AreCutBehind r setup closed piece after → IsSettled r t before after
@@ -81,16 +82,16 @@ pub numbers_behind : (number : ℕ) (bytes line behind piece rest : List ℕ) (c
     → HasNumbers (number + 2) rest
 numbers_behind number bytes line behind piece rest closed t is (read.Line more whole) fits = of line refl
   where
-  of : (l : List ℕ) → line ≡ l → HasNumbers (number + 2) rest
-  of [] none = absurd (t.begins (heads t.first 10 t.others behind (sym t.some ∙ is ∙ ap (λ l. l ++ 10 ∷ behind) none)))
-  of (e ∷ l) some =
-      let a = ap length is in let b = length-append line (10 ∷ behind) in let c = ap length whole in let d = length-append piece (10 ∷ rest) in let f = ap length some in
-      omega (arith, a, b, c, d, f, fits)
+    of : (l : List ℕ) → line ≡ l → HasNumbers (number + 2) rest
+    of [] none = absurd (t.begins (heads t.first 10 t.others behind (sym t.some ∙ is ∙ ap (λ l. l ++ 10 ∷ behind) none)))
+    of (e ∷ l) some =
+        let a = ap length is in let b = length-append line (10 ∷ behind) in let c = ap length whole in let d = length-append piece (10 ∷ rest) in let f = ap length some in
+        omega (arith, a, b, c, d, f, fits)
 numbers_behind number bytes line behind piece rest closed t is (read.Beginning whole) fits = of line refl
   where
-  of : (l : List ℕ) → line ≡ l → HasNumbers (number + 2) []
-  of [] none = absurd (t.begins (heads t.first 10 t.others behind (sym t.some ∙ is ∙ ap (λ l. l ++ 10 ∷ behind) none)))
-  of (e ∷ l) some = let a = ap length is in let b = length-append line (10 ∷ behind) in let f = ap length some in omega (arith, a, b, f, fits)
+    of : (l : List ℕ) → line ≡ l → HasNumbers (number + 2) []
+    of [] none = absurd (t.begins (heads t.first 10 t.others behind (sym t.some ∙ is ∙ ap (λ l. l ++ 10 ∷ behind) none)))
+    of (e ∷ l) some = let a = ap length is in let b = length-append line (10 ∷ behind) in let f = ap length some in omega (arith, a, b, f, fits)
 
 -- something stands behind its first line
 pub some_behind : (bytes line behind : List ℕ) → IsRunText bytes → bytes ≡ line ++ 10 ∷ behind → behind ≢ []

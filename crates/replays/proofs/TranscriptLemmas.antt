@@ -63,13 +63,13 @@ is_transcript told openings entries sources tells some = record {
   members = λ x within. All-contains (λ (y : Opening). y.member < length y.setup) openings x (members_within (openings_in told) openings tells.opened) within;
   size = sizes told sources tells.from ∙ ap length (sym tells.entered);
   runs = λ x within. All-contains (λ (y : Source). opening_of y < length openings) sources x
-    (subst (λ m. All (λ (y : Source). opening_of y < m) sources) (let same = as_many (openings_in told) openings tells.opened in omega (arith, same)) (runs_within 0 told sources tells.from)) within;
+      (subst (λ m. All (λ (y : Source). opening_of y < m) sources) (let same = as_many (openings_in told) openings tells.opened in omega (arith, same)) (runs_within 0 told sources tells.from)) within;
 }
 
 -- some run was opened
 pub some_opened : (told : List Happening) (openings : List Opening) (entries : List Entry) (sources : List Source) → Tells told openings entries sources → openings ≢ [] → openings_in told ≢ []
 some_opened told openings entries sources tells some none = some (no_more openings (sym (as_many (openings_in told) openings tells.opened) ∙ ap length none))
   where
-  no_more : (xs : List Opening) → length xs ≡ 0 → xs ≡ []
-  no_more [] same = refl
-  no_more (x ∷ xs) same = absurd (omega (arith, same))
+    no_more : (xs : List Opening) → length xs ≡ 0 → xs ≡ []
+    no_more [] same = refl
+    no_more (x ∷ xs) same = absurd (omega (arith, same))

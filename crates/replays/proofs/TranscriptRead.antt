@@ -72,30 +72,35 @@ module _ (earlier : List (List ℕ)) (start : Store) (text : List ℕ) (within :
       pub none_before : (at line : ℕ) → RunRefused r run.bytes.now run.number at → at ≡ suc line → (told : List Happening) × PrintedBy earlier start (lines_front line text) told
       none_before at line refused is =
           let x = some_printed Good line_facts Stores opening_facts IsCounted lines_count begun_counts malformed_ends fresh earlier (held_in start) text (HasOwnUrls start.rows)
-            (λ urls. first_stores start urls within) r all s run next n at line refused is in
+          (λ urls. first_stores start urls within) r all s run next n at line refused is in
           (x.2.0, (x.0, x.1, x.2.1))
 
     -- at its end
     module _ (count : ℕ) (ends : all.rest.now ≡ feeds count) where
       pub transcript_read : (t : Transcript) → IsToldBy r.story t → IsTranscriptOf earlier start text t
-      transcript_read t is =
-          (s.knows.told, all_read Good line_facts Stores opening_facts IsCounted lines_count begun_counts malformed_ends fresh earlier (held_in start) text (HasOwnUrls start.rows)
-          (λ urls. first_stores start urls within) r all s count ends, tells_of)
+      transcript_read t is = (
+        s.knows.told,
+        all_read Good line_facts Stores opening_facts IsCounted lines_count begun_counts malformed_ends fresh earlier (held_in start) text (HasOwnUrls start.rows)
+            (λ urls. first_stores start urls within) r all s count ends,
+        tells_of,
+      )
         where
-        tells_of : TellsOf t s.knows.told
-        tells_of = record {
-          tells = record {
-            opened = subst (AreRunsOf (openings_in s.knows.told)) (sym is.openings) s.knows.tells.opened;
-            entered = is.entries ∙ s.knows.tells.entered;
-            from = subst (AreSourcesOf 0 s.knows.told) (sym is.sources) s.knows.tells.from;
-          };
-          some = some_opened s.knows.told r.story.openings r.story.entries r.story.sources s.knows.tells is.some;
-        }
+          tells_of : TellsOf t s.knows.told
+          tells_of = record {
+            tells = record {
+              opened = subst (AreRunsOf (openings_in s.knows.told)) (sym is.openings) s.knows.tells.opened;
+              entered = is.entries ∙ s.knows.tells.entered;
+              from = subst (AreSourcesOf 0 s.knows.told) (sym is.sources) s.knows.tells.from;
+            };
+            some = some_opened s.knows.told r.story.openings r.story.entries r.story.sources s.knows.tells is.some;
+          }
 
       pub none_told : (f : ReplayFault) → f ≡ fault.Wrong 0 → r.story.openings ≡ [] → AccusesRightly earlier start text f
-      none_told f is none real urls told (w, other, printed) =
-          (is, none_opened Good line_facts Stores opening_facts IsCounted lines_count begun_counts malformed_ends fresh earlier (held_in start) text (HasOwnUrls start.rows)
-          (λ urls. first_stores start urls within) r all s count ends none urls w other told printed)
+      none_told f is none real urls told (w, other, printed) = (
+        is,
+        none_opened Good line_facts Stores opening_facts IsCounted lines_count begun_counts malformed_ends fresh earlier (held_in start) text (HasOwnUrls start.rows)
+            (λ urls. first_stores start urls within) r all s count ends none urls w other told printed,
+      )
 
 -- one that names a line is real
 pub named_real : (f : ReplayFault) (n : ℕ) → line_of f ≡ suc n → f ≢ fault.Memory

@@ -45,13 +45,13 @@ module _ (r : Reader) (setup : List Node) (closed : Bool) (piece : List ℕ) (he
     all = λ other within may state over fits. of other may state over fits (Contains-push_cases (take place setup) member other (subst (λ l. Contains l other) (member_at place member there) within));
   })
     where
-    of : (other : Node) → MayBe r (party_of other) → (state : NodeState) (over : OpensOver setup other held state) → Fits closed piece (told_line held over.rows other state)
-        → Contains (take place setup) other ⊎ (member ≡ other) → Contains parties (party_of other) × (told_line held over.rows other state ≢ piece ++ 10 ∷ [])
-    of other may state over fits (inl within) = are.all other within may state over fits
-    of other may state over fits (inr is) = absurd (at_member is may state over fits)
-      where
-      at_member : member ≡ other → MayBe r (party_of other) → (state : NodeState) (over : OpensOver setup other held state) → Fits closed piece (told_line held over.rows other state) → ⊥
-      at_member is = subst (λ m. MayBe r (party_of m) → (state : NodeState) (over : OpensOver setup m held state) → Fits closed piece (told_line held over.rows m state) → ⊥) is none
+      of : (other : Node) → MayBe r (party_of other) → (state : NodeState) (over : OpensOver setup other held state) → Fits closed piece (told_line held over.rows other state)
+          → Contains (take place setup) other ⊎ (member ≡ other) → Contains parties (party_of other) × (told_line held over.rows other state ≢ piece ++ 10 ∷ [])
+      of other may state over fits (inl within) = are.all other within may state over fits
+      of other may state over fits (inr is) = absurd (at_member is may state over fits)
+        where
+          at_member : member ≡ other → MayBe r (party_of other) → (state : NodeState) (over : OpensOver setup other held state) → Fits closed piece (told_line held over.rows other state) → ⊥
+          at_member is = subst (λ m. MayBe r (party_of m) → (state : NodeState) (over : OpensOver setup m held state) → Fits closed piece (told_line held over.rows m state) → ⊥) is none
 
   pub one_passed : (place : ℕ) (parties after : List (List ℕ)) → ArePassed (take place setup) parties → IsPassed r setup closed piece held place parties after → ArePassed (take (suc place) setup) after
   one_passed place parties after are (NotThere member there not same) = pass_none place member parties after there same are (λ may. absurd (not may))
@@ -61,32 +61,34 @@ module _ (r : Reader) (setup : List Node) (closed : Bool) (piece : List ℕ) (he
     all = λ other within allowed state over fits. of other allowed state over fits (Contains-push_cases (take place setup) member other (subst (λ l. Contains l other) (member_at place member there) within));
   })
     where
-    here : MayBeOpened r setup closed piece held (party_of member)
-    here = record {
-      member = member;
-      within = member_within place member there;
-      is = refl;
-      may = may;
-      state = one.0.0;
-      opens = one.0.1.0;
-      cut = one.0.1.1.0;
-      missing = one.0.1.1.1.0;
-      tells = one.0.1.1.1.1;
-      long = one.0.1.1.1.2;
-    }
-    has : (p : List ℕ) → Contains parties p ⊎ (party_of member ≡ p) → MayBeOpened r setup closed piece held p
-    has p (inl within) = are.have p within
-    has p (inr is) = subst (MayBeOpened r setup closed piece held) is here
-    of : (other : Node) → MayBe r (party_of other) → (state : NodeState) (over : OpensOver setup other held state) → Fits closed piece (told_line held over.rows other state)
-        → Contains (take place setup) other ⊎ (member ≡ other) → Contains (parties ++ party_of member ∷ []) (party_of other) × (told_line held over.rows other state ≢ piece ++ 10 ∷ [])
-    of other allowed state over fits (inl within) =
-        let x = are.all other within allowed state over fits in (Contains-append_left parties (party_of member ∷ []) (party_of other) x.0, x.1)
-    of other allowed state over fits (inr is) = at_member is state over
-      where
-      at_member : member ≡ other → (state : NodeState) (over : OpensOver setup other held state)
-          → Contains (parties ++ party_of member ∷ []) (party_of other) × (told_line held over.rows other state ≢ piece ++ 10 ∷ [])
-      at_member is = subst (λ m. (state : NodeState) (over : OpensOver setup m held state) → Contains (parties ++ party_of member ∷ []) (party_of m) × (told_line held over.rows m state ≢ piece ++ 10 ∷ [])) is
-          (λ state over. (Contains-push parties (party_of member), one.1 state over))
+      here : MayBeOpened r setup closed piece held (party_of member)
+      here = record {
+        member = member;
+        within = member_within place member there;
+        is = refl;
+        may = may;
+        state = one.0.0;
+        opens = one.0.1.0;
+        cut = one.0.1.1.0;
+        missing = one.0.1.1.1.0;
+        tells = one.0.1.1.1.1;
+        long = one.0.1.1.1.2;
+      }
+
+      has : (p : List ℕ) → Contains parties p ⊎ (party_of member ≡ p) → MayBeOpened r setup closed piece held p
+      has p (inl within) = are.have p within
+      has p (inr is) = subst (MayBeOpened r setup closed piece held) is here
+
+      of : (other : Node) → MayBe r (party_of other) → (state : NodeState) (over : OpensOver setup other held state) → Fits closed piece (told_line held over.rows other state)
+          → Contains (take place setup) other ⊎ (member ≡ other) → Contains (parties ++ party_of member ∷ []) (party_of other) × (told_line held over.rows other state ≢ piece ++ 10 ∷ [])
+      of other allowed state over fits (inl within) =
+          let x = are.all other within allowed state over fits in (Contains-append_left parties (party_of member ∷ []) (party_of other) x.0, x.1)
+      of other allowed state over fits (inr is) = at_member is state over
+        where
+          at_member : member ≡ other → (state : NodeState) (over : OpensOver setup other held state)
+              → Contains (parties ++ party_of member ∷ []) (party_of other) × (told_line held over.rows other state ≢ piece ++ 10 ∷ [])
+          at_member is = subst (λ m. (state : NodeState) (over : OpensOver setup m held state) → Contains (parties ++ party_of member ∷ []) (party_of m) × (told_line held over.rows m state ≢ piece ++ 10 ∷ [])) is
+              (λ state over. (Contains-push parties (party_of member), one.1 state over))
 
   -- a member that was opened
   pub way_of : (place : ℕ) (member : Node) (o : Opened) → slice_get setup place ≡ Some member → MayBe r (party_of member) → IsOpened setup member held piece o → IsWay r setup piece held place o

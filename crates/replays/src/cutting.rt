@@ -152,8 +152,7 @@ impl<'a> Runs<'a> {
     pub(crate) fn is_numbered(self)
         requires { self.number ≡ 1 }
         ensures { HasNumbers self.entry.number self.entry.rest.now }
-    {
-    }
+    {}
 
     /// The text of the next run that has some.
     pub(crate) fn next(&mut self) -> Option<RunText<'a>>

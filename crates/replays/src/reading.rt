@@ -338,12 +338,7 @@ impl<'a, 'b> Reading<'a, 'b> {
     }
 
     /// Why no node was opened so.
-    fn explain_opening(
-        &self,
-        setup: &Setup,
-        behind: Behind<'a>,
-        words: &mut String,
-    ) -> ReplayFault
+    fn explain_opening(&self, setup: &Setup, behind: Behind<'a>, words: &mut String) -> ReplayFault
         requires { behind.line.number + 2 ≤ 9223372036854775808 }
         ensures { result ≢ ReplayFault.Memory → NamesOpening behind.entry.line.number (line_of result) }
     {

@@ -10,9 +10,10 @@ loop-run-init c =
     let r = c.new-reading in
     let all = c.new-runs in
     let one = all.ensures.number in
-    let whole = all.ensures.rest in
-    (nothing_read c.args.earlier.now c.args.start.held c.args.text.now c.is_numbered.ensures r.result r.ensures.earlier r.ensures.parties r.ensures.story all.result.rest.now all.result.number whole one,
-    c.is_numbered-2.ensures)
+    let whole = all.ensures.rest in (
+      nothing_read c.args.earlier.now c.args.start.held c.args.text.now c.is_numbered.ensures r.result r.ensures.earlier r.ensures.parties r.ensures.story all.result.rest.now all.result.number whole one,
+      c.is_numbered-2.ensures,
+    )
 
 pub next-requires : goal.next-requires
 next-requires c = c.loop-run.invariant.1
@@ -24,9 +25,11 @@ pub loop-run-smaller : goal.loop-run-smaller
 loop-run-smaller c = fewer c.loop-run.runs c.in-Some.run' c.next.new.self c.in-Some.ensures.some
 
 pub loop-run-preserved : goal.loop-run-preserved
-loop-run-preserved c =
-    (run_read c.args.earlier.now c.args.start.held c.args.text.now c.is_numbered.ensures c.loop-run.reading c.loop-run.runs c.loop-run.invariant.0 c.in-Some.run' c.next.new.self c.in-Some.ensures.some
-    c.take_run.new.self c.in-Ok.ensures.ok, c.next.ensures.numbers)
+loop-run-preserved c = (
+  run_read c.args.earlier.now c.args.start.held c.args.text.now c.is_numbered.ensures c.loop-run.reading c.loop-run.runs c.loop-run.invariant.0 c.in-Some.run' c.next.new.self c.in-Some.ensures.some
+      c.take_run.new.self c.in-Ok.ensures.ok,
+  c.next.ensures.numbers,
+)
 
 pub returns-in-Err-clause-none : goal.returns-in-Err-clause-none
 returns-in-Err-clause-none c = λ real.

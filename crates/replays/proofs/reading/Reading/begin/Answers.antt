@@ -15,9 +15,9 @@ returns c =
     let story = ap (λ (x : Reader). x.story) c.self.view_is in
     let known = c.behind-self.inside.line in
     let rows = rows_counted c.held-2.result.now r.story.held w.way.opens.rows (c.held-2.ensures ∙ ap (λ (x : Reader). x.story.held) c.self.view_is) w.way.opens.lists
-        ∙ sym (ap (λ (s : Store). length s.rows) c.behind-self-2.view_is) ∙ sym c.behind-self-2.inside.rows.ok.0 ∙ sym c.len-rows.ensures in
+    ∙ sym (ap (λ (s : Store). length s.rows) c.behind-self-2.view_is) ∙ sym c.behind-self-2.inside.rows.ok.0 ∙ sym c.len-rows.ensures in
     let member = member_is c.args.setup c.args.member c.index-as_slice-member.result w.way.member
-        (subst (λ l. c.index-as_slice-member.result ≡ get_or l c.args.member c.index-as_slice-member.result) c.as_slice.ensures.value c.index-as_slice-member.is) w.there in
+    (subst (λ l. c.index-as_slice-member.result ≡ get_or l c.args.member c.index-as_slice-member.result) c.as_slice.ensures.value c.index-as_slice-member.is) w.there in
     begun r (record { earlier = t.earlier.now; parties = c.in_ok-self-inside.field-0.items; story = c.open.new.self }) b.line.bytes.now c.args.setup c.args.base b.piece.bytes.now c.args.member c.args.opened w
     (subst (λ s. IsOpenedIn s c.open.new.self (run_over b.line.bytes.now c.args.setup w.way.opens.rows w.way.member w.way.state)) story
     (c.in_ok-opening.ensures.is (run_over b.line.bytes.now c.args.setup w.way.opens.rows w.way.member w.way.state) (refl, refl, w.there, rows, sym w.serial)))

@@ -20,11 +20,11 @@ returns-then-is_empty-clause-err c = λ real.
       real = c.in_default.not-Memory;
       none = λ missing is. not_begun told c.args.rest.now missing (sym c.starts_with.ensures.value ∙ c.if-starts_with.false) (told_is ∙ is);
       place = elim c.if-starts_with-2.branch [
-        then-starts_with-2 w ↦ let passed = w.passed-is in
-          let x = front_of c.args.rest.now told (sym c.starts_with-then-is_empty.ensures.value ∙ w.if-starts_with-2.true) in
-          inr (inr (omega (arith, passed), (x.0, x.1 ∙ ap (λ l. l ++ x.0) told_is)))
-      | else-starts_with-2 w ↦ let passed = w.passed-is in inr (inl (omega (arith, passed)))
-        ];
+        | then-starts_with-2 w ↦ let passed = w.passed-is in
+            let x = front_of c.args.rest.now told (sym c.starts_with-then-is_empty.ensures.value ∙ w.if-starts_with-2.true) in
+            inr (inr (omega (arith, passed), (x.0, x.1 ∙ ap (λ l. l ++ x.0) told_is)))
+        | else-starts_with-2 w ↦ let passed = w.passed-is in inr (inl (omega (arith, passed)))
+      ];
     }
 
 pub returns-clause-err : goal.returns-clause-err

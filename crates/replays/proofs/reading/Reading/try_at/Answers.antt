@@ -11,7 +11,7 @@ pub returns-then-not-may_be-clause-none : goal.returns-then-not-may_be-clause-no
 returns-then-not-may_be-clause-none c =
     let member = c.index-nodes-place.result in
     let there = slice_get_read c.args.setup.now (length c.args.setup.now) c.args.place member refl c.requires.place
-        (subst (λ l. member ≡ get_or l c.args.place member) c.nodes_of-nodes.ensures.value c.index-nodes-place.is) in
+    (subst (λ l. member ≡ get_or l c.args.place member) c.nodes_of-nodes.ensures.value c.index-nodes-place.is) in
     NotThere member there (λ may. true≢false (sym (c.may_be.ensures.1 (subst (MayBe c.args.self.now) (sym c.party.ensures) may)) ∙ c.if-not-may_be.true)) refl
 
 pub returns-in-No-clause-none : goal.returns-in-No-clause-none
@@ -19,7 +19,7 @@ returns-in-No-clause-none c =
     let member = c.index-nodes-place.result in
     let held = held_in c.args.held.now in
     let there = slice_get_read c.args.setup.now (length c.args.setup.now) c.args.place member refl c.requires.place
-        (subst (λ l. member ≡ get_or l c.args.place member) c.nodes_of-nodes.ensures.value c.index-nodes-place.is) in
+    (subst (λ l. member ≡ get_or l c.args.place member) c.nodes_of-nodes.ensures.value c.index-nodes-place.is) in
     Not member there (subst (λ l. IsTried l member held c.args.piece.is_closed c.args.piece.bytes.now tried.No) c.nodes_of-nodes.ensures.value
     (subst (IsTried c.nodes_of-nodes.result.now member held c.args.piece.is_closed c.args.piece.bytes.now) c.in-No.is c.in_ok-try_member.ensures)) refl
 
@@ -28,7 +28,7 @@ returns-in_ok-push-in-May-clause-none c =
     let member = c.index-nodes-place.result in
     let held = held_in c.args.held.now in
     let there = slice_get_read c.args.setup.now (length c.args.setup.now) c.args.place member refl c.requires.place
-        (subst (λ l. member ≡ get_or l c.args.place member) c.nodes_of-nodes.ensures.value c.index-nodes-place.is) in
+    (subst (λ l. member ≡ get_or l c.args.place member) c.nodes_of-nodes.ensures.value c.index-nodes-place.is) in
     May member there (subst (MayBe c.args.self.now) c.party.ensures (c.may_be.ensures.0 c.if-not-may_be.false)) (subst (λ l. IsTried l member held c.args.piece.is_closed c.args.piece.bytes.now tried.May) c.nodes_of-nodes.ensures.value
     (subst (IsTried c.nodes_of-nodes.result.now member held c.args.piece.is_closed c.args.piece.bytes.now) c.in-May.is c.in_ok-try_member.ensures))
     (c.in_ok-push-in-May.ensures.items ∙ ap (λ p. c.args.parties.now.items ++ p ∷ []) c.party-in-May.ensures)
@@ -38,7 +38,7 @@ returns-in-Was-clause-some c =
     let member = c.index-nodes-place.result in
     let held = held_in c.args.held.now in
     let there = slice_get_read c.args.setup.now (length c.args.setup.now) c.args.place member refl c.requires.place
-        (subst (λ l. member ≡ get_or l c.args.place member) c.nodes_of-nodes.ensures.value c.index-nodes-place.is) in
+    (subst (λ l. member ≡ get_or l c.args.place member) c.nodes_of-nodes.ensures.value c.index-nodes-place.is) in
     way_of c.args.self.now c.args.setup.now c.args.piece.is_closed c.args.piece.bytes.now held c.args.place member c.in-Was.opened there
     (subst (MayBe c.args.self.now) c.party.ensures (c.may_be.ensures.0 c.if-not-may_be.false)) (subst (λ l. IsTried l member held c.args.piece.is_closed c.args.piece.bytes.now (tried.Was c.in-Was.opened)) c.nodes_of-nodes.ensures.value
     (subst (IsTried c.nodes_of-nodes.result.now member held c.args.piece.is_closed c.args.piece.bytes.now) c.in-Was.is c.in_ok-try_member.ensures))
