@@ -21,3 +21,12 @@ pub mod LineFacts
 pub mod HistoryLemmas
 pub mod FitLemmas
 pub mod PartyLemmas
+pub mod FreshParty
+pub mod FaultTexts
+pub mod OpenedLines
+pub mod SameLists
+pub mod SameRows
+pub mod OwnUrls
+pub mod OneLine
+pub mod ReadSetups
+pub mod Facts

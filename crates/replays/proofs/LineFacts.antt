@@ -52,7 +52,7 @@ refused_closed : (n : ℕ) (place : Option ℕ) (fault : NodeFault) → IsClosed
 refused_closed n place fault =
     closed_behind (codes "{\"done\":\"refused\"") _ (closed_behind (place_member place) _ (closed_behind (codes ",\"line\":") _ (closed_behind (decimal n) _ (closed_behind (codes ",\"name\":\"") _ (closed_behind _ _ (numbered (codes "\",\"number\":") _))))))
 
-malformed_closed : (n : ℕ) (place : Option ℕ) (fault : JsonFault) → IsClosed (malformed_line n place fault)
+pub malformed_closed : (n : ℕ) (place : Option ℕ) (fault : JsonFault) → IsClosed (malformed_line n place fault)
 malformed_closed n place fault = of (fault_field fault)
   where
   of : (field : Option Field) → IsClosed (fault_line n place fault field)

@@ -1,5 +1,5 @@
 -- What one run printed can be read in one way.
-use Rattle.std.proofs.Common.{◌≡◌, ◌≢◌, ◌⊎◌, ◌<◌, ℕ, ◌+◌, List, [], ◌∷◌, ◌++◌, Bool, Option, None, Some, Ok, Err, Contains, length, inl, inr, refl, sym, ap, ap₂, subst, ◌∙◌, append_assoc, arith}
+use Rattle.std.proofs.Common.{◌≡◌, ◌≢◌, ◌⊎◌, ◌≤◌, ◌<◌, ℕ, ◌+◌, List, [], ◌∷◌, ◌++◌, Bool, Option, None, Some, Ok, Err, Contains, length, inl, inr, refl, sym, ap, ap₂, subst, ◌∙◌, append_assoc, arith}
 use Rattle.json_text.specs.Fault.{Fails as FailsToRead, Read}
 use Rattle.json_text.specs.declared.fault.JsonFault.TheVariants.{Memory}
 use Rattle.json_text.specs.declared.fault.JsonFault.{JsonFault}
@@ -8,6 +8,7 @@ use Rattle.node_runs.specs.DoneLines.{opened_line}
 use Rattle.node_runs.specs.NodeTurns.{number_from}
 use Rattle.node_runs.specs.SetupLines.{numbered_setup_in}
 use Rattle.ocpi_text.specs.Text.{key}
+use Rattle.ocpi_text.specs.Whole.{max_whole}
 use Rattle.ocpi_types.specs.Setups.{party_of}
 use Rattle.ocpi_types.specs.declared.rows.Row.{Row}
 use Rattle.ocpi_types.specs.declared.setup.Node.{Node}
@@ -29,7 +30,7 @@ pub record Openings (Good : Running → Type 0) (Own : Held → Type 0) : Type 0
   pub long : (a : ℕ) (p : List ℕ) (r s : ℕ) → opened_line a p r s ≢ 10 ∷ []
   -- a line tells its number and its party
   pub one_line : (line : List ℕ) (setup : List Node) (base : Option ℕ) → numbered_setup_in line ≡ Ok (setup, base) → (m n : Node) → Contains setup m → Contains setup n
-      → (a b r s u v : ℕ) (piece missing : List ℕ) → opened_line a (party_of m) r s ≡ piece ++ 10 ∷ [] → opened_line b (party_of n) u v ≡ piece ++ missing → missing ≢ []
+      → (a b r s u v : ℕ) (piece missing : List ℕ) → a ≤ max_whole → b ≤ max_whole → opened_line a (party_of m) r s ≡ piece ++ 10 ∷ [] → opened_line b (party_of n) u v ≡ piece ++ missing → missing ≢ []
       → (a ≡ b) × (party_of m ≡ party_of n)
   pub no_fault : (line : List ℕ) (setup : List Node) (base : Option ℕ) (fault : JsonFault) → FailsToRead fault (numbered_setup_in line) → fault ≢ Memory
       → numbered_setup_in line ≡ Ok (setup, base) → ⊥
@@ -43,6 +44,7 @@ pub record Openings (Good : Running → Type 0) (Own : Held → Type 0) : Type 0
   pub good : (line : List ℕ) (setup : List Node) (base : Option ℕ) → numbered_setup_in line ≡ Ok (setup, base) → (m : Node) → Contains setup m → (held : Held) → Own held
       → (s : NodeState) → OpensOver setup m held s → Good (begun_over held m s base)
   pub own : (now : Running) (held : Held) → Good now → IsLeftBy now held → Own held
+  pub within : (held : Held) → Own held → held.line ≤ max_whole
 
 abbrev setup_in : Read (List Node × Option ℕ) → List Node
 setup_in (Ok x) = x.0
@@ -186,7 +188,7 @@ module _ (Good : Running → Type 0) (gifts : Gifts Good) (Own : Held → Type 0
 
     -- ---- where it stands there
 
-    module _ (held left over : Held) (alike : Alike held left) (way : WasOpened r setup piece over) (number : held.line ≡ over.line → held ≡ over) where
+    module _ (held left over : Held) (alike : Alike held left) (way : WasOpened r setup piece over) (number : held.line ≡ over.line → held ≡ over) (owned : Own held) (owned_too : Own over) where
       -- the same node was opened over the same
       record IsIt (o : Opens w left line) : Type 0 where
         here : held ≡ over
@@ -204,7 +206,7 @@ module _ (Good : Running → Type 0) (gifts : Gifts Good) (Own : Held → Type 0
         a = is_over line setup base h.reads w held left alike o
         lines : (over.line ≡ held.line) × (party_of way.member ≡ party_of o.member)
         lines = known.one_line line setup base h.reads way.member o.member way.within a.within over.line held.line (length way.opens.rows) (last_serial way.state) (length a.over.rows) (last_serial o.state) piece missing
-          way.tells (a.tells ∙ is) some
+          (known.within over owned_too) (known.within held owned) way.tells (a.tells ∙ is) some
         here : held ≡ over
         here = number (sym lines.0)
         members : o.member ≡ way.member

@@ -103,13 +103,13 @@ module _ (Good : Running → Type 0) (gifts : Gifts Good) (Own : Held → Type 0
       told : List Happening
       on : GoesOn (begun_over over way.member way.state base) rest told next ⊎ ((run ≡ bytes ++ 10 ∷ []) × GoesOn (begun_over over way.member way.state base) (rest ++ 10 ∷ []) told next)
 
-    went_so : (over : Held) (way : WasOpened r setup piece over) (held : Held) → (held.line ≡ over.line → held ≡ over) → Alike held left → GoesSo over way held
-    went_so over way held number alike = of ends
+    went_so : (over : Held) (way : WasOpened r setup piece over) (held : Held) → (held.line ≡ over.line → held ≡ over) → Alike held left → Own held → Own over → GoesSo over way held
+    went_so over way held number alike owned owned_too = of ends
       where
       x : Rest line behind
       x = rest_of line behind h.first
-      s : Went Good gifts Own known r bytes line behind piece rest setup base closed h w may held left over alike way number x.also said next
-      s = opened_seen Good gifts Own known r bytes line behind piece rest setup base closed h w may held left over alike way number x.also said next x.is (seen_behind line behind h.first x)
+      s : Went Good gifts Own known r bytes line behind piece rest setup base closed h w may held left over alike way number owned owned_too x.also said next
+      s = opened_seen Good gifts Own known r bytes line behind piece rest setup base closed h w may held left over alike way number owned owned_too x.also said next x.is (seen_behind line behind h.first x)
       longer : (run ≡ bytes) → x.also ≡ behind ++ 10 ∷ [] → ⊥
       longer is also =
           let whole : line ++ 10 ∷ behind ≡ line ++ 10 ∷ (behind ++ 10 ∷ []) = sym h.first.is ∙ sym is ∙ x.whole ∙ ap (λ l. line ++ 10 ∷ l) also in
@@ -189,6 +189,11 @@ module _ (Good : Running → Type 0) (gifts : Gifts Good) (Own : Held → Type 0
       of (inl alike) = record { held = r.story.held; alike = alike; which = inl refl }
       of (inr (d, is, alike)) = record { held = d.held; alike = alike; which = inr (d, is, refl) }
 
+    -- it is of this node
+    own_of : (held : Held) → (held ≡ r.story.held) ⊎ ((d : Doubt) × (r.story.doubt ≡ Some d) × (held ≡ d.held)) → Own held
+    own_of held (inl is) = subst Own (sym is) own
+    own_of held (inr (d, there, is)) = subst Own (sym is) (own_too d there)
+
     -- a cut opening by the store that it was
     pub data CutAt (parties : List (List ℕ)) (others : (d : Doubt) → r.story.doubt ≡ Some d → List (List ℕ)) : Type 0 where
       There : Alike r.story.held left → said ≡ [] → next ≡ left → (p : List ℕ) → Contains parties p → key p ≡ key w → CutAt parties others
@@ -247,10 +252,10 @@ module _ (Good : Running → Type 0) (gifts : Gifts Good) (Own : Held → Type 0
     }
   onward after ended (read.OpenedBefore h way run_so) =
       let x = at h in
-      opened_on h r.story.held way x.held (went_so h r.story.held way x.held (number_before h x.held x.which) x.alike) after ended (left_out r.story) refl own run_so
+      opened_on h r.story.held way x.held (went_so h r.story.held way x.held (number_before h x.held x.which) x.alike (own_of h x.held x.which) own) after ended (left_out r.story) refl own run_so
   onward after ended (read.OpenedAfter h d doubt way run_so) =
       let x = at h in
-      opened_on h d.held way x.held (went_so h d.held way x.held (number_after h d doubt x.held x.which) x.alike) after ended (taken_in r.story d) refl (own_too d doubt) run_so
+      opened_on h d.held way x.held (went_so h d.held way x.held (number_after h d doubt x.held x.which) x.alike (own_of h x.held x.which) (own_too d doubt)) after ended (taken_in r.story d) refl (own_too d doubt) run_so
 
   -- ---- what was refused
 
@@ -280,7 +285,7 @@ module _ (Good : Running → Type 0) (gifts : Gifts Good) (Own : Held → Type 0
     of (Behind d there alike quiet left_so p within is) = none_within p within
   refused number place (read.DiffersBefore h way d where_so) =
       let x = at h in
-      differs h r.story.held own way x.held (went_so h r.story.held way x.held (number_before h x.held x.which) x.alike) d
+      differs h r.story.held own way x.held (went_so h r.story.held way x.held (number_before h x.held x.which) x.alike (own_of h x.held x.which) own) d
   refused number place (read.DiffersAfter h d doubt way apart where_so) =
       let x = at h in
-      differs h d.held (own_too d doubt) way x.held (went_so h d.held way x.held (number_after h d doubt x.held x.which) x.alike) apart
+      differs h d.held (own_too d doubt) way x.held (went_so h d.held way x.held (number_after h d doubt x.held x.which) x.alike (own_of h x.held x.which) (own_too d doubt)) apart
