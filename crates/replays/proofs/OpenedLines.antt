@@ -2,7 +2,7 @@
 use Rattle.std.proofs.Common.{◌≡◌, ◌≢◌, ◌⊎◌, ◌≤◌, ◌<◌, ◌/◌, ◌%◌, ◌+◌, ◌&&◌, ◌||◌, ◌==◌, ℕ, zero, suc, List, [], ◌∷◌, ◌++◌, All, Bool, true, false, cond, nat_le, nat_lt, Some, codes, decimal, length, inl, inr, refl, sym, ap, subst, ◌∙◌, append-nil, append_assoc, arith, true≢false, zero-lt-suc}
 use Rattle.std.proofs.lemmas.Bool.{cond_both}
 use Rattle.std.proofs.lemmas.Fmt.{decimal_injective}
-use Rattle.std.proofs.lemmas.List.Elements.{All-append, All-cons, All-head, All-nil, All-tail, All-weaker}
+use Rattle.std.proofs.lemmas.List.Elements.{All-append, All-cons, All-from_recursion, All-head, All-nil, All-tail, All-weaker}
 use Rattle.std.proofs.lemmas.List.Sums.{AllPass-from_list_all}
 use Rattle.std.specs.Char.{digit_char}
 use Rattle.std.specs.Fmt.{digit_glyph, digits, digits_onto}
@@ -62,19 +62,18 @@ letter_plain x =
 digit_plain : (d : ℕ) → digit_char d ≢ 10
 digit_plain d = cond_both (nat_lt d 10) _ _ (λ c. c ≢ 10) (λ a same. omega (arith, same)) (λ a same. omega (arith, same))
 
+control_plain : (high low : ℕ) → high ≢ 10 → low ≢ 10 → IsPlain (92 ∷ 117 ∷ 48 ∷ 48 ∷ high ∷ low ∷ [])
+control_plain high low other apart =
+    All-from_recursion (λ b. b ≢ 10) (92 ∷ 117 ∷ 48 ∷ 48 ∷ high ∷ low ∷ [])
+    ((λ same. omega (arith, same)), ((λ same. omega (arith, same)), ((λ same. omega (arith, same)), ((λ same. omega (arith, same)), (other, (apart, tt))))))
+
 byte_plain : (x : ℕ) → IsPlain (escape_byte x)
 unfolding escape_byte
 byte_plain x =
-    cond_both (nat_lt 0 (escape_letter x)) _ _ IsPlain (λ a. of 92 (escape_letter x ∷ []) (λ same. omega (arith, same)) (of (escape_letter x) [] (letter_plain x) none))
-    (λ a. cond_both (nat_lt x 32) _ _ IsPlain
-    (λ b. of 92 _ (λ same. omega (arith, same)) (of 117 _ (λ same. omega (arith, same)) (of 48 _ (λ same. omega (arith, same)) (of 48 _ (λ same. omega (arith, same))
-    (of (digit_char (x / 16)) _ (digit_plain (x / 16)) (of (digit_char (x % 16)) [] (digit_plain (x % 16)) none))))))
-    (λ b. of x [] (λ same. true≢false (subst (λ c. nat_lt c 32 ≡ false) same b)) none))
-  where
-  none : IsPlain []
-  none = All-nil (λ b. b ≢ 10)
-  of : (c : ℕ) (text : List ℕ) → c ≢ 10 → IsPlain text → IsPlain (c ∷ text)
-  of c text other rest = All-cons (λ b. b ≢ 10) c text other rest
+    cond_both (nat_lt 0 (escape_letter x)) _ _ IsPlain
+    (λ a. All-from_recursion (λ b. b ≢ 10) (92 ∷ escape_letter x ∷ []) ((λ same. omega (arith, same)), (letter_plain x, tt)))
+    (λ a. cond_both (nat_lt x 32) _ _ IsPlain (λ b. control_plain (digit_char (x / 16)) (digit_char (x % 16)) (digit_plain (x / 16)) (digit_plain (x % 16)))
+    (λ b. All-from_recursion (λ b. b ≢ 10) (x ∷ []) ((λ same. true≢false (subst (λ c. nat_lt c 32 ≡ false) same b)), tt)))
 
 escaped_plain : (text : List ℕ) → IsPlain (escape text)
 escaped_plain [] = All-nil (λ b. b ≢ 10)
@@ -113,30 +112,27 @@ abbrev tail_of_line : ℕ → ℕ → List ℕ
 tail_of_line rows serial = codes ",\"rows\":" ++ (decimal rows ++ (codes ",\"serial\":" ++ (decimal serial ++ codes "}\n")))
 
 tail_ends : (rows serial : ℕ) → (body : List ℕ) × (tail_of_line rows serial ≡ body ++ 10 ∷ []) × IsPlain body
+unfolding is_ascii_text
 tail_ends rows serial =
-    behind (codes ",\"rows\":") _ (printable_plain _ of_rows) (behind (decimal rows) _ (number rows)
-    (behind (codes ",\"serial\":") _ (printable_plain _ of_serial) (behind (decimal serial) _ (number serial) (125 ∷ [], refl, printable_plain (125 ∷ []) brace))))
+    behind (codes ",\"rows\":") _ (printable_plain (codes ",\"rows\":") of_rows) (behind (decimal rows) _ (number rows)
+    (behind (codes ",\"serial\":") _ (printable_plain (codes ",\"serial\":") of_serial) (behind (decimal serial) _ (number serial) (125 ∷ [], refl, printable_plain (125 ∷ []) brace))))
   where
   of_rows : is_ascii_text (codes ",\"rows\":") ≡ true
-  unfolding is_ascii_text
   of_rows = refl
   of_serial : is_ascii_text (codes ",\"serial\":") ≡ true
-  unfolding is_ascii_text
   of_serial = refl
   brace : is_ascii_text (125 ∷ []) ≡ true
-  unfolding is_ascii_text
   brace = refl
 
 pub opened_ends : (line : ℕ) (party : List ℕ) (rows serial : ℕ) → (body : List ℕ) × (opened_line line party rows serial ≡ body ++ 10 ∷ []) × IsPlain body
+unfolding is_ascii_text
 opened_ends line party rows serial =
-    behind (codes "{\"done\":\"opened\",\"line\":") _ (printable_plain _ opened) (behind (decimal line) _ (number line) (behind (codes ",\"party\":") _ (printable_plain _ of_party)
+    behind (codes "{\"done\":\"opened\",\"line\":") _ (printable_plain (codes "{\"done\":\"opened\",\"line\":") opened) (behind (decimal line) _ (number line) (behind (codes ",\"party\":") _ (printable_plain (codes ",\"party\":") of_party)
     (behind (text_json party) _ (json_plain party) (tail_ends rows serial))))
   where
   opened : is_ascii_text (codes "{\"done\":\"opened\",\"line\":") ≡ true
-  unfolding is_ascii_text
   opened = refl
   of_party : is_ascii_text (codes ",\"party\":") ≡ true
-  unfolding is_ascii_text
   of_party = refl
 
 pub opened_long : (line : ℕ) (party : List ℕ) (rows serial : ℕ) → opened_line line party rows serial ≢ 10 ∷ []

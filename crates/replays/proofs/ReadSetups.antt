@@ -34,12 +34,12 @@ setup_read line setup base reads =
 
 -- a party is read as it is spelled
 spelled_so : (s t : List ℕ) → party_at s ≡ Ok t → t ≡ s
+unfolding party_at
 spelled_so s t is = of (is_party_shape s) refl
   where
   shaped : is_party_shape s ≡ true → t ≡ s
   shaped shape = ci_text_is 6 s t (sym (party_by_shape s shape) ∙ is)
   other : is_party_shape s ≡ false → party_at s ≡ Err TooLong
-  unfolding party_at
   other shape = rw shape refl
   of : (b : Bool) → is_party_shape s ≡ b → t ≡ s
   of true shape = shaped shape
