@@ -1,9 +1,8 @@
 -- A party that is none of these.
-use Rattle.std.proofs.Common.{◌≡◌, ◌<◌, ℕ, ◌+◌, List, [], ◌∷◌, ◌++◌, inl, inr, subst, ap, arith, length, length-append}
+use Rattle.std.proofs.Common.{◌≡◌, ◌<◌, ℕ, List, [], ◌∷◌, ◌++◌, inl, inr, ap, arith, length, length-append}
 use Rattle.std.proofs.lemmas.List.{length-map}
 use Rattle.std.specs.Char.{to_ascii_uppercase}
 use Rattle.std.specs.Prelude.{Contains, map}
-use Rattle.ocpi_text.specs.Text.{key}
 use Rattle.tables.proofs.Elements.{in_none, of_cons}
 use Rattle.replays.specs.Reading.{IsOther}
 

@@ -1,5 +1,5 @@
 -- The line of an opening tells its number and its party.
-use Rattle.std.proofs.Common.{◌≡◌, ◌≢◌, ◌⊎◌, ◌≤◌, ◌<◌, ◌/◌, ◌%◌, ◌+◌, ◌&&◌, ◌||◌, ◌==◌, ℕ, zero, suc, List, [], ◌∷◌, ◌++◌, All, Bool, true, false, cond, nat_le, nat_lt, Some, codes, decimal, length, inl, inr, refl, sym, ap, subst, ◌∙◌, append-nil, append_assoc, arith, true≢false, zero-lt-suc}
+use Rattle.std.proofs.Common.{◌≡◌, ◌≢◌, ◌≤◌, ◌<◌, ◌/◌, ◌%◌, ◌+◌, ◌||◌, ◌==◌, ℕ, zero, suc, List, [], ◌∷◌, ◌++◌, All, Bool, true, false, cond, nat_lt, Some, codes, decimal, refl, sym, ap, subst, ◌∙◌, append-nil, append_assoc, arith, true≢false}
 use Rattle.std.proofs.lemmas.Bool.{cond_both}
 use Rattle.std.proofs.lemmas.Fmt.{decimal_injective}
 use Rattle.std.proofs.lemmas.List.Elements.{All-append, All-cons, All-from_recursion, All-head, All-nil, All-tail, All-weaker}
@@ -12,7 +12,7 @@ use Rattle.json.specs.Text.{content, plain}
 use Rattle.node_runs.specs.DoneLines.{opened_line, text_json}
 use Rattle.ocpi_text.specs.Text.{is_ascii_text, is_printable}
 use Rattle.ocpi_text.specs.Whole.{max_whole}
-use Rattle.replays.proofs.Lists.{IsPlain, behind_front, heads, last_is, some_is_none, tails}
+use Rattle.replays.proofs.Lists.{IsPlain, behind_front, heads, last_is, tails}
 
 -- ---- bytes that are no line feeds
 
