@@ -5,6 +5,7 @@ use Rattle.json_text.specs.Fault.{Read}
 use Rattle.line_runs.specs.declared.run.Turn.{Turn}
 use Rattle.line_runs.specs.declared.run.Turn.TheVariants.{Refused, Taken}
 use Rattle.node_lines.specs.NodeLines.{node_line_in, one_of}
+use Rattle.node_lines.specs.declared.node_line.NodeLine.{NodeLine}
 use Rattle.node_lines.specs.declared.node_line.NodeLine.TheVariants.{One, Several}
 use Rattle.node_runs.specs.DoneLines.{all_line}
 use Rattle.node_runs.specs.LineAnswers as answer
@@ -160,8 +161,8 @@ not_several : {X : Type 0} (a : Read NodeEvent) (events : List (Read NodeEvent))
 not_several (Ok x) events is = absurd cc
 not_several (Err e) events is = absurd cc
 
-same_events : (events others : List (Read NodeEvent)) → Ok (Several events) ≡ Ok (Several others) → events ≡ others
-same_events events others is = cc
+same_events : (line : Read NodeLine) (events others : List (Read NodeEvent)) → line ≡ Ok (Several events) → line ≡ Ok (Several others) → events ≡ others
+same_events line events others is so = let both = sym is ∙ so in cc
 
 module _ (party : List ℕ) (now : NodeState) (number : ℕ) (line : List ℕ) (fit : IsFit now) where
   pub answers_once : (turn other : Turn) (out also : List ℕ) (did done : List Deed) (next last : NodeState)
@@ -172,7 +173,7 @@ module _ (party : List ℕ) (now : NodeState) (number : ℕ) (line : List ℕ) (
   answers_once turn other out also did done next last (answer.OneEvent read is p) (answer.SeveralEvents events is_too q) = not_several read events (sym is ∙ is_too)
   answers_once turn other out also did done next last (answer.SeveralEvents events is p) (answer.OneEvent read is_too q) = not_several read events (sym is_too ∙ is)
   answers_once turn other out also did done next last (answer.SeveralEvents events is p) (answer.SeveralEvents others is_too q) =
-      let same = same_events events others (sym is ∙ is_too) in
+      let same = same_events (node_line_in line) events others is is_too in
       let one = done_once party number now fit events others turn other p.lines q.lines did done next last p.done q.done same in
       record {
         turns = one.turns;
