@@ -1,6 +1,9 @@
 //! What a store has: the rows of a node, and the number of the last line that took hold.
 
-ghost use Rattle.std.specs.Prelude.{◌≡◌, ◌++◌, ◌∷◌, [], IfOk, OnOk, false, true};
+ghost use Rattle.std.specs.Prelude.{◌≡◌, ◌≤◌, ◌++◌, ◌∷◌, ℕ, [], Contains, IfOk, OnOk, false, true};
+ghost use Rattle.ocpi_text.specs.Whole.{max_whole};
+ghost use Rattle.ocpi_types.specs.declared.rows.Row.TheVariants.{Command};
+ghost use Rattle.ocpi_types.specs.declared.stored.SentCommand.{SentCommand};
 ghost use Rattle.replays.specs.LineTurns.{nothing_held};
 
 use ocpi_text::Whole;
@@ -74,6 +77,24 @@ fn copies(alloc: Global, rows: &[Row]) -> Result<Vec<Row>, AllocError>
     Ok(copies)
 }
 
+/// Where the row is a request, its number is one that a request may have.
+fn request_fits(row: &Row)
+    ensures { (n : ℕ) (c : SentCommand) → row.now ≡ Command n c → n ≤ max_whole }
+{
+    if let Row::Command { number, .. } = row {
+        let _ = number.value();
+    }
+}
+
+/// So it is of each of these rows.
+fn requests_fit(rows: &[Row])
+    ensures { (n : ℕ) (c : SentCommand) → Contains rows.now (Command n c) → n ≤ max_whole }
+{
+    for row in rows {
+        request_fits(row);
+    }
+}
+
 /// What a store has.
 #[derive(Drop)]
 pub(crate) struct Held {
@@ -107,5 +128,14 @@ impl Held {
         ensures { IfOk result (λ rows. rows.items ≡ self.now.rows) }
     {
         copies(alloc, self.rows.as_slice())
+    }
+
+    /// Its numbers are such as requests and lines may have. Nothing is done.
+    pub(crate) fn numbers_fit(&self)
+        ensures requests { (n : ℕ) (c : SentCommand) → Contains self.now.rows (Command n c) → n ≤ max_whole }
+        ensures line { self.now.line ≤ max_whole }
+    {
+        requests_fit(self.rows.as_slice());
+        let _ = self.line.value();
     }
 }
