@@ -119,8 +119,8 @@ module _ (line : List ℕ) (setup : List Node) (base : Option ℕ) (reads : numb
       }
   opened_own (member.Operator party site) there stores (Provides s) rows lists made = absurd made
   opened_own (member.Provider party) there stores (Operates s) rows lists made = absurd made
-  opened_own (member.Provider party) there stores (Provides s) rows lists made n c has =
-      stores.urls n c (kept_has held.kept rows lists (row.Command n c) ((made.has_rows.exact (row.Command n c)).1 has))
+  opened_own (member.Provider party) there stores (Provides s) rows lists made =
+      λ n c has. stores.urls n c (kept_has held.kept rows lists (row.Command n c) ((made.has_rows.exact (row.Command n c)).1 has))
 
   begins : (m : Node) → Contains setup m → Stores held → (s : NodeState) → OpensOver setup m held s → Runs (begun_over held m s base)
   begins m there stores s o = record {

@@ -5,7 +5,7 @@ use Rattle.std.specs.Cmp.{nat_cmp_total}
 use Rattle.std.specs.FinMap.{get, nat_cmp-IsAntisymmetric}
 use Rattle.std.proofs.lemmas.Fmt.{decimal_injective}
 use Rattle.std.proofs.lemmas.List.Elements.{All-head, All-tail}
-use Rattle.answer_laws.specs.Nodes.{IsApart, PlacesDiffer, SiteDiffers}
+use Rattle.answer_laws.specs.Nodes.{IsApart, PlacesDiffer, SiteDiffers, UrlsDiffer}
 use Rattle.node_steps.specs.Acts.{Act, unanswered}
 use Rattle.ocpi_text.specs.Whole.{max_whole}
 use Rattle.ocpi_types.specs.Commands.{url_of}
@@ -69,10 +69,13 @@ HasOwn (Provides s) = (n : ℕ) (c : SentCommand) → get s.rows.outbox.commands
 
 pub are_apart : (n : NodeState) → HasOwn n → IsApart n
 are_apart (Operates s) own = own
-are_apart (Provides s) own m n c d has has_too same =
-    let a = own m c has in
-    let b = own n d has_too in
-    url_tells a.party b.party m n a.small b.small (sym a.url ∙ same ∙ b.url)
+are_apart (Provides s) own = apart
+  where
+  apart : UrlsDiffer s
+  apart m n c d has has_too same =
+      let a = own m c has in
+      let b = own n d has_too in
+      url_tells a.party b.party m n a.small b.small (sym a.url ∙ same ∙ b.url)
 
 -- ---- what it does
 
