@@ -21,6 +21,8 @@ use Rattle.stored_laws.specs.Nodes.{AreNodeRows}
 use Rattle.stored_nodes.specs.Transactions.{changes_of_each}
 use Rattle.world_steps.specs.Steps.{NodeEvent as Deed}
 use Rattle.world_steps.specs.World.{NodeState, Operates, Provides}
+pub use Rattle.replays.proofs.FaultTexts.{malformed_ends}
+pub use Rattle.replays.proofs.FreshParty.{fresh}
 use Rattle.replays.proofs.FaultTexts.{no_refusal, one_refusal}
 use Rattle.replays.proofs.LineFacts.{IsCounted, effect_of, line_closed, stays_counted}
 use Rattle.replays.proofs.Lines.{Alike, Both, Gifts, Same}
@@ -31,7 +33,7 @@ use Rattle.replays.proofs.OwnUrls.{HasOwn, HasOwnUrl}
 use Rattle.replays.proofs.ReadSetups.{has_places, is_setup, one_of_party}
 use Rattle.replays.proofs.SameRows.{HasNodeRow, has_rows, listed, made_of, made_once, of_others, same_count}
 use Rattle.replays.specs.Happenings.{Placed}
-use Rattle.replays.specs.LineTurns.{AreOf, Held, IsLeftBy, Kept, LineGives, Listed, Lists, OfNode, Running, Store, WasBeyond, WasKnown, WasRead, held_in, last_behind}
+use Rattle.replays.specs.LineTurns.{AreOf, Held, IsLeftBy, IsNumbered, Kept, LineGives, Listed, Lists, OfNode, Running, Store, WasBeyond, WasKnown, WasRead, held_in, last_behind}
 use Rattle.replays.specs.Reading.{OpensOver, begun_over}
 use Rattle.replays.specs.Transcripts.{HasOwnUrls}
 
@@ -80,12 +82,11 @@ pub record Stores (held : Held) : Type 0 where
   pub urls : (n : ℕ) (c : SentCommand) → HasKept held.kept (row.Command n c) → HasOwnUrl n c
   pub within : held.line ≤ max_whole
 
--- where the rows are given, with numbers that requests may have
-pub first_stores : (start : Store) → HasOwnUrls start.rows → ((n : ℕ) (c : SentCommand) → Contains start.rows (row.Command n c) → n ≤ max_whole) → start.line ≤ max_whole
-    → Stores (held_in start)
-first_stores start own numbers low = record {
-  urls = λ n c there. let url = own.each n c there in record { party = url.0; url = url.1; small = numbers n c there };
-  within = low;
+-- where the rows are given
+pub first_stores : (start : Store) → HasOwnUrls start.rows → IsNumbered start → Stores (held_in start)
+first_stores start own numbered = record {
+  urls = λ n c there. let url = own.each n c there in record { party = url.0; url = url.1; small = numbered.requests n c there };
+  within = numbered.line;
 }
 
 -- of a node that ran

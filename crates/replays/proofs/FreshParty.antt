@@ -25,8 +25,8 @@ is_longer (q ∷ ps) p within = let a = length-append q (longer ps) in elim (of_
 ]
 
 -- for each list of parties there is one that is none of them, in whichever case
-pub someone : (parties : List (List ℕ)) → (party : List ℕ) × IsOther parties party
-someone parties = (longer parties, other)
+pub fresh : (parties : List (List ℕ)) → (party : List ℕ) × IsOther parties party
+fresh parties = (longer parties, other)
   where
   other : IsOther parties (longer parties)
   other p within same =

@@ -19,7 +19,12 @@ pub mod AnswerLemmas
 pub mod LineLemmas
 pub mod LineFacts
 pub mod HistoryLemmas
+pub mod FrontLemmas
 pub mod FitLemmas
+pub mod ResultLemmas
+pub mod AnsweredLines
+pub mod WayLemmas
+pub mod OpenLemmas
 pub mod PartyLemmas
 pub mod FreshParty
 pub mod FaultTexts
@@ -30,3 +35,8 @@ pub mod OwnUrls
 pub mod OneLine
 pub mod ReadSetups
 pub mod Facts
+pub mod LinesRead
+pub mod SetupRead
+pub mod TranscriptLemmas
+pub mod FileRead
+pub mod TranscriptRead

@@ -43,7 +43,7 @@ decimal_high n = digits_high 64 n [] (All-nil (λ b. 48 ≤ b))
 pub decimal_without : (c n : ℕ) → c < 48 → All (λ b. b ≢ c) (decimal n)
 decimal_without c n low = All-weaker (λ b. 48 ≤ b) (λ b. b ≢ c) (λ b high is. omega (arith, high, is, low)) (decimal n) (decimal_high n)
 
-printable_plain : (text : List ℕ) → is_ascii_text text ≡ true → IsPlain text
+pub printable_plain : (text : List ℕ) → is_ascii_text text ≡ true → IsPlain text
 unfolding is_ascii_text
 printable_plain text is =
     All-weaker (λ b. is_printable b ≡ true) (λ b. b ≢ 10) (λ b yes same. true≢false (sym (subst (λ c. is_printable c ≡ true) same yes))) text (AllPass-from_list_all is_printable text is)
@@ -101,10 +101,10 @@ json_tells a b xs ys is = of (sym (content-escape a xs) ∙ ap (content plain) b
 
 -- ---- the line
 
-behind : (xs ys : List ℕ) → IsPlain xs → ((body : List ℕ) × (ys ≡ body ++ 10 ∷ []) × IsPlain body) → (body : List ℕ) × (xs ++ ys ≡ body ++ 10 ∷ []) × IsPlain body
+pub behind : (xs ys : List ℕ) → IsPlain xs → ((body : List ℕ) × (ys ≡ body ++ 10 ∷ []) × IsPlain body) → (body : List ℕ) × (xs ++ ys ≡ body ++ 10 ∷ []) × IsPlain body
 behind xs ys plain_so (body, is, rest) = (xs ++ body, ap (λ l. xs ++ l) is ∙ sym (append_assoc xs body (10 ∷ [])), All-append (λ b. b ≢ 10) xs body plain_so rest)
 
-number : (n : ℕ) → IsPlain (decimal n)
+pub number : (n : ℕ) → IsPlain (decimal n)
 number n = decimal_without 10 n (omega arith)
 
 -- what stands behind the party

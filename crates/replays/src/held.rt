@@ -4,7 +4,7 @@ ghost use Rattle.std.specs.Prelude.{◌≡◌, ◌≤◌, ◌++◌, ◌∷◌, �
 ghost use Rattle.ocpi_text.specs.Whole.{max_whole};
 ghost use Rattle.ocpi_types.specs.declared.rows.Row.TheVariants.{Command};
 ghost use Rattle.ocpi_types.specs.declared.stored.SentCommand.{SentCommand};
-ghost use Rattle.replays.specs.LineTurns.{nothing_held};
+ghost use Rattle.replays.specs.LineTurns.{IsNumbered, nothing_held};
 
 use ocpi_text::Whole;
 use ocpi_types::Row;
@@ -48,6 +48,16 @@ impl Start {
     }
 }
 
+impl Start {
+    /// Lines and requests can have its numbers, which their types keep. It does nothing.
+    pub(crate) fn is_numbered(&self)
+        ensures { IsNumbered self.now.held }
+    {
+        requests_fit(self.held.rows.as_slice());
+        let _number = self.held.line.value();
+    }
+}
+
 /// The number where no line took hold.
 fn first_number() -> Whole
     ensures { result ≡ 1 }
@@ -77,12 +87,12 @@ fn copies(alloc: Global, rows: &[Row]) -> Result<Vec<Row>, AllocError>
     Ok(copies)
 }
 
-/// Where the row is a request, its number is one that a request may have.
+/// Where the row is a request, it can have its number. It does nothing.
 fn request_fits(row: &Row)
     ensures { (n : ℕ) (c : SentCommand) → row.now ≡ Command n c → n ≤ max_whole }
 {
     if let Row::Command { number, .. } = row {
-        let _ = number.value();
+        let _number = number.value();
     }
 }
 
@@ -128,14 +138,5 @@ impl Held {
         ensures { IfOk result (λ rows. rows.items ≡ self.now.rows) }
     {
         copies(alloc, self.rows.as_slice())
-    }
-
-    /// Its numbers are such as requests and lines may have. Nothing is done.
-    pub(crate) fn numbers_fit(&self)
-        ensures requests { (n : ℕ) (c : SentCommand) → Contains self.now.rows (Command n c) → n ≤ max_whole }
-        ensures line { self.now.line ≤ max_whole }
-    {
-        requests_fit(self.rows.as_slice());
-        let _ = self.line.value();
     }
 }
