@@ -21,3 +21,11 @@ pub mod LineFacts
 pub mod HistoryLemmas
 pub mod FitLemmas
 pub mod PartyLemmas
+pub mod OutputTexts
+pub mod InputLines
+pub mod PacketLines
+pub mod OutputLines
+pub mod OutputStores
+pub mod OutputStories
+pub mod OutputEnds
+pub mod OutputRuns
