@@ -268,7 +268,7 @@ module _ {K : Type 0} (keeper : Keeper K) (source : Source K) (party : List ℕ)
     at_end : (s : Stage K) (out front more given : List ℕ) (ran : Ran) (kept : Option K) → given ≡ front ++ more → So keeper source wanted places s out → NodeEnd s.running ran given
         → keep_in s.running s.spare ≡ kept → IfSome kept keeper.is_honest → Shown (out ++ front) kept
     at_end s out front more given ran kept cut (Before none is) end kept_is honest =
-        let none_ran : NodeEnd None ran given = subst (λ (q : Option (Node K)). NodeEnd q ran given) (ap (λ (u : Stage K). u.running) is) end in
+        let none_ran : NodeEnd {K = K} None ran given = subst (λ (q : Option (Node K)). NodeEnd q ran given) (ap (λ (u : Stage K). u.running) is) end in
         let line = malformed_ended 0 None Syntax in
         next_echo s out line.line front more kept line.fed (sym line.is ∙ sym none_ran.1 ∙ cut) (Before none is) kept_is honest
     at_end s out front more given ran kept cut (Runs now running story) end kept_is honest =

@@ -1,10 +1,12 @@
 -- What runs print has no empty line.
-use Rattle.std.proofs.Common.{◌≡◌, ℕ, List, [], ◌∷◌, ◌++◌, Bool, true, false, Option, None, length, refl, sym, ap, subst, ◌∙◌, append-nil, append_assoc}
+use Rattle.std.proofs.Common.{◌≡◌, ℕ, suc, List, [], ◌∷◌, ◌++◌, Bool, true, false, Option, None, length, refl, sym, ap, subst, ◌∙◌, append-nil, append_assoc}
 use Rattle.json_text.specs.Fault.{Read}
 use Rattle.line_runs.specs.declared.run.Turn.{Turn}
 use Rattle.node_runs.specs.DoneLines.{all_line, idle_line, known_line, malformed_line, refused_line, skipped_line}
 use Rattle.node_runs.specs.LineAnswers as answer
 use Rattle.node_runs.specs.LineAnswers.{Answers, AreDone, PlacedTurn, step_line}
+use Rattle.node_steps.specs.declared.fault.NodeFault.TheVariants.{NumbersUsedUp}
+use Rattle.ocpi_text.specs.Whole.{max_whole}
 use Rattle.ocpi_types.specs.declared.node_events.NodeEvent.{NodeEvent}
 use Rattle.ocpi_types.specs.declared.packet.Packet.{Packet}
 use Rattle.program_lines.specs.Writing.{packet_lines}
@@ -57,8 +59,8 @@ answers_lines {number = n} (answer.SeveralEvents events is carries) =
     (lines_both carries.lines (all_line n (length events)) (done_lines carries.done) (one_ended (all_line n (length events)) (all_ended n (length events))))
 
 pub gives_lines : {now : Running} {line out : List ℕ} {entered : List Placed} {did : List Deed} {next : Running} → LineGives now line out entered did next → AreLines out
-gives_lines {now = now} (WasKnown known written none nothing is) = subst AreLines (sym written) (one_ended (known_line _) (known_ended _))
-gives_lines {now = now} (WasBeyond new at written none nothing is) = subst AreLines (sym written) (one_ended (refused_line _ None _) (refused_ended _ None _))
+gives_lines {now = now} (WasKnown known written none nothing is) = subst AreLines (sym written) (one_ended (known_line (suc now.number)) (known_ended (suc now.number)))
+gives_lines {now = now} (WasBeyond new at written none nothing is) = subst AreLines (sym written) (one_ended (refused_line max_whole None NumbersUsedUp) (refused_ended max_whole None NumbersUsedUp))
 gives_lines (WasRead new within turn after answers entered_so is) = answers_lines answers
 
 -- ---- what a run prints

@@ -86,7 +86,10 @@ module _ {K : Type 0} (keeper : Keeper K) (source : Source K) where
 
 -- ---- what is printed
 
-take_none : (n : ℕ) → take n ([] : List ℕ) ≡ []
+abbrev no_bytes : List ℕ
+no_bytes = []
+
+take_none : (n : ℕ) → take n no_bytes ≡ no_bytes
 take_none zero = refl
 take_none (suc n) = refl
 

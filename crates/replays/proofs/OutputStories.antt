@@ -71,7 +71,7 @@ module _ {K : Type 0} {keeper : Keeper K} {source : Source K} {wanted : Option (
       let same = r.keeps.same honest in
       record {
         starts = can;
-        holds = (r.list, (ap rows_of same ∙ r.reads honest, made_has o.setup o.member r.list o.node.state r.made));
+        holds = (r.list, ap rows_of same ∙ r.reads honest, made_has o.setup o.member r.list o.node.state r.made);
         line = ap line_of same ∙ r.told honest;
       }
 
@@ -81,7 +81,7 @@ module _ {K : Type 0} {keeper : Keeper K} {source : Source K} {wanted : Option (
     pub same_number : o.last ≡ held.line
     same_number = same_Some o.last held.line (sym (o.begins.starts.reopens.told honest) ∙ ap line_of had ∙ has.line)
 
-    same_rows : has.rows ≡ o.begins.starts.reopens.list
+    pub same_rows : has.rows ≡ o.begins.starts.reopens.list
     same_rows = same_Some has.rows o.begins.starts.reopens.list (sym has.read ∙ sym (ap rows_of had) ∙ o.begins.starts.reopens.reads honest)
 
     abbrev pub opens_so : Opens party held line
