@@ -41,7 +41,7 @@ pub data Ended {K : Type 0} (gives : GivesNumbered (Stage K)) (first : Stage K) 
   AtOnce : (n : ℕ) → Ended gives first all (take n (10 ∷ 10 ∷ [])) first
 
 -- A run for that party, or for a word that spells none, wrote that text with an echo, whatever was fed. `kept` is the
--- keeper as it left it, where one was opened, and what that says is so.
+-- keeper as the run left it, where one was opened, and that is honest.
 pub record Wrote {K : Type 0} (keeper : Keeper K) (gives : GivesNumbered (Stage K)) (wanted text : List ℕ) (kept : Option K) : Type 0 where
   pub word : List ℕ
   pub asked : (party : List ℕ) → asked_for word ≡ Some party → party ≡ wanted
@@ -52,8 +52,8 @@ pub record Wrote {K : Type 0} (keeper : Keeper K) (gives : GivesNumbered (Stage 
   pub left : keep_in last.running last.spare ≡ kept
   pub honest : IfSome kept keeper.is_honest
 
--- What `run_node` says of what it wrote with an echo: it is such a run, by what that says of a line. A run that is killed
--- has written, and leaves, what one does that is stopped so.
+-- What the contract of `run_node` says of what was written with an echo: it is such a run, by what the contract says of a
+-- line. A run that is killed has written, and leaves, what one does that is stopped so.
 pub record IsOfContract {K : Type 0} (keeper : Keeper K) (source : Source K) : Type 0 where
   pub went : (wanted places word input before : List ℕ) (ran : Ran) (stop : Option NodeStop) (new : Option (List ℕ)) (kept : Option K)
       → ((party : List ℕ) → asked_for word ≡ Some party → party ≡ wanted) → IfSome kept keeper.is_honest
@@ -64,9 +64,9 @@ pub record IsOfContract {K : Type 0} (keeper : Keeper K) (source : Source K) : T
       → NodeBegins keeper source places word true (Some input) (Some before) new kept
       → (text : List ℕ) × ((new ≡ Some (before ++ text)) × Wrote keeper (NodeLineGives keeper source) wanted text kept)
 
--- What a line gives, by the contract and by two facts more that it does not say. The node that the first line opened can
--- start again, as each can by its type. A line that had taken hold before the run leaves the keeper as it was, also where
--- memory ran out at it.
+-- What a line gives, by the contract and by two facts more that it does not say. The node that the first line opened
+-- can start again, as each can by its type. A line that had taken hold before the run leaves the keeper as it was, also
+-- where memory ran out at it.
 pub record Gives {K : Type 0} (keeper : Keeper K) (source : Source K) (s : Stage K) (place : ℕ) (line : List ℕ) (turn : Turn) (out : List ℕ) (t : Stage K) : Type 0 where
   pub gives : NodeLineGives keeper source s place line turn out t
   pub starts : s.running ≡ None → (now : Running K) → t.running ≡ Some now → keeper.is_honest now.node.keep → CanStartAgain now.node.state
@@ -89,8 +89,8 @@ IsRun wanted c text next = (held : Held) → Has c held → (told : List Happeni
 abbrev pub HadContent : {K : Type 0} → Keeper K → Option K → Content → Type 0
 HadContent keeper opened c = IfSome opened (λ k. keeper.is_honest k → keeper.content k ≡ c)
 
--- what the store may have behind the run: what the keeper keeps, or what a stop leaves of it; where none was opened, what
--- it had
+-- what the store may have behind the run: what the keeper keeps, or what a stop leaves of it; where none was opened,
+-- what it had
 abbrev pub MayLeave : {K : Type 0} → Keeper K → Content → Option K → Content → Type 0
 MayLeave keeper c None next = next ≡ c
 MayLeave keeper c (Some k) next = IsLeftBy keeper k next

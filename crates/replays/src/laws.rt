@@ -14,8 +14,8 @@ pub fn events_give_one_value()
     ensures { EventsGiveOneValue }
 {}
 
-/// What a run of the program `node` writes with an echo, by its contract, is what a run prints over what its keeper had,
-/// wherever it ended or was stopped, whatever was fed; and what it leaves is what such a run leaves.
+/// What a run of the program `node` writes with an echo is what a run prints over what its keeper had, wherever it ended
+/// or was stopped, and whatever was fed. What it leaves is what such a run leaves.
 pub fn outputs_are_printed<S: Keeps>()
     ensures { OutputsArePrinted (keeper_of S.Kept.content S.Kept.is_honest S.Kept.refusals S.Kept.may_leave) (source_of S.may_refuse S.found) }
 {
