@@ -1,5 +1,5 @@
 -- The line of each packet holds something, and no line feed.
-use Rattle.std.proofs.Common.{◌≡◌, ◌≢◌, ℕ, ◌+◌, ◌/◌, ◌%◌, List, [], ◌∷◌, ◌++◌, Bool, true, false, Option, None, Some, cond, decimal, option_map, map, refl, sym, subst, append_assoc, zero-lt-suc, arith, length}
+use Rattle.std.proofs.Common.{◌≡◌, ◌≢◌, ◌<◌, ℕ, ◌+◌, ◌/◌, ◌%◌, List, [], ◌∷◌, ◌++◌, Bool, true, false, Option, None, Some, cond, decimal, option_map, map, refl, sym, subst, append_assoc, zero-lt-suc, arith, length}
 use Rattle.std.specs.Int.{is_negative}
 use Rattle.std.specs.Prelude.{ℤ, unsigned_abs}
 use Rattle.std.proofs.lemmas.List.Elements.{All-nil}
@@ -100,24 +100,24 @@ abbrev mutual
   MembersHavePlain (json.member k j ms) = HasPlain j × MembersHavePlain ms
 
 truth_plain : (b : Bool) → IsPlain (token_text (Token.boolean b))
-truth_plain true = plain_text _ refl
-truth_plain false = plain_text _ refl
+truth_plain true = plain_text (token_text (Token.boolean true)) refl
+truth_plain false = plain_text (token_text (Token.boolean false)) refl
 
 mutual
   value_tokens : (j : json.Json) → HasPlain j → AreTexts (json_tokens j)
-  value_tokens json.null h = (plain_text _ refl, tt)
+  value_tokens json.null h = (plain_text (token_text Token.null) refl, tt)
   value_tokens (json.boolean b) h = (truth_plain b, tt)
   value_tokens (json.number s) h = (h, tt)
   value_tokens (json.string s) h = (quoted_plain s, tt)
-  value_tokens (json.array js) h = (plain_text _ refl, list_tokens js h)
-  value_tokens (json.object ms) h = (plain_text _ refl, record_tokens ms h)
+  value_tokens (json.array js) h = (plain_text (91 ∷ []) refl, list_tokens js h)
+  value_tokens (json.object ms) h = (plain_text (123 ∷ []) refl, record_tokens ms h)
 
   list_tokens : (js : json.Items) → ItemsHavePlain js → AreTexts (items_tokens js)
-  list_tokens json.no_items h = (plain_text _ refl, tt)
+  list_tokens json.no_items h = (plain_text (93 ∷ []) refl, tt)
   list_tokens (json.item j js) h = both (json_tokens j) (items_tokens js) (value_tokens j h.0) (list_tokens js h.1)
 
   record_tokens : (ms : json.Members) → MembersHavePlain ms → AreTexts (members_tokens ms)
-  record_tokens json.no_members h = (plain_text _ refl, tt)
+  record_tokens json.no_members h = (plain_text (125 ∷ []) refl, tt)
   record_tokens (json.member k j ms) h =
       (plain_both (quoted k) (58 ∷ []) (quoted_plain k) (plain_text (58 ∷ []) refl), both (json_tokens j) (members_tokens ms) (value_tokens j h.0) (record_tokens ms h.1))
 
