@@ -1,5 +1,5 @@
 -- However a run ended, what it wrote is what a run prints over what its keeper had.
-use Rattle.std.proofs.Common.{◌≡◌, ◌≢◌, ◌⊎◌, ◌<◌, ◌≤◌, ℕ, zero, suc, List, [], ◌∷◌, ◌++◌, true, Option, None, Some, IfSome, Ok, length, take, drop, inl, inr, refl, sym, ap, subst, ◌∙◌, append-nil, append_assoc, take-append-drop, zero-lt-suc, suc-le-suc, arith}
+use Rattle.std.proofs.Common.{◌≡◌, ◌≢◌, ◌<◌, ◌≤◌, ℕ, zero, suc, List, [], ◌∷◌, ◌++◌, true, Option, None, Some, IfSome, length, take, drop, inl, inr, refl, sym, ap, subst, ◌∙◌, append-nil, append_assoc, take-append-drop, zero-lt-suc, suc-le-suc, arith}
 use Rattle.std.proofs.lemmas.List.Elements.{All-cons, All-nil}
 use Rattle.json_text.specs.Fault.{Fails as FailsToRead}
 use Rattle.json_text.specs.declared.fault.JsonFault.{JsonFault}

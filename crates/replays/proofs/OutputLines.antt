@@ -1,5 +1,5 @@
 -- What runs print has no empty line.
-use Rattle.std.proofs.Common.{◌≡◌, ℕ, suc, List, [], ◌∷◌, ◌++◌, Bool, true, false, Option, None, length, refl, sym, ap, subst, ◌∙◌, append-nil, append_assoc}
+use Rattle.std.proofs.Common.{◌≡◌, ℕ, suc, List, [], ◌∷◌, ◌++◌, Bool, true, false, Option, None, length, sym, ap, subst, ◌∙◌, append-nil, append_assoc}
 use Rattle.json_text.specs.Fault.{Read}
 use Rattle.line_runs.specs.declared.run.Turn.{Turn}
 use Rattle.node_runs.specs.DoneLines.{all_line, idle_line, known_line, malformed_line, refused_line, skipped_line}
@@ -12,7 +12,7 @@ use Rattle.ocpi_types.specs.declared.packet.Packet.{Packet}
 use Rattle.program_lines.specs.Writing.{packet_lines}
 use Rattle.world_steps.specs.Steps.{NodeEvent as Deed, packets_of}
 use Rattle.world_steps.specs.World.{NodeState}
-use Rattle.replays.proofs.OutputTexts.{AreLines, IsEnded, all_ended, front_plain, idle_ended, known_ended, line_then, lines_both, malformed_ended, no_line, one_ended, one_line, opened_ended, refused_ended, skipped_ended, stepped_ended}
+use Rattle.replays.proofs.OutputTexts.{AreLines, IsEnded, all_ended, front_plain, idle_ended, known_ended, lines_both, malformed_ended, no_line, one_ended, one_line, opened_ended, refused_ended, skipped_ended, stepped_ended}
 use Rattle.replays.proofs.PacketLines.{packets_are_lines}
 use Rattle.replays.specs.Cutting.{HasNoEmptyLine}
 use Rattle.replays.specs.Happenings.{Happening, Placed}

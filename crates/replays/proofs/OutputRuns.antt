@@ -18,15 +18,12 @@ use Rattle.stored_nodes.specs.Keepers.{Keeper}
 use Rattle.replays.proofs.InputLines.{lines_are_plain}
 use Rattle.replays.proofs.OutputEnds.{Shown, stopped, went}
 use Rattle.replays.proofs.OutputLines.{prints_plain}
-use Rattle.replays.specs.Cutting.{ArePrintedBy, AtOnce as Feed, HasNoEmptyLine, NoMore, OneMore}
+use Rattle.replays.specs.Cutting.{AtOnce as Feed, NoMore, OneMore}
 use Rattle.replays.specs.Happenings.{Happening}
-use Rattle.replays.specs.LineTurns.{Held, IsLine, Store, echo_of, held_in}
-use Rattle.replays.specs.Outputs as outputs
-use Rattle.replays.specs.Outputs.{ArePrintedRuns, AreRuns, Both, Ended, Gives, HadContent, Has, IsOfContract, IsRun, MayLeave, Nothing, OneFeed, OutputsArePrinted, PrintsAll, RunsArePrinted, Wrote, no_run, one_run}
+use Rattle.replays.specs.LineTurns.{Held, IsLine, held_in}
+use Rattle.replays.specs.Outputs.{AreRuns, Both, Ended, Gives, HadContent, Has, IsOfContract, IsRun, MayLeave, Nothing, OneFeed, OutputsArePrinted, PrintsAll, RunsArePrinted, Wrote, no_run, one_run}
 use Rattle.replays.specs.Printed as printed
 use Rattle.replays.specs.Printed.{ArePrinted, Prints}
-use Rattle.replays.specs.Reading.{IsOther}
-use Rattle.replays.specs.Transcripts.{PrintedBy}
 
 -- ---- what the contract says
 

@@ -1,5 +1,5 @@
 -- What a line makes of a node and of its store, as a transcript tells it, and what a stop leaves at one.
-use Rattle.std.proofs.Common.{◌≡◌, ◌≢◌, ◌⊎◌, ◌<◌, ◌≤◌, ℕ, suc, List, [], ◌∷◌, ◌++◌, Option, None, Some, All, length, drop, take, inl, inr, refl, sym, ap, subst, ◌∙◌, append-nil, take-append-drop, zero-lt-suc, arith}
+use Rattle.std.proofs.Common.{◌≡◌, ◌≢◌, ◌⊎◌, ◌<◌, ◌≤◌, ℕ, suc, List, [], ◌∷◌, ◌++◌, Option, Some, All, length, inl, inr, refl, sym, ap, subst, ◌∙◌, append-nil, zero-lt-suc, arith}
 use Rattle.std.proofs.lemmas.Bool.{cases_lt}
 use Rattle.std.proofs.lemmas.List.Elements.{All-nil}
 use Rattle.line_runs.specs.declared.run.Turn.{Turn}
@@ -15,7 +15,7 @@ use Rattle.node_runs.specs.NodeHistories.{IsLeftBy as Leaves}
 use Rattle.node_runs.specs.NodeTurns.{Running as Node, Stage}
 use Rattle.node_runs.specs.declared.fault.NodeStop.{NodeStop}
 use Rattle.node_store.proofs.Numbered.{numbers_are_no_rows}
-use Rattle.node_store.specs.Contents.{Content, IsReadAgain, changed_all, line_of, marked, rows_of}
+use Rattle.node_store.specs.Contents.{Content, IsReadAgain, changed_all, line_of, marked}
 use Rattle.ocpi_text.specs.Whole.{max_whole}
 use Rattle.ocpi_types.specs.declared.rows.Change.{Change}
 use Rattle.stored_laws.specs.Nodes.{CanStartAgain, NodesCanStartAgain}

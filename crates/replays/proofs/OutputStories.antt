@@ -1,5 +1,5 @@
 -- The lines of a run, from its first: which node was opened, and what a transcript tells of it so far.
-use Rattle.std.proofs.Common.{◌≡◌, ◌≢◌, ◌⊎◌, ◌<◌, ◌≤◌, ℕ, suc, List, [], ◌∷◌, ◌++◌, true, Option, None, Some, Ok, length, inl, inr, refl, sym, ap, ap₂, subst, ◌∙◌, append-nil, append_assoc, arith}
+use Rattle.std.proofs.Common.{◌≡◌, ◌<◌, ◌≤◌, ℕ, List, [], ◌∷◌, ◌++◌, true, Option, None, Some, length, inl, inr, refl, sym, ap, ap₂, subst, ◌∙◌, append-nil, append_assoc, arith}
 use Rattle.line_runs.specs.Numbered as numbered
 use Rattle.line_runs.specs.Numbered.{AreNumbered}
 use Rattle.line_runs.specs.declared.outcome.Ran.{Ran}
@@ -7,10 +7,9 @@ use Rattle.line_runs.specs.declared.run.Turn.{Turn}
 use Rattle.line_runs.specs.declared.run.Turn.TheVariants.{Ended, Refused, Taken}
 use Rattle.node_core.specs.Members.{IsMadeOfRows}
 use Rattle.node_keepers.specs.Opening.{Source}
-use Rattle.node_rows.specs.Holds.{HoldsRows}
 use Rattle.node_rows.specs.Laws.{ChangesAreHeld}
 use Rattle.node_runs.specs.DoneLines.{opened_line}
-use Rattle.node_runs.specs.NodeAnswers.{BehindTurn, NodeTurn}
+use Rattle.node_runs.specs.NodeAnswers.{NodeTurn}
 use Rattle.node_runs.specs.NodeTurns as turns
 use Rattle.node_runs.specs.NodeTurns.{IsMember, OpensNode, Running as Node, SetupTurn, Stage, number_from, opened_stage, opening}
 use Rattle.node_runs.specs.declared.fault.NodeStop.{NodeStop}
@@ -24,9 +23,8 @@ use Rattle.ocpi_types.specs.declared.setup.Node.TheVariants as member
 use Rattle.stored_laws.specs.Nodes.{AreNodeRows, CanStartAgain, NodesCanStartAgain, last_serial}
 use Rattle.stored_nodes.specs.Keepers.{IsSettled, Keeper}
 use Rattle.world_steps.specs.World.{NodeState, Operates, Provides}
-use Rattle.replays.proofs.Going.{on_from}
 use Rattle.replays.proofs.InputLines.{ArePlain, plain_parts}
-use Rattle.replays.proofs.OutputStores.{Goes, IsHeld, Loss, Step, one_turn, seen, settled_on}
+use Rattle.replays.proofs.OutputStores.{IsHeld, Step, one_turn, seen, settled_on}
 use Rattle.replays.specs.Happenings.{Happening, Opened, came_by}
 use Rattle.replays.specs.LineTurns.{Held, IsLine, Lists, Running, echo_of}
 use Rattle.replays.specs.Openings.{Opens, begun, opened_by, opening_of}

@@ -1,12 +1,10 @@
 -- What a node prints are lines that hold something, each with its line feed.
-use Rattle.std.proofs.Common.{◌≡◌, ◌≢◌, ◌<◌, ℕ, zero, suc, ◌+◌, ◌/◌, ◌%◌, List, [], ◌∷◌, ◌++◌, All, Bool, true, false, cond, ◌&&◌, ◌==◌, Option, None, Some, length, codes, decimal, refl, sym, ap, subst, ◌∙◌, append-nil, append_assoc, not-suc-le-zero, zero-lt-suc, arith, inl, inr}
-use Rattle.std.specs.Prelude.{not, nat_lt, ◌||◌}
-use Rattle.std.specs.Char.{digit_char}
+use Rattle.std.proofs.Common.{◌≡◌, ◌≢◌, ◌<◌, ℕ, zero, suc, ◌+◌, ◌/◌, ◌%◌, List, [], ◌∷◌, ◌++◌, Bool, true, false, cond, ◌&&◌, ◌==◌, Option, None, Some, length, codes, decimal, refl, sym, ap, subst, ◌∙◌, append-nil, append_assoc, not-suc-le-zero, zero-lt-suc, arith, inl, inr}
+use Rattle.std.specs.Prelude.{not, nat_lt}
 use Rattle.std.specs.Fmt.{digit_glyph, digits, digits_onto}
 use Rattle.std.proofs.lemmas.Bool.{and_parts, cases_eq, cases_lt}
 use Rattle.std.proofs.lemmas.List.Elements.{All-append, All-cons, All-nil}
-use Rattle.json.specs.Print.{escape, escape_byte, print, print_from, quoted}
-use Rattle.json.specs.Token.{string}
+use Rattle.json.specs.Print.{escape, escape_byte, print_from, quoted}
 use Rattle.json.proofs.Printed.Strings.{escape_byte_plain}
 use Rattle.json_text.specs.Fault.{fault_field, fault_name}
 use Rattle.json_text.specs.declared.fault.JsonFault.{JsonFault}

@@ -1,10 +1,10 @@
 -- The line of each packet holds something, and no line feed.
-use Rattle.std.proofs.Common.{◌≡◌, ◌≢◌, ◌<◌, ℕ, ◌+◌, ◌/◌, ◌%◌, List, [], ◌∷◌, ◌++◌, Bool, true, false, Option, None, Some, cond, decimal, option_map, map, refl, sym, subst, append_assoc, zero-lt-suc, arith, length}
+use Rattle.std.proofs.Common.{◌≢◌, ◌<◌, ℕ, ◌+◌, ◌/◌, ◌%◌, List, [], ◌∷◌, ◌++◌, Bool, true, false, Option, None, Some, cond, decimal, option_map, refl, sym, subst, append_assoc, zero-lt-suc, arith, length}
 use Rattle.std.specs.Int.{is_negative}
 use Rattle.std.specs.Prelude.{ℤ, unsigned_abs}
 use Rattle.std.proofs.lemmas.List.Elements.{All-nil}
 use Rattle.json.specs.Json as json
-use Rattle.json.specs.Print.{ends, print, print_from, quoted, separator, token_text}
+use Rattle.json.specs.Print.{ends, print_from, quoted, separator, token_text}
 use Rattle.json.specs.Token.{Token}
 use Rattle.json.specs.Tree.{items_tokens, json_tokens, members_tokens}
 use Rattle.json_text.proofs.WellFormed.{◌and◌}
@@ -25,7 +25,6 @@ use Rattle.ocpi_json.specs.Packets.{packet_json, packet_members, packet_text}
 use Rattle.ocpi_text.specs.Decimal.{e4_text, sign_text, sum_text, unsigned_text}
 use Rattle.ocpi_text.specs.Digits.{four_digits, two_digits}
 use Rattle.ocpi_text.specs.Moment.{moment_text}
-use Rattle.ocpi_types.specs.Fields.{name_of}
 use Rattle.ocpi_types.specs.declared.authorizations.Authorization.{Authorization}
 use Rattle.ocpi_types.specs.declared.authorizations.Authorization.TheVariants as authorization
 use Rattle.ocpi_types.specs.declared.authorizations.AuthorizationInfo.{AuthorizationInfo}
