@@ -33,8 +33,9 @@ pub record Has (c : Content) (held : Held) : Type 0 where
 
 -- ---- a run
 
--- What all of the lines give, where the run wrote that: its input ended, or a line ended it; or it was stopped, by a
--- failure of reading or writing, or from outside, before its first line or behind that.
+-- How a run over these lines ended, by the text that it wrote and the stage that it left: its input ended, or a line ended
+-- it; or it was stopped, by a failure of reading or writing or from outside; or that came before its two line feeds were
+-- whole.
 pub data Ended {K : Type 0} (gives : GivesNumbered (Stage K)) (first : Stage K) (all : List (List ℕ)) : List ℕ → Stage K → Type 0 where
   Went : {ran : Ran} {out : List ℕ} {last : Stage K} → IsNumberedRun gives NodeEndGives true first all ran out last → Ended gives first all (10 ∷ 10 ∷ out) last
   Stopped : {out : List ℕ} {last : Stage K} → IsNumberedBegun gives NodeEndGives true first all out last → Ended gives first all (10 ∷ 10 ∷ out) last
