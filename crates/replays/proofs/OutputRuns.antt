@@ -1,27 +1,34 @@
 -- What the contract says a run wrote, and what runs over one store print one behind the other.
 use Rattle.std.proofs.Common.{◌≡◌, ◌≢◌, ℕ, zero, suc, List, [], ◌∷◌, ◌++◌, true, Option, None, Some, IfSome, take, refl, sym, ap, subst, ◌∙◌, append_assoc, zero-lt-suc, arith}
 use Rattle.std.proofs.lemmas.List.Elements.{All-cons, All-nil}
+use Rattle.std.specs.FinMap.{empty}
 use Rattle.std.specs.Io.KnownBytes.{Appends}
 use Rattle.std.specs.Str.Lines.{lines}
 use Rattle.line_runs.specs.Numbered.{NumberedBegins, NumberedOutputs}
 use Rattle.line_runs.specs.declared.outcome.Ran.{Ran}
 use Rattle.node_keepers.specs.Opening.{Source}
+use Rattle.node_rows.proofs.Telling.{empty_is_held}
+use Rattle.node_rows.specs.Holds.{HoldsRows}
 use Rattle.node_rows.specs.Laws.{ChangesAreHeld}
 use Rattle.node_runs.specs.NodeAnswers.{NodeEndGives, NodeLineGives}
 use Rattle.node_runs.specs.NodeOutputs as contract
 use Rattle.node_runs.specs.NodeOutputs.{BeginsSo, NodeBegins, NodeOutputs, asked_for, begin_bytes}
 use Rattle.node_runs.specs.NodeTurns.{Stage, keep_in, opening}
 use Rattle.node_runs.specs.declared.fault.NodeStop.{NodeStop}
-use Rattle.node_store.specs.Contents.{Content}
+use Rattle.node_store.proofs.Numbered.{line_of_empty}
+use Rattle.node_store.specs.Contents.{Content, rows_of}
+use Rattle.ocpi_types.specs.declared.setup.Node.TheVariants as node
 use Rattle.stored_laws.specs.Nodes.{NodesCanStartAgain}
 use Rattle.stored_nodes.specs.Keepers.{Keeper}
+use Rattle.tables.proofs.Elements.{in_front}
+use Rattle.world_steps.specs.World.{opening_of}
 use Rattle.replays.proofs.InputLines.{lines_are_plain}
 use Rattle.replays.proofs.OutputEnds.{Shown, stopped, went}
 use Rattle.replays.proofs.OutputLines.{prints_plain}
 use Rattle.replays.specs.Cutting.{AtOnce as Feed, NoMore, OneMore}
 use Rattle.replays.specs.Happenings.{Happening}
-use Rattle.replays.specs.LineTurns.{Held, IsLine, held_in}
-use Rattle.replays.specs.Outputs.{AreRuns, Both, Ended, Gives, HadContent, Has, IsOfContract, IsRun, MayLeave, Nothing, OneFeed, OutputsArePrinted, PrintsAll, RunsArePrinted, Wrote, no_run, one_run}
+use Rattle.replays.specs.LineTurns.{Held, IsLine, Store, held_in}
+use Rattle.replays.specs.Outputs.{ArePrintedRuns, AreRuns, Both, Ended, Gives, HadContent, Has, IsOfContract, IsRun, MayLeave, Nothing, OneFeed, OutputsArePrinted, PrintsAll, RunsArePrinted, Wrote, no_run, one_run}
 use Rattle.replays.specs.Printed as printed
 use Rattle.replays.specs.Printed.{ArePrinted, Prints}
 
@@ -146,8 +153,8 @@ are_printed wanted c text (one_run {next = next} {text = one} {rest = rest} run 
     let later = are_printed wanted next rest more first.1.0 first.1.1.1 in
     (first.0 ++ later.0, run_more wanted held first.1.0 one rest first.0 later.0 first.1.1.0 later.1)
 
-pub runs_are_printed : RunsArePrinted
-runs_are_printed wanted c text start has runs =
+all_printed : (wanted : List ℕ) (c : Content) (text : List ℕ) (start : Store) → Has c (held_in start) → AreRuns wanted c text → ArePrintedRuns wanted start text
+all_printed wanted c text start has runs =
     let all = are_printed wanted c text runs (held_in start) has in
     let none = silent wanted (held_in start) in
     record {
@@ -155,3 +162,18 @@ runs_are_printed wanted c text start has runs =
       printed = all.1;
       by = λ earlier other. (wanted, other, OneMore none (prints_plain none) all.1);
     }
+
+-- ---- a new store
+
+abbrev new_content : Content
+new_content = empty
+
+no_rows : rows_of new_content ≡ Some []
+no_rows = of (empty_is_held.openings [] (node.Provider []))
+  where
+  of : HoldsRows new_content (opening_of [] (node.Provider [])) → rows_of new_content ≡ Some []
+  of ([], is, all) = is
+  of (r ∷ rows, is, all) = absurd (empty_is_held.only (opening_of [] (node.Provider [])) (r ∷ rows, is, all) r ((all.exact r).0 (in_front r rows)))
+
+pub runs_are_printed : RunsArePrinted
+runs_are_printed = record { new_store = record { rows = []; read = no_rows; lists = refl; line = line_of_empty }; printed = all_printed }

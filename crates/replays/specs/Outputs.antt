@@ -1,6 +1,7 @@
 -- What runs of the program `node` with an echo print, by what its contract says of each: over what a store has, a run
 -- prints what `Printed` says, and leaves what the next is opened over.
 use Rattle.std.specs.Prelude.{◌≡◌, ◌≤◌, ℕ, suc, true, List, [], ◌∷◌, ◌++◌, Option, None, Some, IfSome, take}
+use Rattle.std.specs.FinMap.{empty}
 use Rattle.std.specs.Str.Lines.{lines}
 use Rattle.line_runs.specs.Numbered.{GivesNumbered, IsNumberedBegun, IsNumberedRun}
 use Rattle.line_runs.specs.declared.outcome.Ran.{Ran}
@@ -17,7 +18,7 @@ use Rattle.stored_laws.specs.Nodes.{CanStartAgain}
 use Rattle.stored_nodes.specs.Keepers.{Keeper}
 use Rattle.replays.specs.Cutting.{HasNoEmptyLine}
 use Rattle.replays.specs.Happenings.{Happening}
-use Rattle.replays.specs.LineTurns.{Held, Lists, Store, held_in}
+use Rattle.replays.specs.LineTurns.{Held, Lists, Store, held_in, nothing_held}
 use Rattle.replays.specs.Printed.{ArePrinted, Prints}
 use Rattle.replays.specs.Reading.{IsOther}
 use Rattle.replays.specs.Transcripts.{PrintedBy}
@@ -116,5 +117,7 @@ pub record ArePrintedRuns (wanted : List ℕ) (start : Store) (text : List ℕ) 
   pub printed : ArePrinted wanted (held_in start) text told
   pub by : (earlier : List (List ℕ)) → IsOther earlier wanted → PrintedBy earlier start text told
 
-abbrev pub RunsArePrinted : Type 0
-RunsArePrinted = (wanted : List ℕ) (c : Content) (text : List ℕ) (start : Store) → Has c (held_in start) → AreRuns wanted c text → ArePrintedRuns wanted start text
+-- So it is of all runs over one store. A new one has no rows, and no line took hold in it.
+pub record RunsArePrinted : Type 0 where
+  pub new_store : Has empty (held_in nothing_held)
+  pub printed : (wanted : List ℕ) (c : Content) (text : List ℕ) (start : Store) → Has c (held_in start) → AreRuns wanted c text → ArePrintedRuns wanted start text
