@@ -19,7 +19,12 @@ pub mod AnswerLemmas
 pub mod LineLemmas
 pub mod LineFacts
 pub mod HistoryLemmas
+pub mod FrontLemmas
 pub mod FitLemmas
+pub mod ResultLemmas
+pub mod AnsweredLines
+pub mod WayLemmas
+pub mod OpenLemmas
 pub mod PartyLemmas
 pub mod OutputTexts
 pub mod InputLines
@@ -29,3 +34,8 @@ pub mod OutputStores
 pub mod OutputStories
 pub mod OutputEnds
 pub mod OutputRuns
+pub mod LinesRead
+pub mod SetupRead
+pub mod TranscriptLemmas
+pub mod FileRead
+pub mod TranscriptRead
