@@ -32,17 +32,17 @@ parts_plain (c ∷ text) = one_more c (slice_split (λ d. d == 10) text) (c == 1
 strip_plain : (line : List ℕ) → IsPlain line → IsPlain (strip_carriage_return line)
 strip_plain line plain = of (slice_index line (length line - 1) == 13)
   where
-  of : (b : Bool) → IsPlain (cond b (take (length line - 1) line) line)
-  of true = All-take (λ b. b ≢ 10) (length line - 1) line plain
-  of false = plain
+    of : (b : Bool) → IsPlain (cond b (take (length line - 1) line) line)
+    of true = All-take (λ b. b ≢ 10) (length line - 1) line plain
+    of false = plain
 
 lines_of_plain : (parts : List (List ℕ)) → ArePlain parts → ArePlain (lines_of_parts parts)
 lines_of_plain [] plain = tt
 lines_of_plain (x ∷ []) plain = last (length x == 0)
   where
-  last : (b : Bool) → ArePlain (cond b [] (x ∷ []))
-  last true = tt
-  last false = plain
+    last : (b : Bool) → ArePlain (cond b [] (x ∷ []))
+    last true = tt
+    last false = plain
 lines_of_plain (x ∷ y ∷ more) plain = (strip_plain x plain.0, lines_of_plain (y ∷ more) plain.1)
 
 pub lines_are_plain : (text : List ℕ) → ArePlain (lines text)

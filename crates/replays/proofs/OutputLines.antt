@@ -82,9 +82,11 @@ behind_echo line out front more fed lines cut =
 
 -- and all of it
 past_echo : (line out text : List ℕ) → IsLine line → AreLines out → Begins text → Begins (echo_of line ++ (out ++ text))
-past_echo line out text fed lines (rest, more) =
-    (rest, subst AreLines (ap (λ l. echo_of line ++ l) (sym (append_assoc out text rest)) ∙ sym (append_assoc (echo_of line) (out ++ text) rest))
-    (lines_both (echo_of line) (out ++ (text ++ rest)) (echo_lines line fed) (lines_both out (text ++ rest) lines more)))
+past_echo line out text fed lines (rest, more) = (
+  rest,
+  subst AreLines (ap (λ l. echo_of line ++ l) (sym (append_assoc out text rest)) ∙ sym (append_assoc (echo_of line) (out ++ text) rest))
+      (lines_both (echo_of line) (out ++ (text ++ rest)) (echo_lines line fed) (lines_both out (text ++ rest) lines more)),
+)
 
 goes_on_lines : {now : Running} {text : List ℕ} {told : List Happening} {left : Held} → GoesOn now text told left → Begins text
 goes_on_lines (printed.Stopped line fed front more cut left kept) = cut_echo line front more fed cut
@@ -106,5 +108,5 @@ prints_lines (printed.Begun line fed o text told left on) = past_echo line (open
 pub prints_plain : {wanted : List ℕ} {found : Held} {text : List ℕ} {told : List Happening} {left : Held} → Prints wanted found text told left → HasNoEmptyLine text
 prints_plain {text = text} prints = of (prints_lines prints)
   where
-  of : Begins text → HasNoEmptyLine text
-  of (rest, lines) = front_plain text rest lines
+    of : Begins text → HasNoEmptyLine text
+    of (rest, lines) = front_plain text rest lines

@@ -51,11 +51,11 @@ module _ {K : Type 0} (keeper : Keeper K) (source : Source K) where
     ended_so : (ran : Ran) (stop : Option NodeStop) → NodeOutputs keeper source places word true (Some input) ran stop (Some before) new kept → Written wanted before new kept
     ended_so ran stop is = of is.begun is.begins is.outputs
       where
-      of : (begun : Option (List ℕ)) → Appends (Some before) begun (begin_bytes true)
-          → NumberedOutputs (NodeLineGives keeper source) NodeEndGives true (opening (asked_for word) places) (Some input) ran begun new is.last → Written wanted before new kept
-      of None begins outputs = absurd begins
-      of (Some b) begins outputs =
-          (10 ∷ 10 ∷ outputs.0, (behind before b outputs.0 new begins outputs.2, wrote (10 ∷ 10 ∷ outputs.0) is.last is.left (Ended.Went outputs.1)))
+        of : (begun : Option (List ℕ)) → Appends (Some before) begun (begin_bytes true)
+            → NumberedOutputs (NodeLineGives keeper source) NodeEndGives true (opening (asked_for word) places) (Some input) ran begun new is.last → Written wanted before new kept
+        of None begins outputs = absurd begins
+        of (Some b) begins outputs =
+            (10 ∷ 10 ∷ outputs.0, (behind before b outputs.0 new begins outputs.2, wrote (10 ∷ 10 ∷ outputs.0) is.last is.left (Ended.Went outputs.1)))
 
     abbrev BeginsAt : Stage K → Type 0
     BeginsAt last =
@@ -64,23 +64,25 @@ module _ {K : Type 0} (keeper : Keeper K) (source : Source K) where
     stopped_so : NodeBegins keeper source places word true (Some input) (Some before) new kept → Written wanted before new kept
     stopped_so is = of is.begins
       where
-      cut : (n : ℕ) (o : Option (List ℕ)) → new ≡ o → Appends (Some before) o (take n (begin_bytes true)) → is.last ≡ opening (asked_for word) places → Written wanted before new kept
-      cut n None same appends first = absurd appends
-      cut n (Some b) same appends first = (
-        take n (10 ∷ 10 ∷ []),
-        (
-          same ∙ ap (λ (l : List ℕ). Some l) appends,
-          wrote (take n (10 ∷ 10 ∷ [])) (opening (asked_for word) places) (sym (ap (λ (s : Stage K). keep_in s.running s.spare) first) ∙ is.left) (Ended.AtOnce n),
-        ),
-      )
-      whole : (begun : Option (List ℕ)) → Appends (Some before) begun (begin_bytes true)
-          → NumberedBegins (NodeLineGives keeper source) NodeEndGives true (opening (asked_for word) places) (Some input) begun new is.last → Written wanted before new kept
-      whole None begins begun = absurd begins
-      whole (Some b) begins begun =
-          (10 ∷ 10 ∷ begun.0, (behind before b begun.0 new begins begun.2, wrote (10 ∷ 10 ∷ begun.0) is.last is.left (Ended.Stopped begun.1)))
-      of : BeginsAt is.last → Written wanted before new kept
-      of (contract.Cut n appends first) = cut n new refl appends first
-      of (contract.Whole begun begins inner) = whole begun begins inner
+        cut : (n : ℕ) (o : Option (List ℕ)) → new ≡ o → Appends (Some before) o (take n (begin_bytes true)) → is.last ≡ opening (asked_for word) places → Written wanted before new kept
+        cut n None same appends first = absurd appends
+        cut n (Some b) same appends first = (
+          take n (10 ∷ 10 ∷ []),
+          (
+            same ∙ ap (λ (l : List ℕ). Some l) appends,
+            wrote (take n (10 ∷ 10 ∷ [])) (opening (asked_for word) places) (sym (ap (λ (s : Stage K). keep_in s.running s.spare) first) ∙ is.left) (Ended.AtOnce n),
+          ),
+        )
+
+        whole : (begun : Option (List ℕ)) → Appends (Some before) begun (begin_bytes true)
+            → NumberedBegins (NodeLineGives keeper source) NodeEndGives true (opening (asked_for word) places) (Some input) begun new is.last → Written wanted before new kept
+        whole None begins begun = absurd begins
+        whole (Some b) begins begun =
+            (10 ∷ 10 ∷ begun.0, (behind before b begun.0 new begins begun.2, wrote (10 ∷ 10 ∷ begun.0) is.last is.left (Ended.Stopped begun.1)))
+
+        of : BeginsAt is.last → Written wanted before new kept
+        of (contract.Cut n appends first) = cut n new refl appends first
+        of (contract.Whole begun begins inner) = whole begun begins inner
 
   is_of_contract : IsOfContract keeper source
   is_of_contract = record {
@@ -111,29 +113,29 @@ module _ (changes : ChangesAreHeld) (start : NodesCanStartAgain) {K : Type 0} (k
   whole : (wanted text : List ℕ) (kept : Option K) → Shown keeper source wanted text kept → Answer wanted (10 ∷ 10 ∷ text) kept
   whole wanted text kept (opened, (found, each)) = (opened, (found, λ c next had leaves held has. of held c next (each c next had leaves held has)))
     where
-    of : (held : Held) (c next : Content) → (told : List Happening) × ((left : Held) × (Prints wanted held text told left × Has next left))
-        → (told : List Happening) × ((left : Held) × (PrintsAll wanted held (10 ∷ 10 ∷ text) told left × Has next left))
-    of held c next (told, (left, (prints, so))) = (told, (left, (Both prints (prints_plain prints), so)))
+      of : (held : Held) (c next : Content) → (told : List Happening) × ((left : Held) × (Prints wanted held text told left × Has next left))
+          → (told : List Happening) × ((left : Held) × (PrintsAll wanted held (10 ∷ 10 ∷ text) told left × Has next left))
+      of held c next (told, (left, (prints, so))) = (told, (left, (Both prints (prints_plain prints), so)))
 
   begun : (wanted : List ℕ) (n : ℕ) (kept : Option K) → None ≡ kept → Answer wanted (take n (10 ∷ 10 ∷ [])) kept
   begun wanted n kept none = subst (λ (q : Option K). Answer wanted (take n (10 ∷ 10 ∷ [])) q) none (None, (tt, λ c next had left held has. ([], (held, (feeds n held, subst (λ (d : Content). Has d held) (sym left) has)))))
     where
-    feeds : (n : ℕ) (held : Held) → PrintsAll wanted held (take n (10 ∷ 10 ∷ [])) [] held
-    feeds zero held = Nothing
-    feeds (suc zero) held = OneFeed
-    feeds (suc (suc n)) held =
-        let no_text : Prints wanted held (take n []) [] held = subst (λ l. Prints wanted held l [] held) (sym (take_none n)) (silent wanted held) in
-        Both no_text (prints_plain no_text)
+      feeds : (n : ℕ) (held : Held) → PrintsAll wanted held (take n (10 ∷ 10 ∷ [])) [] held
+      feeds zero held = Nothing
+      feeds (suc zero) held = OneFeed
+      feeds (suc (suc n)) held =
+          let no_text : Prints wanted held (take n []) [] held = subst (λ l. Prints wanted held l [] held) (sym (take_none n)) (silent wanted held) in
+          Both no_text (prints_plain no_text)
 
   is_printed : (wanted text : List ℕ) (kept : Option K) → Wrote keeper (Gives keeper source) wanted text kept → Answer wanted text kept
   is_printed wanted text kept w = of text w.last w.ended w.left
     where
-    of : (text : List ℕ) (last : Stage K) → Ended (Gives keeper source) (opening (asked_for w.word) w.places) (lines w.input) text last → keep_in last.running last.spare ≡ kept → Answer wanted text kept
-    of text last (Ended.Went {out = out} run) left =
-        whole wanted out kept (went keeper source wanted (asked_for w.word) w.places w.asked changes start (lines_are_plain w.input) run kept left w.honest)
-    of text last (Ended.Stopped {out = out} run) left =
-        whole wanted out kept (stopped keeper source wanted (asked_for w.word) w.places w.asked changes start (lines_are_plain w.input) run kept left w.honest)
-    of text last (Ended.AtOnce n) left = begun wanted n kept left
+      of : (text : List ℕ) (last : Stage K) → Ended (Gives keeper source) (opening (asked_for w.word) w.places) (lines w.input) text last → keep_in last.running last.spare ≡ kept → Answer wanted text kept
+      of text last (Ended.Went {out = out} run) left =
+          whole wanted out kept (went keeper source wanted (asked_for w.word) w.places w.asked changes start (lines_are_plain w.input) run kept left w.honest)
+      of text last (Ended.Stopped {out = out} run) left =
+          whole wanted out kept (stopped keeper source wanted (asked_for w.word) w.places w.asked changes start (lines_are_plain w.input) run kept left w.honest)
+      of text last (Ended.AtOnce n) left = begun wanted n kept left
 
   pub outputs_are_printed : OutputsArePrinted keeper source
   outputs_are_printed = record { contract = is_of_contract keeper source; printed = is_printed }
@@ -171,9 +173,9 @@ new_content = empty
 no_rows : rows_of new_content ≡ Some []
 no_rows = of (empty_is_held.openings [] (node.Provider []))
   where
-  of : HoldsRows new_content (opening_of [] (node.Provider [])) → rows_of new_content ≡ Some []
-  of ([], is, all) = is
-  of (r ∷ rows, is, all) = absurd (empty_is_held.only (opening_of [] (node.Provider [])) (r ∷ rows, is, all) r ((all.exact r).0 (in_front r rows)))
+    of : HoldsRows new_content (opening_of [] (node.Provider [])) → rows_of new_content ≡ Some []
+    of ([], is, all) = is
+    of (r ∷ rows, is, all) = absurd (empty_is_held.only (opening_of [] (node.Provider [])) (r ∷ rows, is, all) r ((all.exact r).0 (in_front r rows)))
 
 pub runs_are_printed : RunsArePrinted
 runs_are_printed = record { new_store = record { rows = []; read = no_rows; lists = refl; line = line_of_empty }; printed = all_printed }

@@ -128,27 +128,29 @@ module _ (changes : ChangesAreHeld) (start : NodesCanStartAgain) {K : Type 0} (k
       → IsHeld keeper now.node last → IsHeld keeper next.node (last_behind (changes_of_each is.did) last number)
   held_on number line out turn now next is last honest h = of is.commits
     where
-    run : Run NodeStep now.node.state is.did next.node.state
-    run = line_run is.answers
-    can : CanStartAgain next.node.state
-    can = starts_by_events start now.node.state next.node.state is.did run h.starts
-    of : Commits keeper (Some number) (changes_of_each is.did) now.node.keep next.node.keep → IsHeld keeper next.node (last_behind (changes_of_each is.did) last number)
-    of (Nothing none same) =
-        let c = keeper.content now.node.keep in
-        let again = subst (All IsReadAgain) (sym none) (All-nil IsReadAgain) in
-        let holds = subst (λ (cs : List Change). HoldsRows (changed_all c cs) next.node.state) none (held_by_events changes start c now.node.state next.node.state is.did h.starts h.holds run again) in
-        record {
-          starts = can;
-          holds = subst (λ (k : K). HoldsRows (keeper.content k) next.node.state) (sym same) holds;
-          line = ap (λ (k : K). line_of (keeper.content k)) same ∙ h.line ∙ ap Some (sym (last_quiet (changes_of_each is.did) last number none));
-        }
-    of (Taken some takes) =
-        let c = keeper.content now.node.keep in
-        record {
-          starts = can;
-          holds = subst (λ (d : Content). HoldsRows d next.node.state) (sym (takes.makes honest)) (made_rows c now.node.state next.node.state is.did number h.starts h.holds run takes.again);
-          line = ap line_of (takes.makes honest) ∙ made_line c is.did number last some takes.is_line;
-        }
+      run : Run NodeStep now.node.state is.did next.node.state
+      run = line_run is.answers
+
+      can : CanStartAgain next.node.state
+      can = starts_by_events start now.node.state next.node.state is.did run h.starts
+
+      of : Commits keeper (Some number) (changes_of_each is.did) now.node.keep next.node.keep → IsHeld keeper next.node (last_behind (changes_of_each is.did) last number)
+      of (Nothing none same) =
+          let c = keeper.content now.node.keep in
+          let again = subst (All IsReadAgain) (sym none) (All-nil IsReadAgain) in
+          let holds = subst (λ (cs : List Change). HoldsRows (changed_all c cs) next.node.state) none (held_by_events changes start c now.node.state next.node.state is.did h.starts h.holds run again) in
+          record {
+            starts = can;
+            holds = subst (λ (k : K). HoldsRows (keeper.content k) next.node.state) (sym same) holds;
+            line = ap (λ (k : K). line_of (keeper.content k)) same ∙ h.line ∙ ap Some (sym (last_quiet (changes_of_each is.did) last number none));
+          }
+      of (Taken some takes) =
+          let c = keeper.content now.node.keep in
+          record {
+            starts = can;
+            holds = subst (λ (d : Content). HoldsRows d next.node.state) (sym (takes.makes honest)) (made_rows c now.node.state next.node.state is.did number h.starts h.holds run takes.again);
+            line = ap line_of (takes.makes honest) ∙ made_line c is.did number last some takes.is_line;
+          }
 
   -- ---- a line behind which the node runs on
 
@@ -233,15 +235,16 @@ module _ (changes : ChangesAreHeld) (start : NodesCanStartAgain) {K : Type 0} (k
       → keeper.is_honest is.next.node.keep → IsHeld keeper now.node last → next ≡ keeper.content is.next.node.keep → Goes (seen s now last) (echo_of line ++ front) next
   answered s t now last line out [] more next fed is cut honest h left = subst (λ l. Goes (seen s now last) l next) (sym (append-nil (echo_of line))) (of (changes_of_each is.did) refl)
     where
-    after : IsHeld keeper is.next.node is.after
-    after = is.held honest h
-    of : (cs : List Change) → changes_of_each is.did ≡ cs → Goes (seen s now last) (echo_of line) next
-    of [] none =
-        let same : next ≡ keeper.content now.node.keep = left ∙ ap keeper.content (is.quiet none) in
-        stays (seen s now last) line (echo_of line) [] next fed (sym (append-nil (echo_of line))) (subst (λ (c : Content). HoldsRows c now.node.state) (sym same) h.holds) (ap line_of same ∙ h.line)
-    of (c ∷ cs) some =
-        took (seen s now last) line next fed out is.entered is.did (seen t is.next is.after) is.gives (λ none. some_is_none c cs (sym some ∙ none))
-        (subst (λ (d : Content). HoldsRows d is.next.node.state) (sym left) after.holds) (ap line_of left ∙ after.line)
+      after : IsHeld keeper is.next.node is.after
+      after = is.held honest h
+
+      of : (cs : List Change) → changes_of_each is.did ≡ cs → Goes (seen s now last) (echo_of line) next
+      of [] none =
+          let same : next ≡ keeper.content now.node.keep = left ∙ ap keeper.content (is.quiet none) in
+          stays (seen s now last) line (echo_of line) [] next fed (sym (append-nil (echo_of line))) (subst (λ (c : Content). HoldsRows c now.node.state) (sym same) h.holds) (ap line_of same ∙ h.line)
+      of (c ∷ cs) some =
+          took (seen s now last) line next fed out is.entered is.did (seen t is.next is.after) is.gives (λ none. some_is_none c cs (sym some ∙ none))
+          (subst (λ (d : Content). HoldsRows d is.next.node.state) (sym left) after.holds) (ap line_of left ∙ after.line)
   answered s t now last line out (c ∷ front) more next fed is cut honest h left =
       let after = is.held honest h in
       cut_there (seen s now last) line next fed out is.entered is.did (seen t is.next is.after) is.gives (c ∷ front) more cut (zero-lt-suc (length front))
@@ -276,10 +279,10 @@ module _ (changes : ChangesAreHeld) (start : NodesCanStartAgain) {K : Type 0} (k
         of is.commits there
         (left_is keeper after.node.keep next there (settled_by keeper (Some (suc s.number)) (changes_of_each is.did) now.node.keep after.node.keep is.commits settled) (subst (λ (k : K). Leaves keeper k next) same leaves))
       where
-      of : Commits keeper (Some (suc s.number)) (changes_of_each is.did) now.node.keep after.node.keep → keeper.is_honest after.node.keep → next ≡ keeper.content after.node.keep → Behind next
-      of (Nothing none kept) there left = before next (h (subst keeper.is_honest kept there)) (left ∙ ap keeper.content kept)
-      of (Taken some takes) there left =
-          carried next (h (takes.earlier there)) new turn out is.did after.node.state is.answers some takes.again takes.is_line (left ∙ takes.makes there)
+        of : Commits keeper (Some (suc s.number)) (changes_of_each is.did) now.node.keep after.node.keep → keeper.is_honest after.node.keep → next ≡ keeper.content after.node.keep → Behind next
+        of (Nothing none kept) there left = before next (h (subst keeper.is_honest kept there)) (left ∙ ap keeper.content kept)
+        of (Taken some takes) there left =
+            carried next (h (takes.earlier there)) new turn out is.did after.node.state is.answers some takes.again takes.is_line (left ∙ takes.makes there)
     lost_new new stop keep (answers.WasDeclined turn out did after is some fault of_commit d told) honest h next leaves =
         let here = d.earlier honest in
         elim leaves [

@@ -156,16 +156,16 @@ module _ {K : Type 0} (keeper : Keeper K) (source : Source K) (wanted : Option (
       → Gives keeper source (opening wanted places) place line turn out t → So t (echo_of line ++ out)
   first_line t place line turn out fed on g = of g.gives
     where
-    of : SetupTurn keeper source (opening wanted places) line turn out t → So t (echo_of line ++ out)
-    of (turns.Opened o taken written left) =
-        let running : t.running ≡ Some (first_node o) = ap (λ (u : Stage K). u.running) left in
-        Runs (first_node o) running
-        (subst (λ l. Story keeper source wanted t (first_node o) (echo_of line ++ l)) (sym written)
-        (first_story line fed o (λ honest. g.starts refl (first_node o) running honest) t None left))
-    of (turns.Untold o ended written left) = absurd (on ended)
-    of (turns.Unbegun setup base read asked spare stop unbegun ended written left) = absurd (on ended)
-    of (turns.NoSetup fault fails other ended written left) = absurd (on ended)
-    of (turns.Unread ended written left) = absurd (on ended)
+      of : SetupTurn keeper source (opening wanted places) line turn out t → So t (echo_of line ++ out)
+      of (turns.Opened o taken written left) =
+          let running : t.running ≡ Some (first_node o) = ap (λ (u : Stage K). u.running) left in
+          Runs (first_node o) running
+          (subst (λ l. Story keeper source wanted t (first_node o) (echo_of line ++ l)) (sym written)
+          (first_story line fed o (λ honest. g.starts refl (first_node o) running honest) t None left))
+      of (turns.Untold o ended written left) = absurd (on ended)
+      of (turns.Unbegun setup base read asked spare stop unbegun ended written left) = absurd (on ended)
+      of (turns.NoSetup fault fails other ended written left) = absurd (on ended)
+      of (turns.Unread ended written left) = absurd (on ended)
 
   -- a line more of a node that runs
   module _ (changes : ChangesAreHeld) (start : NodesCanStartAgain) where

@@ -45,9 +45,9 @@ plain_more c xs other p = All-cons (λ b. b ≢ 10) c xs other p
 glyph_plain : (d : ℕ) → digit_glyph false d ≢ 10
 glyph_plain d = of (nat_lt d 10)
   where
-  of : (b : Bool) → cond b (48 + d) (87 + d) ≢ 10
-  of true is = absurd (omega (arith, is))
-  of false is = absurd (omega (arith, is))
+    of : (b : Bool) → cond b (48 + d) (87 + d) ≢ 10
+    of true is = absurd (omega (arith, is))
+    of false is = absurd (omega (arith, is))
 
 either : (b : Bool) (xs ys : List ℕ) → IsPlain xs → IsPlain ys → IsPlain (cond b xs ys)
 either true xs ys p q = p
@@ -132,9 +132,9 @@ ended_behind xs ys plain e = record {
   is = ap (λ l. xs ++ l) e.is ∙ sym (append_assoc xs e.line (10 ∷ []));
 }
   where
-  longer : (xs : List ℕ) → 0 < length e.line → 0 < length (xs ++ e.line)
-  longer [] some = some
-  longer (x ∷ xs) some = zero-lt-suc (length (xs ++ e.line))
+    longer : (xs : List ℕ) → 0 < length e.line → 0 < length (xs ++ e.line)
+    longer [] some = some
+    longer (x ∷ xs) some = zero-lt-suc (length (xs ++ e.line))
 
 word_then : (word ys : List ℕ) → is_text word ≡ true → IsEnded ys → IsEnded (word ++ ys)
 word_then word ys is e = ended_behind word ys (plain_text word is) e
@@ -185,14 +185,15 @@ refused_ended n place fault = placed (codes "{\"done\":\"refused\"") place _ ref
 pub malformed_ended : (n : ℕ) (place : Option ℕ) (fault : JsonFault) → IsEnded (malformed_line n place fault)
 malformed_ended n place fault = of (fault_field fault)
   where
-  said : IsPlain (fault_name fault)
-  said = plain_text (fault_name fault) (fault_text fault)
-  of : (field : Option Field) → IsEnded (fault_line n place fault field)
-  of None = placed (codes "{\"done\":\"malformed\"") place _ refl (named n (fault_name fault) _ said)
-  of (Some field) =
-      placed (codes "{\"done\":\"malformed\"") place _ refl
-      (word_then (codes ",\"field\":\"") _ refl (ended_behind (name_of field) _ (plain_text (name_of field) (field_text field))
-      (word_then (codes "\"") _ refl (named n (fault_name fault) _ said))))
+    said : IsPlain (fault_name fault)
+    said = plain_text (fault_name fault) (fault_text fault)
+
+    of : (field : Option Field) → IsEnded (fault_line n place fault field)
+    of None = placed (codes "{\"done\":\"malformed\"") place _ refl (named n (fault_name fault) _ said)
+    of (Some field) =
+        placed (codes "{\"done\":\"malformed\"") place _ refl
+        (word_then (codes ",\"field\":\"") _ refl (ended_behind (name_of field) _ (plain_text (name_of field) (field_text field))
+        (word_then (codes "\"") _ refl (named n (fault_name fault) _ said))))
 
 pub opened_ended : (line : ℕ) (party : List ℕ) (rows serial : ℕ) → IsEnded (opened_line line party rows serial)
 opened_ended line party rows serial =
@@ -226,24 +227,24 @@ no_first_feed text more (one_line (c ∷ line) rest fed lines) is =
 pub lines_plain : (text : List ℕ) → AreLines text → HasNoEmptyLine text
 lines_plain text no_line before after is = nothing before is
   where
-  nothing : (b : List ℕ) → [] ≡ b ++ 10 ∷ 10 ∷ after → ⊥
-  nothing [] is = some_is_none 10 (10 ∷ after) (sym is)
-  nothing (c ∷ b) is = some_is_none c (b ++ 10 ∷ 10 ∷ after) (sym is)
+    nothing : (b : List ℕ) → [] ≡ b ++ 10 ∷ 10 ∷ after → ⊥
+    nothing [] is = some_is_none 10 (10 ∷ after) (sym is)
+    nothing (c ∷ b) is = some_is_none c (b ++ 10 ∷ 10 ∷ after) (sym is)
 lines_plain text (one_line line rest fed lines) before after is = of (λ m same. lines_plain rest lines m after same) (cuts line (10 ∷ rest) before (10 ∷ 10 ∷ after) is)
   where
-  of : ((m : List ℕ) → rest ≢ m ++ 10 ∷ 10 ∷ after) → Cuts line (10 ∷ rest) before (10 ∷ 10 ∷ after) → ⊥
-  of later (First m a b) = short m b
-    where
-    short : (m : List ℕ) → 10 ∷ rest ≡ m ++ 10 ∷ 10 ∷ after → ⊥
-    short [] same = no_first_feed rest after lines (tails 10 10 rest (10 ∷ after) same)
-    short (c ∷ m) same = later m (tails 10 c rest (m ++ 10 ∷ 10 ∷ after) same)
-  of later (Second m a b) = long m a b
-    where
-    long : (m : List ℕ) → line ≡ before ++ m → 10 ∷ 10 ∷ after ≡ m ++ 10 ∷ rest → ⊥
-    long [] a b = no_first_feed rest after lines (sym (tails 10 10 (10 ∷ after) rest b))
-    long (c ∷ m) a b =
-        let feed : c ≡ 10 = sym (heads 10 c (10 ∷ after) (m ++ 10 ∷ rest) b) in
-        plain_has_feed before m (subst IsPlain (a ∙ ap (λ x. before ++ x ∷ m) feed) fed.plain)
+    of : ((m : List ℕ) → rest ≢ m ++ 10 ∷ 10 ∷ after) → Cuts line (10 ∷ rest) before (10 ∷ 10 ∷ after) → ⊥
+    of later (First m a b) = short m b
+      where
+        short : (m : List ℕ) → 10 ∷ rest ≡ m ++ 10 ∷ 10 ∷ after → ⊥
+        short [] same = no_first_feed rest after lines (tails 10 10 rest (10 ∷ after) same)
+        short (c ∷ m) same = later m (tails 10 c rest (m ++ 10 ∷ 10 ∷ after) same)
+    of later (Second m a b) = long m a b
+      where
+        long : (m : List ℕ) → line ≡ before ++ m → 10 ∷ 10 ∷ after ≡ m ++ 10 ∷ rest → ⊥
+        long [] a b = no_first_feed rest after lines (sym (tails 10 10 (10 ∷ after) rest b))
+        long (c ∷ m) a b =
+            let feed : c ≡ 10 = sym (heads 10 c (10 ∷ after) (m ++ 10 ∷ rest) b) in
+            plain_has_feed before m (subst IsPlain (a ∙ ap (λ x. before ++ x ∷ m) feed) fed.plain)
 
 -- and so is what begins such a text
 pub front_plain : (front more : List ℕ) → AreLines (front ++ more) → HasNoEmptyLine front
