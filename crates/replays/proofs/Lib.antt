@@ -35,6 +35,14 @@ pub mod OwnUrls
 pub mod OneLine
 pub mod ReadSetups
 pub mod Facts
+pub mod OutputTexts
+pub mod InputLines
+pub mod PacketLines
+pub mod OutputLines
+pub mod OutputStores
+pub mod OutputStories
+pub mod OutputEnds
+pub mod OutputRuns
 pub mod LinesRead
 pub mod SetupRead
 pub mod TranscriptLemmas
