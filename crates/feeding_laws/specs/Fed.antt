@@ -67,14 +67,23 @@ pub record Holds (setup : List Node) (member : Node) (c : Content) (h : Held) : 
   pub kept : IsKeptFor setup member c h.state
   pub line : line_of c ≡ Some h.line
 
+-- The line of that number was carried out, and the content holds the rows behind it.
+pub record DoneAgain (member : Node) (lines : ℕ → List ℕ) (number : ℕ) (c : Content) : Type 0 where
+  pub now : NodeState
+  pub after : NodeState
+  pub turn : Turn
+  pub out : List ℕ
+  pub did : List Deed
+  pub answers : Answers (party_of member) now number (lines number) turn out did after
+  pub some : changes_of_each did ≢ []
+  pub holds : HoldsRows c after
+
 -- The content is what such a run leaves. Or the line behind those that were answered had taken hold before the run, and
 -- was carried out once more: `node` does not do so, but what `run_node` ensures does not keep it from that.
 pub data IsLeft (setup : List Node) (member : Node) (lines : ℕ → List ℕ) (found : Held) (base : ℕ) (read : List (List ℕ)) (c : Content) : Type 0 where
   As_fed : (changed : List ℕ) (left : Held) → Holds setup member c left → Ran (party_of member) lines found base read changed left
       → IsLeft setup member lines found base read c
-  Done_again : suc (base + length read) ≤ found.line → (now after : NodeState) (turn : Turn) (out : List ℕ) (did : List Deed)
-      → Answers (party_of member) now (suc (base + length read)) (lines (suc (base + length read))) turn out did after → changes_of_each did ≢ [] → HoldsRows c after
-      → IsLeft setup member lines found base read c
+  Known_again : suc (base + length read) ≤ found.line → DoneAgain member lines (suc (base + length read)) c → IsLeft setup member lines found base read c
 
 -- A run over a store, by its keeper as it was opened and as it was left. Whatever rows of the node the store had, and
 -- whatever number, what it has at the end, or what a stop leaves of that, is what a run leaves that answered these lines.
@@ -113,3 +122,15 @@ pub data AreFedRuns {K : Type 0} (keeper : Keeper K) (source : Source K) (setup 
       → AreFedRuns keeper source setup member lines first (base + length run.read) after
   one_unopened : {seen base : ℕ} {before : Content} → AreFedRuns keeper source setup member lines first seen before → 1 ≤ base → base ≤ seen
       → AreFedRuns keeper source setup member lines first base before
+
+-- What such runs leave is exact. Or one of them carried out a line that had taken hold before it.
+pub data AreExact (setup : List Node) (member : Node) (lines : ℕ → List ℕ) (first : Held) (seen : ℕ) (c : Content) : Type 0 where
+  Exactly : (changed : List ℕ) (left : Held) → Holds setup member c left → IsExact (party_of member) lines first seen changed left
+      → AreExact setup member lines first seen c
+  Again : (found : Held) (number : ℕ) (content : Content) → number ≤ found.line → DoneAgain member lines number content → AreExact setup member lines first seen c
+
+-- so it is of each node whose store had no line at first
+abbrev pub FedRunsAreExact : {K : Type 0} → Keeper K → Source K → Type 0
+FedRunsAreExact {K} keeper source =
+    (setup : List Node) (member : Node) (lines : ℕ → List ℕ) (first last : Content) (held : Held) (seen : ℕ) → Holds setup member first held → held.line ≡ 1
+    → AreFedRuns keeper source setup member lines first seen last → AreExact setup member lines held seen last
