@@ -24,7 +24,7 @@ le_split (suc a) (suc b) low =
       | inr same ↦ inr (ap suc same)
     ]
 
-le_total : (a b : ℕ) → (a ≤ b) ⊎ (b ≤ a)
+pub le_total : (a b : ℕ) → (a ≤ b) ⊎ (b ≤ a)
 le_total zero b = inl (omega arith)
 le_total (suc a) zero = inr (omega arith)
 le_total (suc a) (suc b) =
@@ -51,7 +51,7 @@ no_end : {X : Type 0} (xs : List X) (x : X) → xs ++ x ∷ [] ≡ [] → ⊥
 no_end [] x is = cc is
 no_end (y ∷ ys) x is = cc is
 
-in_front : {X : Type 0} (xs ys : List X) (i : ℕ) (x : X) → slice_get xs i ≡ Some x → slice_get (xs ++ ys) i ≡ Some x
+pub in_front : {X : Type 0} (xs ys : List X) (i : ℕ) (x : X) → slice_get xs i ≡ Some x → slice_get (xs ++ ys) i ≡ Some x
 in_front [] ys i x is = absurd (cc is)
 in_front (a ∷ xs) ys zero x is = is
 in_front (a ∷ xs) ys (suc i) x is = in_front xs ys i x is

@@ -73,6 +73,11 @@ pub one_kept : (line : List ℕ) → 0 < length line → kept_line line ≡ line
 one_kept [] some = absurd (omega (arith, some))
 one_kept (c ∷ cs) some = refl
 
+-- as long as there are numbers, each line has one
+pub no_others : (number : ℕ) (others : List (List ℕ)) → (others ≢ [] → number ≡ max_whole) → suc number ≤ max_whole → others ≡ []
+no_others number [] beyond few = refl
+no_others number (o ∷ os) beyond few = let is = beyond (λ e. absurd (cc e)) in absurd (omega (arith, is, few))
+
 -- ---- a node is of its opening behind each line
 
 module _ (keeps : NodesKeepOpenings) where
@@ -119,7 +124,7 @@ module _ (keeps : NodesKeepOpenings) where
       Runs : (now : Running K) → s.running ≡ Some now → (setup : List Node) (base : Option ℕ) (first : List ℕ)
           → Going setup base first all s.number s.known now → TellsTo s.number out → Comes all out s
 
-    settled_by : (line : Option ℕ) (did : List Deed) (before after : K) → Commits keeper line (changes_of_each did) before after → IsSettled keeper before → IsSettled keeper after
+    pub settled_by : (line : Option ℕ) (did : List Deed) (before after : K) → Commits keeper line (changes_of_each did) before after → IsSettled keeper before → IsSettled keeper after
     settled_by line did before after (Nothing none same) settled = subst (IsSettled keeper) (sym same) settled
     settled_by line did before after (TakenBy some takes) settled = takes.settled
 
@@ -138,7 +143,7 @@ module _ (keeps : NodesKeepOpenings) where
           → Commits keeper (Some (suc number)) (changes_of_each did) now.node.keep next.node.keep → Going setup base first all number known now
           → Going setup base first (all ++ line ∷ []) (suc number) known next
       one_more all line out did number known now next some few takes party commits h =
-          let none : h.others ≡ [] = no_others h.others h.beyond few in
+          let none : h.others ≡ [] = no_others number h.others h.beyond few in
           let at = number_from base h.last + length h.numbered in
           let m = mark commits in
           let takes_so : Takes (party_of h.member) h.last (suc at) line now.node.state out did next.node.state =
@@ -173,10 +178,6 @@ module _ (keeps : NodesKeepOpenings) where
             marked = m.3;
           }
         where
-          no_others : (others : List (List ℕ)) → (others ≢ [] → number ≡ max_whole) → suc number ≤ max_whole → others ≡ []
-          no_others [] beyond few = refl
-          no_others (o ∷ os) beyond few = let is = beyond (λ e. absurd (cc e)) in absurd (omega (arith, is, few))
-
           mark : Commits keeper (Some (suc number)) (changes_of_each did) now.node.keep next.node.keep
               → (changed : List ℕ) × (last : ℕ) × Changed h.last (h.did ++ (suc (number_from base h.last + length h.numbered), did) ∷ []) changed last
               × (keeper.is_honest next.node.keep → line_of (keeper.content next.node.keep) ≡ Some last)
