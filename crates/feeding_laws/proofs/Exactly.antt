@@ -24,7 +24,7 @@ le_split (suc a) (suc b) low =
       | inr same ↦ inr (ap suc same)
     ]
 
-pub le_total : (a b : ℕ) → (a ≤ b) ⊎ (b ≤ a)
+le_total : (a b : ℕ) → (a ≤ b) ⊎ (b ≤ a)
 le_total zero b = inl (omega arith)
 le_total (suc a) zero = inr (omega arith)
 le_total (suc a) (suc b) =

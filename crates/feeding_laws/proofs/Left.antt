@@ -1,27 +1,22 @@
 -- What a run of `node` leaves that is fed lines by their numbers, wherever it ends.
 use Rattle.std.proofs.Common.{◌≡◌, ◌≢◌, ◌⊎◌, ◌++◌, ◌∙◌, ◌+◌, ◌<◌, ◌≤◌, ℕ, zero, suc, Bool, List, [], ◌∷◌, Option, Some, None, Ok, refl, sym, ap, subst, inl, inr, arith, length, append_assoc, append-nil, take, take_all, take_at}
 use Rattle.std.specs.Prelude.{All, IsSome, slice_get}
-use Rattle.std.specs.Io.KnownBytes.{Appends}
-use Rattle.std.specs.Str.Lines.{lines as lines_of}
 use Rattle.std.proofs.lemmas.List.Concat.{flat_map-append}
-use Rattle.line_runs.specs.Numbered.{IsNumberedBegun, IsNumberedRun, NumberedBegins, NumberedOutputs, begun_answer, begun_between, begun_echo, begun_end, echo_of, numbered_end, numbered_stop}
-use Rattle.line_runs.specs.declared.outcome.Ran.{Ran as How}
 use Rattle.line_runs.specs.declared.run.Turn.{Turn}
-use Rattle.line_runs.specs.declared.run.Turn.TheVariants as turn
 use Rattle.node_keepers.specs.Opening.{Source}
 use Rattle.node_rows.specs.Holds.{HoldsRows}
 use Rattle.node_rows.specs.Laws.{ChangesAreHeld, RestartsAreHeld}
 use Rattle.node_runs.proofs.HistoryLemmas.{line_run}
 use Rattle.node_runs.specs.LineAnswers.{Answers}
 use Rattle.node_runs.specs.NodeAnswers as answers
-use Rattle.node_runs.specs.NodeAnswers.{BehindTurn, LosesLine, NodeEnd, NodeEndGives, NodeLineGives, NodeTurn}
+use Rattle.node_runs.specs.NodeAnswers.{LosesLine}
 use Rattle.node_runs.specs.NodeHistories.{IsLeftBy, kept_line, some_lines}
-use Rattle.node_runs.specs.NodeOutputs as outputs
-use Rattle.node_runs.specs.NodeOutputs.{BeginsSo, IsKept, asked_for, begin_bytes}
+use Rattle.node_runs.specs.NodeOutputs.{IsKept}
 use Rattle.node_runs.specs.NodeTurns as turns
-use Rattle.node_runs.specs.NodeTurns.{IsMember, IsUnbegun, Running, SetupTurn, Stage, Unmade, keep_in, number_from, opening}
+use Rattle.node_runs.specs.NodeTurns.{IsMember, IsUnbegun, Running, Stage, keep_in}
 use Rattle.node_runs.specs.NumberedRuns.{Carries, Changed, Numbered, none_carried, none_changed}
 use Rattle.node_runs.specs.SetupLines.{numbered_setup_in}
+use Rattle.node_runs.specs.declared.fault.NodeStop.{NodeStop}
 use Rattle.node_store.specs.Contents.{Content, IsReadAgain, changed_all, line_of, marked}
 use Rattle.node_store.proofs.Numbered.{numbers_are_no_rows}
 use Rattle.ocpi_text.specs.Whole.{max_whole}
@@ -36,8 +31,8 @@ use Rattle.stored_nodes.specs.Transactions.{changes_of_each}
 use Rattle.world_steps.specs.Steps.{NodeEvent as Deed}
 use Rattle.world_steps.specs.World.{NodeState, opening_of}
 use Rattle.feeding_laws.proofs.Exactly.{in_front}
-use Rattle.feeding_laws.proofs.Fed.{Before, Comes, Going, Runs, all_come, line_tells, no_others, no_piece, of_run, one_kept, one_line, opened_so, settled_by, tells_join, tells_on}
-use Rattle.feeding_laws.specs.Fed.{As_fed, Beginning, By_number, DoneAgain, Echo, FedRun, Holds, IsFed, IsLeft, IsPiece, Known_again, NoSetup, Nothing as NoLines, Opened, TellsTo, Unopened, WasFed, nothing_told, piece_told}
+use Rattle.feeding_laws.proofs.Fed.{Before, Comes, Going, Runs, of_run}
+use Rattle.feeding_laws.specs.Fed.{As_fed, By_number, Holds, IsFed, IsLeft, Known_again, Nothing as NoLines, Opened, TellsTo, Unopened, WasFed, nothing_told}
 use Rattle.feeding_laws.specs.Feeding.{AreBehind, Behind, Held, One_more, Ran}
 
 -- ---- numbers and lists
@@ -51,22 +46,22 @@ below (suc a) (suc b) =
       | inr high ↦ inr (omega (arith, high))
     ]
 
-at_place : {X : Type 0} (xs ys : List X) (x : X) → slice_get (xs ++ x ∷ ys) (length xs) ≡ Some x
+pub at_place : {X : Type 0} (xs ys : List X) (x : X) → slice_get (xs ++ x ∷ ys) (length xs) ≡ Some x
 at_place [] ys x = refl
 at_place (a ∷ xs) ys x = at_place xs ys x
 
-behind_front : (lines : ℕ → List ℕ) (base : ℕ) (xs ys : List (List ℕ)) → AreBehind lines base (xs ++ ys) → AreBehind lines base xs
+pub behind_front : (lines : ℕ → List ℕ) (base : ℕ) (xs ys : List (List ℕ)) → AreBehind lines base (xs ++ ys) → AreBehind lines base xs
 behind_front lines base xs ys are i line is = are i line (in_front xs ys i line is)
 
 -- the first of lines, and those behind it
-of_first : {X : Type 0} (x y : X) (xs ys : List X) → x ∷ xs ≡ y ∷ ys → (x ≡ y) × (xs ≡ ys)
+pub of_first : {X : Type 0} (x y : X) (xs ys : List X) → x ∷ xs ≡ y ∷ ys → (x ≡ y) × (xs ≡ ys)
 of_first x y xs ys same = (cc same, cc same)
 
-none_empty : {X : Type 0} (xs ys : List X) (x : X) → x ∷ xs ≡ [] → ⊥
-none_empty xs ys x same = cc same
+pub none_empty : {X : Type 0} (xs : List X) (x : X) → x ∷ xs ≡ [] → ⊥
+none_empty xs x same = cc same
 
 -- the setup of one line is one
-one_setup : (a b : List ℕ) (xs ys : List Node) (m n : Option ℕ) → a ≡ b → numbered_setup_in a ≡ Ok (xs, m) → numbered_setup_in b ≡ Ok (ys, n) → ◌≡◌ {A = List Node × Option ℕ} (xs, m) (ys, n)
+pub one_setup : (a b : List ℕ) (xs ys : List Node) (m n : Option ℕ) → a ≡ b → numbered_setup_in a ≡ Ok (xs, m) → numbered_setup_in b ≡ Ok (ys, n) → ◌≡◌ {A = List Node × Option ℕ} (xs, m) (ys, n)
 one_setup a b xs ys m n same one other = cc (same, one, other)
 
 left_is : {K : Type 0} (keeper : Keeper K) (k : K) (c : Content) → keeper.is_honest k → IsSettled keeper k → IsLeftBy keeper k c → c ≡ keeper.content k
@@ -77,7 +72,7 @@ left_is keeper k c honest settled (inr may) = settled honest c may
 
 module _ {K : Type 0} (keeper : Keeper K) where
   -- the content is what the line of the next number made of what the keeper had, with that number
-  record IsMade (line : List ℕ) (number : ℕ) (now : Running K) (c : Content) : Type 0 where
+  pub record IsMade (line : List ℕ) (number : ℕ) (now : Running K) (c : Content) : Type 0 where
     turn : Turn
     out : List ℕ
     did : List Deed
@@ -88,10 +83,10 @@ module _ {K : Type 0} (keeper : Keeper K) where
     is_line : IsLine (Some (suc number))
     made : c ≡ marked (Some (suc number)) (changed_all (keeper.content now.node.keep) (changes_of_each did))
 
-  abbrev IsKeptOrMade : List ℕ → ℕ → Running K → Content → Type 0
+  abbrev pub IsKeptOrMade : List ℕ → ℕ → Running K → Content → Type 0
   IsKeptOrMade line number now c = (c ≡ keeper.content now.node.keep) ⊎ IsMade line number now c
 
-  abbrev Loses : List ℕ → ℕ → Running K → K → Type 0
+  abbrev pub Loses : List ℕ → ℕ → Running K → K → Type 0
   Loses line number now k = keeper.is_honest now.node.keep × ((c : Content) → IsLeftBy keeper k c → IsKeptOrMade line number now c)
 
   untold : (line : List ℕ) (number : ℕ) (now next : Running K) (turn : Turn) (out : List ℕ) → IsSettled keeper now.node.keep → keeper.is_honest next.node.keep
@@ -115,7 +110,7 @@ module _ {K : Type 0} (keeper : Keeper K) where
     }),
   )
 
-  lost : (line : List ℕ) (number : ℕ) (now : Running K) (stop : _) (k : K) → LosesLine keeper now (suc number) line stop k → IsSettled keeper now.node.keep → keeper.is_honest k → Loses line number now k
+  pub lost : (line : List ℕ) (number : ℕ) (now : Running K) (stop : NodeStop) (k : K) → LosesLine keeper now (suc number) line stop k → IsSettled keeper now.node.keep → keeper.is_honest k → Loses line number now k
   lost line number now stop k (answers.WasStarved want same) settled honest =
       let here = subst keeper.is_honest same honest in
       (here, λ c over. inl (left_is keeper now.node.keep c here settled (subst (λ (q : K). IsLeftBy keeper q c) same over)))
@@ -213,7 +208,7 @@ module _ (held : ChangesAreHeld) (start : NodesCanStartAgain) (keeps : NodesKeep
       left_so line line_so c (inr made) = made_so line line_so c made
 
     -- of a run that ended behind these lines, or at the next
-    ran_so : (line : List ℕ) → (suc number ≤ max_whole → line ≡ lines (suc (base + length h.numbered))) → (k : K) → (keeper.is_honest k → Loses keeper line number now k)
+    pub ran_so : (line : List ℕ) → (suc number ≤ max_whole → line ≡ lines (suc (base + length h.numbered))) → (k : K) → (keeper.is_honest k → Loses keeper line number now k)
         → (text : List ℕ) → TellsTo number text → WasFed keeper source setup wanted lines base text (Some k)
     ran_so line line_so k loses text tells = Opened k h.member h.asked (record {
       fresh = h.begins.starts.fresh;
@@ -226,31 +221,34 @@ module _ (held : ChangesAreHeld) (start : NodesCanStartAgain) (keeps : NodesKeep
 
   -- ---- the lines of the run stand among those that are fed
 
-  record Fits (before later : List (List ℕ)) (number known : ℕ) (now : Running K) : Type 0 where
-    first : List ℕ
-    going : Going keeps keeper source wanted opened echo setup (Some base) first before number known now
-    read : AreBehind lines base ((going.numbered ++ going.others) ++ some_lines later)
+  all_are : {xs : List Node} {m : Option ℕ} {first : List ℕ} {before : List (List ℕ)} {number known : ℕ} {now : Running K}
+      → (h : Going keeps keeper source wanted opened echo xs m first before number known now) (later : List (List ℕ)) → some_lines (before ++ later) ≡ first ∷ ((h.numbered ++ h.others) ++ some_lines later)
+  all_are {before = before} h later = flat_map-append kept_line before later ∙ ap (λ (l : List (List ℕ)). l ++ some_lines later) h.are
 
-  fits : (xs : List Node) (m : Option ℕ) (first : List ℕ) (before later : List (List ℕ)) (number known : ℕ) (now : Running K)
+  pub record Fits (before later : List (List ℕ)) (number known : ℕ) (now : Running K) : Type 0 where
+    pub first : List ℕ
+    pub going : Going keeps keeper source wanted opened echo setup (Some base) first before number known now
+    pub read : AreBehind lines base ((going.numbered ++ going.others) ++ some_lines later)
+
+  pub fits : (xs : List Node) (m : Option ℕ) (first : List ℕ) (before later : List (List ℕ)) (number known : ℕ) (now : Running K)
       → Going keeps keeper source wanted opened echo xs m first before number known now → IsFed setup lines base (before ++ later) → Fits before later number known now
-  fits xs m first before later number known now h (NoLines none) =
-      absurd (none_empty ((h.numbered ++ h.others) ++ some_lines later) [] first (ap (λ (l : List (List ℕ)). l ++ some_lines later) (sym h.are) ∙ sym (flat_map-append kept_line before later) ∙ none))
+  fits xs m first before later number known now h (NoLines none) = absurd (none_empty ((h.numbered ++ h.others) ++ some_lines later) first (sym (all_are h later) ∙ none))
   fits xs m first before later number known now h (By_number line fed are reads behind) =
-      let one = of_first first line _ _ (ap (λ (l : List (List ℕ)). l ++ some_lines later) (sym h.are) ∙ sym (flat_map-append kept_line before later) ∙ are) in
+      let one = of_first first line ((h.numbered ++ h.others) ++ some_lines later) fed (sym (all_are h later) ∙ are) in
       let g = subst (λ (p : List Node × Option ℕ). Going keeps keeper source wanted opened echo p.0 p.1 first before number known now) (one_setup first line xs setup m (Some base) one.0 h.reads reads) h in
-      let same = of_first first line _ _ (ap (λ (l : List (List ℕ)). l ++ some_lines later) (sym g.are) ∙ sym (flat_map-append kept_line before later) ∙ are) in
+      let same = of_first first line ((g.numbered ++ g.others) ++ some_lines later) fed (sym (all_are g later) ∙ are) in
       record { first = first; going = g; read = subst (AreBehind lines base) (sym same.1) behind }
 
   -- ---- behind a line
 
-  abbrev Left : List ℕ → Option K → Type 0
+  abbrev pub Left : List ℕ → Option K → Type 0
   Left text kept = WasFed keeper source setup wanted lines base text kept
 
   -- what tells of no line above some number goes on so
-  abbrev Tell : List ℕ → List ℕ → Type 0
+  abbrev pub Tell : List ℕ → List ℕ → Type 0
   Tell out text = (n : ℕ) → TellsTo n out → TellsTo n text
 
-  at_stage : (before later : List (List ℕ)) (out text : List ℕ) (s : Stage K) (kept : Option K) → IsFed setup lines base (before ++ later) → Comes keeps keeper source wanted opened echo before out s
+  pub at_stage : (before later : List (List ℕ)) (out text : List ℕ) (s : Stage K) (kept : Option K) → IsFed setup lines base (before ++ later) → Comes keeps keeper source wanted opened echo before out s
       → keep_in s.running s.spare ≡ kept → IsKept keeper s.running → Tell out text → Left text kept
   at_stage before later out text s kept fed (Before is none nothing) left stored tell =
       subst (Left text) (sym (ap (λ (s : Stage K). keep_in s.running s.spare) is) ∙ left) (Unopened (tell base (subst (TellsTo base) (sym nothing) nothing_told)))
@@ -265,7 +263,7 @@ module _ (held : ChangesAreHeld) (start : NodesCanStartAgain) (keeps : NodesKeep
   -- ---- at a line
 
   -- the setup had no such node, or none was made of what the store had
-  unbegun : (line : List ℕ) (xs : List Node) (m : Option ℕ) (places : List ℕ) (spare : Option K) (stop : _) (text : List ℕ) → ◌≡◌ {A = List Node × Option ℕ} (xs, m) (setup, Some base)
+  pub unbegun : (line : List ℕ) (xs : List Node) (m : Option ℕ) (places : List ℕ) (spare : Option K) (stop : NodeStop) (text : List ℕ) → ◌≡◌ {A = List Node × Option ℕ} (xs, m) (setup, Some base)
       → IsUnbegun keeper source xs wanted places spare stop → ((n : ℕ) → TellsTo n text) → Left text spare
   unbegun line xs m places spare stop text same (turns.Unknown none asked is told) tells = subst (Left text) (sym is) (Unopened (tells base))
   unbegun line xs m places spare stop text same (turns.Unkept member of fault may asked is told) tells = subst (Left text) (sym is) (Unopened (tells base))

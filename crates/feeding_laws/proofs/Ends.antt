@@ -1,0 +1,110 @@
+-- How a run of `node` ends that is fed lines by their numbers.
+use Rattle.std.proofs.Common.{◌≡◌, ◌++◌, ◌∙◌, ◌+◌, ◌<◌, ◌≤◌, ℕ, suc, Bool, List, [], ◌∷◌, Option, Some, None, Ok, refl, sym, ap, subst, arith, length, append_assoc, append-nil, take, take_all, take_at}
+use Rattle.std.specs.Prelude.{slice_get}
+use Rattle.std.specs.Io.KnownBytes.{Appends}
+use Rattle.std.specs.Str.Lines.{lines as lines_of}
+use Rattle.std.proofs.lemmas.List.Concat.{flat_map-append}
+use Rattle.line_runs.specs.Numbered.{IsNumberedBegun, IsNumberedRun, NumberedBegins, NumberedOutputs, begun_answer, begun_between, begun_echo, begun_end, echo_of, numbered_end, numbered_stop}
+use Rattle.line_runs.specs.declared.outcome.Ran.{Ran as How}
+use Rattle.line_runs.specs.declared.run.Turn.{Turn}
+use Rattle.line_runs.specs.declared.run.Turn.TheVariants.{Ended, Refused, Taken}
+use Rattle.node_keepers.specs.Opening.{Source}
+use Rattle.node_rows.specs.Laws.{ChangesAreHeld, RestartsAreHeld}
+use Rattle.node_runs.specs.NodeAnswers as answers
+use Rattle.node_runs.specs.NodeAnswers.{BehindTurn, NodeEnd, NodeEndGives, NodeLineGives, NodeTurn}
+use Rattle.node_runs.specs.NodeHistories.{kept_line, some_lines}
+use Rattle.node_runs.specs.NodeOutputs as outputs
+use Rattle.node_runs.specs.NodeOutputs.{BeginsSo, IsKept, asked_for, begin_bytes}
+use Rattle.node_runs.specs.NodeTurns as turns
+use Rattle.node_runs.specs.NodeTurns.{IsUnbegun, Running, SetupTurn, Stage, keep_in, number_from, opened_stage, opening}
+use Rattle.node_runs.specs.SetupLines.{numbered_setup_in}
+use Rattle.node_runs.specs.declared.fault.NodeStop.TheVariants.{Memory}
+use Rattle.ocpi_text.specs.Whole.{max_whole}
+use Rattle.ocpi_types.specs.Setups.{party_of}
+use Rattle.ocpi_types.specs.declared.setup.Node.{Node}
+use Rattle.stored_laws.specs.Nodes.{NodesCanStartAgain, NodesKeepOpenings}
+use Rattle.stored_nodes.specs.Keepers.{Keeper}
+use Rattle.feeding_laws.proofs.Fed.{Before, Comes, Going, Runs, all_come, line_tells, no_others, no_piece, one_kept, one_line, opened_so, tells_join, tells_on}
+use Rattle.feeding_laws.proofs.Left.{at_place, at_stage, behind_front, fits, lost, none_empty, of_first, one_setup, ran_so, unbegun}
+use Rattle.feeding_laws.specs.Fed.{Beginning, Broke, By_number, Echo, Ended as RunEnded, IsFed, IsPiece, NoSetup, Nothing as NoLines, RunsAreFed, TellsTo, Unopened, WasFed, Went, nothing_told, piece_told}
+
+not_ended : (turn : Turn) → turn ≡ Taken → turn ≡ Ended → ⊥
+not_ended turn one other = cc (one, other)
+
+not_refused : (turn : Turn) → turn ≡ Refused → turn ≡ Ended → ⊥
+not_refused turn one other = cc (one, other)
+
+-- that line stands first among those behind the ones that hold nothing
+line_first : (before later : List (List ℕ)) (line : List ℕ) → 0 < length line → some_lines before ≡ [] → some_lines (before ++ line ∷ later) ≡ line ∷ some_lines later
+line_first before later line some none =
+    flat_map-append kept_line before (line ∷ later) ∙ ap (λ (l : List (List ℕ)). l ++ (kept_line line ++ some_lines later)) none ∙ ap (λ (l : List (List ℕ)). l ++ some_lines later) (one_kept line some)
+
+-- and behind those of the numbers so far
+line_next : (xs others later : List (List ℕ)) (line : List ℕ) → 0 < length line → others ≡ [] → slice_get ((xs ++ others) ++ some_lines (line ∷ later)) (length xs) ≡ Some line
+line_next xs others later line some none =
+    subst (λ (l : List (List ℕ)). slice_get l (length xs) ≡ Some line)
+    (ap (λ (l : List (List ℕ)). xs ++ (l ++ some_lines later)) (sym (one_kept line some)) ∙ ap (λ (l : List (List ℕ)). l ++ some_lines (line ∷ later)) (sym (append-nil xs))
+    ∙ ap (λ (l : List (List ℕ)). (xs ++ l) ++ some_lines (line ∷ later)) (sym none))
+    (at_place xs (some_lines later) line)
+
+module _ (held : ChangesAreHeld) (start : NodesCanStartAgain) (keeps : NodesKeepOpenings) (alike : RestartsAreHeld) {K : Type 0} (keeper : Keeper K) (source : Source K)
+    (wanted : Option (List ℕ)) (opened : List ℕ) (echo : Bool) (setup : List Node) (lines : ℕ → List ℕ) (base : ℕ) where
+  abbrev Fed : List (List ℕ) → Type 0
+  Fed all = IsFed setup lines base all
+
+  abbrev Left : List ℕ → Option K → Type 0
+  Left text kept = WasFed keeper source setup wanted lines base text kept
+
+  -- what tells of no line above some number goes on so
+  abbrev Tell : List ℕ → List ℕ → Type 0
+  Tell out text = (n : ℕ) → TellsTo n out → TellsTo n text
+
+  first_setup : (before later : List (List ℕ)) (line : List ℕ) (xs : List Node) (m : Option ℕ) → 0 < length line → some_lines before ≡ [] → numbered_setup_in line ≡ Ok (xs, m)
+      → Fed (before ++ line ∷ later) → ◌≡◌ {A = List Node × Option ℕ} (xs, m) (setup, Some base)
+  first_setup before later line xs m some none read (NoLines nothing) = absurd (none_empty (some_lines later) line (sym (line_first before later line some none) ∙ nothing))
+  first_setup before later line xs m some none read (By_number first fed are reads behind) =
+      let one = of_first line first (some_lines later) fed (sym (line_first before later line some none) ∙ are) in
+      one_setup line first xs setup m (Some base) one.0 read reads
+
+  -- ---- at a line
+
+  -- of the first line, at which the run ended
+  module _ (before later : List (List ℕ)) (out text line more : List ℕ) (m : ℕ) (s t : Stage K) (turn : Turn) (kept : Option K) (some : 0 < length line) (fed : Fed (before ++ line ∷ later))
+      (at_end : turn ≡ Ended) (left : keep_in t.running t.spare ≡ kept) (stored : IsKept keeper t.running) (tell : Tell (out ++ (echo_of echo line ++ take m more)) text) where
+    setup_ended : s ≡ opening wanted opened → some_lines before ≡ [] → out ≡ [] → SetupTurn keeper source s line turn more t → Left text kept
+    setup_ended is none nothing (turns.Opened o taken written next) = absurd (not_ended turn taken at_end)
+    setup_ended is none nothing (turns.Untold o ended written next) =
+        let number = number_from o.base o.last in
+        let tells = line_tells echo line m (subst (TellsTo number) (sym nothing) nothing_told) (subst (IsPiece number) (sym written) no_piece) in
+        at_stage held start keeps alike keeper source wanted opened echo setup lines base (before ++ line ∷ []) later (out ++ (echo_of echo line ++ take m more)) text (opened_stage s o (Some Memory)) kept
+        (subst Fed (sym (append_assoc before (line ∷ []) later)) fed)
+        (Runs (record { party = party_of o.member; node = o.node }) refl o.setup o.base line (opened_so keeps keeper source wanted opened echo before line s o some none (ap (λ (s : Stage K). s.wanted) is)) tells)
+        (sym (ap (λ (t : Stage K). keep_in t.running t.spare) next) ∙ left) (subst (λ (t : Stage K). IsKept keeper t.running) next stored) tell
+    setup_ended is none nothing (turns.Unbegun xs n read places spare stop began ended written next) =
+        let spare_is : spare ≡ kept = sym (ap (λ (t : Stage K). keep_in t.running t.spare) next) ∙ left in
+        subst (Left text) spare_is
+        (unbegun held start keeps alike keeper source wanted opened echo setup lines base line xs n places spare stop text (first_setup before later line xs n some none read fed)
+        (subst (λ (w : Option (List ℕ)). IsUnbegun keeper source xs w places spare stop) (ap (λ (s : Stage K). s.wanted) is) began)
+        (λ n. tell n (line_tells echo line m (subst (TellsTo n) (sym nothing) nothing_told) (subst (IsPiece n) (sym written) no_piece))))
+    setup_ended is none nothing (turns.NoSetup fault fails other ended written next) =
+        subst (Left text) (sym (ap (λ (t : Stage K). keep_in t.running t.spare) (next ∙ is)) ∙ left)
+        (Unopened (tell base (line_tells echo line m (subst (TellsTo base) (sym nothing) nothing_told) (subst (IsPiece base) (sym written) (NoSetup 1 (omega arith) fault)))))
+    setup_ended is none nothing (turns.Unread ended written next) =
+        subst (Left text) (sym (ap (λ (t : Stage K). keep_in t.running t.spare) next ∙ ap (λ (s : Stage K). s.spare) is) ∙ left)
+        (Unopened (tell base (line_tells echo line m (subst (TellsTo base) (sym nothing) nothing_told) (subst (IsPiece base) (sym written) no_piece))))
+
+    -- of another
+    behind_ended : (now : Running K) (xs : List Node) (n : Option ℕ) (first : List ℕ) → Going keeps keeper source wanted opened echo xs n first before s.number s.known now → TellsTo s.number out
+        → BehindTurn keeper now s line turn more t → Left text kept
+    behind_ended now xs n first h tells (answers.WasKnown is taken written next) = absurd (not_ended turn taken at_end)
+    behind_ended now xs n first h tells (answers.WasBeyond is refused written next) = absurd (not_refused turn refused at_end)
+    behind_ended now xs n first h tells (answers.GoesOn new few after is next) = ?
+    behind_ended now xs n first h tells (answers.Ends stop keep loses kept_then number ended written next) =
+        let f = fits held start keeps alike keeper source wanted opened echo setup lines base xs n first before (line ∷ later) s.number s.known now h fed in
+        let g = f.going in
+        let read = behind_front lines base g.numbered g.others (behind_front lines base (g.numbered ++ g.others) (some_lines (line ∷ later)) f.read) in
+        let line_so : suc s.number ≤ max_whole → line ≡ lines (suc (base + length g.numbered)) =
+        λ few. f.read (length g.numbered) line (line_next g.numbered g.others later line some (no_others s.number g.others g.beyond few)) in
+        subst (Left text) (sym (ap (λ (t : Stage K). keep_in t.running t.spare) next) ∙ left)
+        (ran_so held start keeps alike keeper source wanted opened echo setup lines base g read kept_then line line_so keep (λ honest. lost keeper line s.number now stop keep loses g.settled honest) text
+        (tell s.number (line_tells echo line m tells (subst (IsPiece s.number) (sym written) no_piece))))
