@@ -24,7 +24,7 @@ use Rattle.ocpi_types.specs.Setups.{party_of}
 use Rattle.ocpi_types.specs.declared.setup.Node.{Node}
 use Rattle.stored_laws.specs.Nodes.{NodesCanStartAgain, NodesKeepOpenings}
 use Rattle.stored_nodes.specs.Keepers.{Keeper}
-use Rattle.feeding_laws.proofs.Fed.{Before, Comes, Going, Runs, all_come, line_tells, no_others, no_piece, one_kept, one_line, opened_so, tells_join, tells_on}
+use Rattle.feeding_laws.proofs.Fed.{Before, Comes, Going, Runs, all_come, line_tells, no_others, no_piece, one_kept, one_line, opened_so, read_on, tells_join, tells_more, tells_on}
 use Rattle.feeding_laws.proofs.Left.{at_place, at_stage, behind_front, fits, lost, none_empty, of_first, one_setup, ran_so, unbegun}
 use Rattle.feeding_laws.specs.Fed.{Beginning, Broke, By_number, Echo, Ended as RunEnded, IsFed, IsPiece, NoSetup, Nothing as NoLines, RunsAreFed, TellsTo, Unopened, WasFed, Went, nothing_told, piece_told}
 
@@ -98,7 +98,10 @@ module _ (held : ChangesAreHeld) (start : NodesCanStartAgain) (keeps : NodesKeep
         → BehindTurn keeper now s line turn more t → Left text kept
     behind_ended now xs n first h tells (answers.WasKnown is taken written next) = absurd (not_ended turn taken at_end)
     behind_ended now xs n first h tells (answers.WasBeyond is refused written next) = absurd (not_refused turn refused at_end)
-    behind_ended now xs n first h tells (answers.GoesOn new few after is next) = ?
+    behind_ended now xs n first h tells (answers.GoesOn new few after is next) =
+        let b = read_on keeps keeper source wanted opened echo before s t now after line turn more some new few is next h in
+        at_stage held start keeps alike keeper source wanted opened echo setup lines base (before ++ line ∷ []) later (out ++ (echo_of echo line ++ take m more)) text t kept
+        (subst Fed (sym (append_assoc before (line ∷ []) later)) fed) (Runs b.0 b.1 xs n first b.2 (line_tells echo line m (tells_more b.4 tells) b.3)) left stored tell
     behind_ended now xs n first h tells (answers.Ends stop keep loses kept_then number ended written next) =
         let f = fits held start keeps alike keeper source wanted opened echo setup lines base xs n first before (line ∷ later) s.number s.known now h fed in
         let g = f.going in
@@ -108,3 +111,97 @@ module _ (held : ChangesAreHeld) (start : NodesCanStartAgain) (keeps : NodesKeep
         subst (Left text) (sym (ap (λ (t : Stage K). keep_in t.running t.spare) next) ∙ left)
         (ran_so held start keeps alike keeper source wanted opened echo setup lines base g read kept_then line line_so keep (λ honest. lost keeper line s.number now stop keep loses g.settled honest) text
         (tell s.number (line_tells echo line m tells (subst (IsPiece s.number) (sym written) no_piece))))
+
+  at_line : (before later : List (List ℕ)) (out text : List ℕ) (s t : Stage K) (place : ℕ) (line : List ℕ) (turn : Turn) (more : List ℕ) (m : ℕ) (kept : Option K) → Fed (before ++ line ∷ later)
+      → Comes keeps keeper source wanted opened echo before out s → 0 < length line → NodeLineGives keeper source s place line turn more t → keep_in t.running t.spare ≡ kept → IsKept keeper t.running
+      → Tell (out ++ (echo_of echo line ++ take m more)) text → Left text kept
+  at_line before later out text s t place line Taken more m kept fed h some gives left stored tell =
+      at_stage held start keeps alike keeper source wanted opened echo setup lines base (before ++ line ∷ []) later (out ++ (echo_of echo line ++ take m more)) text t kept
+      (subst Fed (sym (append_assoc before (line ∷ []) later)) fed)
+      (one_line keeps keeper source wanted opened echo before out s t place line Taken more m some (λ e. absurd (cc e)) gives h) left stored tell
+  at_line before later out text s t place line Refused more m kept fed h some gives left stored tell =
+      at_stage held start keeps alike keeper source wanted opened echo setup lines base (before ++ line ∷ []) later (out ++ (echo_of echo line ++ take m more)) text t kept
+      (subst Fed (sym (append_assoc before (line ∷ []) later)) fed)
+      (one_line keeps keeper source wanted opened echo before out s t place line Refused more m some (λ e. absurd (cc e)) gives h) left stored tell
+  at_line before later out text s t place line Ended more m kept fed (Before is none nothing) some gives left stored tell =
+      setup_ended before later out text line more m s t Ended kept some fed refl left stored tell is none nothing
+      (subst (λ (q : Option (Running K)). NodeTurn keeper source q s line Ended more t) (ap (λ (s : Stage K). s.running) is) gives)
+  at_line before later out text s t place line Ended more m kept fed (Runs now is xs n first h tells) some gives left stored tell =
+      behind_ended before later out text line more m s t Ended kept some fed refl left stored tell now xs n first h tells
+      (subst (λ (q : Option (Running K)). NodeTurn keeper source q s line Ended more t) is gives)
+
+  -- ---- a run
+
+  -- what is written at the end of the input
+  end_piece : (n : ℕ) (q : Option (Running K)) (how : How) (more : List ℕ) → NodeEnd q how more → IsPiece n more
+  end_piece n None how more is = subst (IsPiece n) (sym is.1) (NoSetup 0 (omega arith) _)
+  end_piece n (Some now) how more is = subst (IsPiece n) (sym is.1) no_piece
+
+  abbrev Stays : Stage K → Option K → Type 0
+  Stays last kept = (keep_in last.running last.spare ≡ kept) × IsKept keeper last.running
+
+  run_ends : {all : List (List ℕ)} {how : How} {out : List ℕ} {last : Stage K} (kept : Option K) (text : List ℕ)
+      → IsNumberedRun (NodeLineGives keeper source) NodeEndGives echo (opening wanted opened) all how out last → Fed all → Stays last kept → Tell out text → Left text kept
+  run_ends kept text (numbered_end {s = s} {all = all} {last = how} {out = out} {more = more} are gives) fed stays tell =
+      at_stage held start keeps alike keeper source wanted opened echo setup lines base all [] out text s kept (subst Fed (sym (append-nil all)) fed)
+      (all_come keeps keeper source wanted opened echo are) stays.0 stays.1 (λ n tells. tell n (tells_on tells (end_piece n s.running how more gives)))
+  run_ends kept text (numbered_stop {s = s} {t = t} {line = line} {before = before} {out = out} {more = more} are some gives later) fed stays tell =
+      at_line before later out text s t (length before + 1) line Ended more (length more) kept fed (all_come keeps keeper source wanted opened echo are) some gives stays.0 stays.1
+      (λ n tells. tell n (subst (λ (l : List ℕ). TellsTo n (out ++ (echo_of echo line ++ l))) (take_all (length more) more (omega arith)) tells))
+
+  begun_ends : {all : List (List ℕ)} {out : List ℕ} {last : Stage K} (kept : Option K) (text : List ℕ)
+      → IsNumberedBegun (NodeLineGives keeper source) NodeEndGives echo (opening wanted opened) all out last → Fed all → Stays last kept → Tell out text → Left text kept
+  begun_ends kept text (begun_between {s = s} {before = before} {out = out} are later) fed stays tell =
+      at_stage held start keeps alike keeper source wanted opened echo setup lines base before later out text s kept fed (all_come keeps keeper source wanted opened echo are) stays.0 stays.1 tell
+  begun_ends kept text (begun_echo {s = s} {before = before} {out = out} are line front more is later) fed stays tell =
+      at_stage held start keeps alike keeper source wanted opened echo setup lines base before (line ∷ later) out text s kept fed (all_come keeps keeper source wanted opened echo are) stays.0 stays.1
+      (λ n tells. tell n (subst (λ (l : List ℕ). TellsTo n (out ++ l)) (ap (take (length front)) is ∙ take_at front more (length front) refl) (piece_told tells (Echo echo line) (length front))))
+  begun_ends kept text (begun_answer {s = s} {t = t} {line = line} {before = before} {turn = turn} {out = out} {more = more} are some gives later n) fed stays tell =
+      at_line before later out text s t (length before + 1) line turn more n kept fed (all_come keeps keeper source wanted opened echo are) some gives stays.0 stays.1 tell
+  begun_ends kept text (begun_end {s = s} {all = all} {last = how} {out = out} {more = more} are gives n) fed stays tell =
+      at_stage held start keeps alike keeper source wanted opened echo setup lines base all [] out text s kept (subst Fed (sym (append-nil all)) fed)
+      (all_come keeps keeper source wanted opened echo are) stays.0 stays.1 (λ k tells. tell k (piece_told tells (end_piece k s.running how more gives) n))
+
+  -- behind what an echo begins with
+  begins_tell : (out : List ℕ) → Tell out (begin_bytes echo ++ out)
+  begins_tell out n tells = tells_join (tells_on nothing_told (Beginning echo)) tells
+
+  abbrev Result : List ℕ → Option (List ℕ) → Option K → Type 0
+  Result before new kept = (text : List ℕ) × (new ≡ Some (before ++ text)) × Left text kept
+
+  joined : (before b out : List ℕ) (new : Option (List ℕ)) → b ≡ before ++ begin_bytes echo → new ≡ Some (b ++ out) → new ≡ Some (before ++ (begin_bytes echo ++ out))
+  joined before b out new is wrote = wrote ∙ ap Some (ap (λ (l : List ℕ). l ++ out) is ∙ append_assoc before (begin_bytes echo) out)
+
+  went : (input before : List ℕ) (begun new : Option (List ℕ)) (how : How) (last : Stage K) (kept : Option K) → Fed (lines_of input) → Appends (Some before) begun (begin_bytes echo)
+      → NumberedOutputs (NodeLineGives keeper source) NodeEndGives echo (opening wanted opened) (Some input) how begun new last → Stays last kept → Result before new kept
+  went input before None new how last kept fed is wrote stays = absurd is
+  went input before (Some b) new how last kept fed is (out, run, wrote) stays =
+      (begin_bytes echo ++ out, joined before b out new is wrote, run_ends kept (begin_bytes echo ++ out) run fed stays (begins_tell out))
+
+  broke_behind : (input before : List ℕ) (begun new : Option (List ℕ)) (last : Stage K) (kept : Option K) → Fed (lines_of input) → Appends (Some before) begun (begin_bytes echo)
+      → NumberedBegins (NodeLineGives keeper source) NodeEndGives echo (opening wanted opened) (Some input) begun new last → Stays last kept → Result before new kept
+  broke_behind input before None new last kept fed is wrote stays = absurd is
+  broke_behind input before (Some b) new last kept fed is (out, run, wrote) stays =
+      (begin_bytes echo ++ out, joined before b out new is wrote, begun_ends kept (begin_bytes echo ++ out) run fed stays (begins_tell out))
+
+  cut : (input before : List ℕ) (new : Option (List ℕ)) (n : ℕ) (last : Stage K) (kept : Option K) → Fed (lines_of input) → Appends (Some before) new (take n (begin_bytes echo))
+      → last ≡ opening wanted opened → Stays last kept → Result before new kept
+  cut input before None n last kept fed is first stays = absurd is
+  cut input before (Some b) n last kept fed is first stays = (
+    take n (begin_bytes echo),
+    ap Some is,
+    at_stage held start keeps alike keeper source wanted opened echo setup lines base [] (lines_of input) [] (take n (begin_bytes echo)) last kept fed
+    (Before first refl refl) stays.0 stays.1 (λ k tells. piece_told nothing_told (Beginning echo) n),
+  )
+
+  broke : (input before : List ℕ) (new : Option (List ℕ)) (last : Stage K) (kept : Option K) → Fed (lines_of input)
+      → BeginsSo (NumberedBegins (NodeLineGives keeper source) NodeEndGives echo (opening wanted opened) (Some input)) (opening wanted opened) echo (Some before) new last → Stays last kept
+      → Result before new kept
+  broke input before new last kept fed (outputs.Cut n wrote first) stays = cut input before new n last kept fed wrote first stays
+  broke input before new last kept fed (outputs.Whole begun is begins) stays = broke_behind input before begun new last kept fed is begins stays
+
+pub runs_are_fed : ChangesAreHeld → NodesCanStartAgain → NodesKeepOpenings → RestartsAreHeld → {K : Type 0} (keeper : Keeper K) (source : Source K) → RunsAreFed keeper source
+runs_are_fed held start keeps alike keeper source setup lines base opened word echo input before new kept fed (Went how stop o) =
+    went held start keeps alike keeper source (asked_for word) opened echo setup lines base input before o.begun new how o.last kept fed o.begins o.outputs (o.left, o.stored)
+runs_are_fed held start keeps alike keeper source setup lines base opened word echo input before new kept fed (Broke o) =
+    broke held start keeps alike keeper source (asked_for word) opened echo setup lines base input before new o.last kept fed o.begins (o.left, o.stored)

@@ -12,7 +12,7 @@ use Rattle.node_rows.specs.Laws.{ChangesAreHeld, RestartsAreHeld}
 use Rattle.node_runs.proofs.HistoryLemmas.{line_run}
 use Rattle.node_runs.specs.LineAnswers.{Answers}
 use Rattle.node_runs.specs.NodeAnswers as answers
-use Rattle.node_runs.specs.NodeAnswers.{BehindTurn, NodeEnd, NodeLineGives, NodeTurn, next_stage}
+use Rattle.node_runs.specs.NodeAnswers.{BehindTurn, LineTurn, NodeLineGives, NodeTurn, next_stage}
 use Rattle.node_runs.specs.NodeHistories.{kept_line, some_lines}
 use Rattle.node_runs.specs.NodeTurns as turns
 use Rattle.node_runs.specs.NodeTurns.{Begins, IsMember, OpensNode, Running, SetupTurn, Stage, number_from, opened_stage, opening}
@@ -255,6 +255,20 @@ module _ (keeps : NodesKeepOpenings) where
         marked = h.marked;
       }
 
+      -- a line that was read
+      pub read_on : (all : List (List ℕ)) (s t : Stage K) (now next : Running K) (line : List ℕ) (turn : Turn) (more : List ℕ) → 0 < length line → suc s.known ≤ suc s.number → suc s.number ≤ max_whole
+          → LineTurn keeper now (suc s.number) line turn more next → t ≡ next_stage s next (suc s.number) → Going setup base first all s.number s.known now
+          → GoesTo setup base first (all ++ line ∷ []) s.number more t
+      read_on all s t now next line turn more some new few is left h =
+          let takes : Takes now.party s.known (suc s.number) line now.node.state more is.did next.node.state = IsRead new turn is.answers in
+          subst (GoesTo setup base first (all ++ line ∷ []) s.number more) (sym left) (
+            next,
+            refl,
+            one_more all line more is.did s.number s.known now next some few takes is.party is.commits h,
+            Answer now.party s.known (suc s.number) line now.node.state next.node.state more is.did (omega arith) takes,
+            omega arith,
+          )
+
       pub behind : (all : List (List ℕ)) (s t : Stage K) (now : Running K) (line : List ℕ) (turn : Turn) (more : List ℕ) → 0 < length line → (turn ≡ Ended → ⊥)
           → BehindTurn keeper now s line turn more t → Going setup base first all s.number s.known now → GoesTo setup base first (all ++ line ∷ []) s.number more t
       behind all s t now line turn more some on (answers.WasKnown is taken written left) h =
@@ -274,15 +288,7 @@ module _ (keeps : NodesKeepOpenings) where
             subst (IsPiece max_whole) (sym written) (Beyond (omega arith)),
             omega (arith, is),
           )
-      behind all s t now line turn more some on (answers.GoesOn new few next is left) h =
-          let takes : Takes now.party s.known (suc s.number) line now.node.state more is.did next.node.state = IsRead new turn is.answers in
-          subst (GoesTo setup base first (all ++ line ∷ []) s.number more) (sym left) (
-            next,
-            refl,
-            one_more all line more is.did s.number s.known now next some few takes is.party is.commits h,
-            Answer now.party s.known (suc s.number) line now.node.state next.node.state more is.did (omega arith) takes,
-            omega arith,
-          )
+      behind all s t now line turn more some on (answers.GoesOn new few next is left) h = read_on all s t now next line turn more some new few is left h
       behind all s t now line turn more some on (answers.Ends stop keep loses stored number ended written left) h = absurd (on ended)
 
     -- the setup, which is the first line
