@@ -1,1 +1,5 @@
+mod Chain
+mod Ends
 mod Exactly
+mod Fed
+mod Left
