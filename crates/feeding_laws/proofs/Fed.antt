@@ -33,36 +33,51 @@ use Rattle.feeding_laws.specs.Fed.{Answer, Beginning, Beyond, Echo, IsPiece, NoS
 
 -- ---- what is written
 
-pub piece_more : {a b : ℕ} {piece : List ℕ} → a ≤ b → IsPiece a piece → IsPiece b piece
-piece_more up (Beginning echo) = Beginning echo
-piece_more up (Echo echo line) = Echo echo line
-piece_more up (NoSetup number low fault) = NoSetup number low fault
-piece_more up (Opening number party rows serial) = Opening number party rows serial
-piece_more up (Answer party known number line now next out did low takes) = Answer party known number line now next out did (omega (arith, up, low)) takes
-piece_more up (Beyond low) = Beyond (omega (arith, up, low))
+module _ {most : ℕ} where
+  pub piece_more : {a b : ℕ} {piece : List ℕ} → a ≤ b → IsPiece a most piece → IsPiece b most piece
+  piece_more up (Beginning echo) = Beginning echo
+  piece_more up (Echo echo line) = Echo echo line
+  piece_more up (NoSetup number low fault) = NoSetup number low fault
+  piece_more up (Opening number party rows serial) = Opening number party rows serial
+  piece_more up (Answer party known number line now next out did low takes) = Answer party known number line now next out did (λ fed. let l = low fed in omega (arith, up, l)) takes
+  piece_more up (Beyond low) = Beyond (λ fed. let l = low fed in omega (arith, up, l))
 
-pub tells_more : {a b : ℕ} {text : List ℕ} → a ≤ b → TellsTo a text → TellsTo b text
-tells_more up nothing_told = nothing_told
-tells_more up (piece_told before is n) = piece_told (tells_more up before) (piece_more up is) n
+  pub tells_more : {a b : ℕ} {text : List ℕ} → a ≤ b → TellsTo a most text → TellsTo b most text
+  tells_more up nothing_told = nothing_told
+  tells_more up (piece_told before is n) = piece_told (tells_more up before) (piece_more up is) n
 
--- a whole piece more
-pub tells_on : {last : ℕ} {text piece : List ℕ} → TellsTo last text → IsPiece last piece → TellsTo last (text ++ piece)
-tells_on {last = last} {text = text} {piece = piece} before is =
-    subst (λ (l : List ℕ). TellsTo last (text ++ l)) (take_all (length piece) piece (omega arith)) (piece_told before is (length piece))
+  -- no line behind those was fed to its end
+  piece_within : {a b : ℕ} {piece : List ℕ} → most ≤ b → IsPiece a most piece → IsPiece b most piece
+  piece_within all (Beginning echo) = Beginning echo
+  piece_within all (Echo echo line) = Echo echo line
+  piece_within all (NoSetup number low fault) = NoSetup number low fault
+  piece_within all (Opening number party rows serial) = Opening number party rows serial
+  piece_within all (Answer party known number line now next out did low takes) = Answer party known number line now next out did (λ fed. omega (arith, all, fed)) takes
+  piece_within all (Beyond low) = Beyond (λ fed. omega (arith, all, fed))
 
-pub tells_join : {last : ℕ} {xs ys : List ℕ} → TellsTo last xs → TellsTo last ys → TellsTo last (xs ++ ys)
-tells_join {last = last} {xs = xs} one nothing_told = subst (TellsTo last) (sym (append-nil xs)) one
-tells_join {last = last} {xs = xs} one (piece_told {text = text} {piece = piece} before is n) =
-    subst (TellsTo last) (append_assoc xs text (take n piece)) (piece_told (tells_join one before) is n)
+  pub tells_within : {a b : ℕ} {text : List ℕ} → most ≤ b → TellsTo a most text → TellsTo b most text
+  tells_within all nothing_told = nothing_told
+  tells_within all (piece_told before is n) = piece_told (tells_within all before) (piece_within all is) n
 
--- nothing is written
-pub no_piece : {last : ℕ} → IsPiece last []
-no_piece = Echo false []
+  -- a whole piece more
+  pub tells_on : {last : ℕ} {text piece : List ℕ} → TellsTo last most text → IsPiece last most piece → TellsTo last most (text ++ piece)
+  tells_on {last = last} {text = text} {piece = piece} before is =
+      subst (λ (l : List ℕ). TellsTo last most (text ++ l)) (take_all (length piece) piece (omega arith)) (piece_told before is (length piece))
 
--- the echo of a line, and some of what became of it
-pub line_tells : {last : ℕ} {text more : List ℕ} (echo : Bool) (line : List ℕ) (n : ℕ) → TellsTo last text → IsPiece last more → TellsTo last (text ++ (echo_of echo line ++ take n more))
-line_tells {last = last} {text = text} {more = more} echo line n before is =
-    subst (TellsTo last) (append_assoc text (echo_of echo line) (take n more)) (piece_told (tells_on before (Echo echo line)) is n)
+  pub tells_join : {last : ℕ} {xs ys : List ℕ} → TellsTo last most xs → TellsTo last most ys → TellsTo last most (xs ++ ys)
+  tells_join {last = last} {xs = xs} one nothing_told = subst (TellsTo last most) (sym (append-nil xs)) one
+  tells_join {last = last} {xs = xs} one (piece_told {text = text} {piece = piece} before is n) =
+      subst (TellsTo last most) (append_assoc xs text (take n piece)) (piece_told (tells_join one before) is n)
+
+  -- nothing is written
+  pub no_piece : {last : ℕ} → IsPiece last most []
+  no_piece = Echo false []
+
+  -- the echo of a line, and some of what became of it
+  pub line_tells : {last : ℕ} {text more : List ℕ} (echo : Bool) (line : List ℕ) (n : ℕ) → TellsTo last most text → IsPiece last most more
+      → TellsTo last most (text ++ (echo_of echo line ++ take n more))
+  line_tells {last = last} {text = text} {more = more} echo line n before is =
+      subst (TellsTo last most) (append_assoc text (echo_of echo line) (take n more)) (piece_told (tells_on before (Echo echo line)) is n)
 
 -- ---- lines that hold something
 
@@ -92,7 +107,7 @@ module _ (keeps : NodesKeepOpenings) where
 
   -- ---- the lines of a run so far
 
-  module _ {K : Type 0} (keeper : Keeper K) (source : Source K) (wanted : Option (List ℕ)) (opened : List ℕ) (echo : Bool) where
+  module _ {K : Type 0} (keeper : Keeper K) (source : Source K) (wanted : Option (List ℕ)) (opened : List ℕ) (echo : Bool) (most : ℕ) where
     -- the node runs, which was made of what its keeper had; the lines behind the setup came to it by their numbers
     pub record Going (setup : List Node) (base : Option ℕ) (first : List ℕ) (all : List (List ℕ)) (number known : ℕ) (now : Running K) : Type 0 where
       pub reads : numbered_setup_in first ≡ Ok (setup, base)
@@ -122,7 +137,7 @@ module _ (keeps : NodesKeepOpenings) where
     pub data Comes (all : List (List ℕ)) (out : List ℕ) (s : Stage K) : Type 0 where
       Before : s ≡ opening wanted opened → some_lines all ≡ [] → out ≡ [] → Comes all out s
       Runs : (now : Running K) → s.running ≡ Some now → (setup : List Node) (base : Option ℕ) (first : List ℕ)
-          → Going setup base first all s.number s.known now → TellsTo s.number out → Comes all out s
+          → Going setup base first all s.number s.known now → TellsTo s.number most out → Comes all out s
 
     pub settled_by : (line : Option ℕ) (did : List Deed) (before after : K) → Commits keeper line (changes_of_each did) before after → IsSettled keeper before → IsSettled keeper after
     settled_by line did before after (Nothing none same) settled = subst (IsSettled keeper) (sym same) settled
@@ -134,7 +149,7 @@ module _ (keeps : NodesKeepOpenings) where
 
     -- the node runs on behind the line, and this was written of it
     abbrev GoesTo : List Node → Option ℕ → List ℕ → List (List ℕ) → ℕ → List ℕ → Stage K → Type 0
-    GoesTo setup base first all number more t = (next : Running K) × (t.running ≡ Some next) × Going setup base first all t.number t.known next × IsPiece t.number more × (number ≤ t.number)
+    GoesTo setup base first all number more t = (next : Running K) × (t.running ≡ Some next) × Going setup base first all t.number t.known next × IsPiece t.number most more × (number ≤ t.number)
 
     module _ {setup : List Node} {base : Option ℕ} {first : List ℕ} where
       -- a line more, by the next number
@@ -265,7 +280,7 @@ module _ (keeps : NodesKeepOpenings) where
             next,
             refl,
             one_more all line more is.did s.number s.known now next some few takes is.party is.commits h,
-            Answer now.party s.known (suc s.number) line now.node.state next.node.state more is.did (omega arith) takes,
+            Answer now.party s.known (suc s.number) line now.node.state next.node.state more is.did (λ fed. omega arith) takes,
             omega arith,
           )
 
@@ -277,7 +292,7 @@ module _ (keeps : NodesKeepOpenings) where
             now,
             refl,
             one_more all line more [] s.number s.known now now some (omega (arith, is, h.knows, h.begins.starts.reopens.most)) takes refl (Nothing refl refl) h,
-            Answer now.party s.known (suc s.number) line now.node.state now.node.state more [] (omega arith) takes,
+            Answer now.party s.known (suc s.number) line now.node.state now.node.state more [] (λ fed. omega arith) takes,
             omega arith,
           )
       behind all s t now line turn more some on (answers.WasBeyond is refused written left) h =
@@ -285,7 +300,7 @@ module _ (keeps : NodesKeepOpenings) where
             now,
             refl,
             one_beyond all line s.number s.known now some is h,
-            subst (IsPiece max_whole) (sym written) (Beyond (omega arith)),
+            subst (IsPiece max_whole most) (sym written) (Beyond (λ fed. omega arith)),
             omega (arith, is),
           )
       behind all s t now line turn more some on (answers.GoesOn new few next is left) h = read_on all s t now next line turn more some new few is left h
@@ -328,7 +343,7 @@ module _ (keeps : NodesKeepOpenings) where
     first_line all out s t line turn more n some on is none nothing (turns.Opened o taken written left) =
         subst (Comes (all ++ line ∷ []) (out ++ (echo_of echo line ++ take n more))) (sym left) (
           Runs (record { party = party_of o.member; node = o.node }) refl o.setup o.base line (opened_so all line s o some none (ap (λ (s : Stage K). s.wanted) is))
-          (line_tells echo line n (subst (TellsTo (number_from o.base o.last)) (sym nothing) nothing_told) (subst (IsPiece (number_from o.base o.last)) (sym written) (Opening o.last _ o.rows _)))
+          (line_tells echo line n (subst (TellsTo (number_from o.base o.last) most) (sym nothing) nothing_told) (subst (IsPiece (number_from o.base o.last) most) (sym written) (Opening o.last _ o.rows _)))
         )
     first_line all out s t line turn more n some on is none nothing (turns.Untold o ended written left) = absurd (on ended)
     first_line all out s t line turn more n some on is none nothing (turns.Unbegun setup base read asked spare stop unbegun ended written left) = absurd (on ended)
