@@ -3,3 +3,4 @@ mod Ends
 mod Exactly
 mod Fed
 mod Left
+mod Parts
