@@ -33,7 +33,7 @@ use Rattle.world_steps.specs.Steps.{NodeEvent as Deed}
 use Rattle.world_steps.specs.World.{NodeState, opening_of}
 use Rattle.feeding_laws.proofs.Fed.{Before, Comes, Going, Runs, no_others, of_run, one_kept, tells_within}
 use Rattle.feeding_laws.proofs.Parts.{At_end, Front, In_front, at_place, behind_front, behind_more, fronts, last_one, not_empty, nothing_of, nothing_taken, part_of, same_answers, same_takes, short_cut, without}
-use Rattle.feeding_laws.specs.Fed.{As_fed, By_number, Holds, IsCut, IsFed, IsLeft, IsPart, Known_again, No_line, No_setup, Nothing as NoLines, Same, Opened, TellsTo, Unopened, WasFed, nothing_told}
+use Rattle.feeding_laws.specs.Fed.{As_fed, By_number, FedRun, Holds, IsCut, IsFed, IsLeft, IsPart, Known_again, No_line, No_setup, Nothing as NoLines, Same, Opened, TellsTo, Unopened, WasFed, nothing_told}
 use Rattle.feeding_laws.specs.Feeding.{AreBehind, Behind, Held, One_more, Ran}
 
 -- ---- numbers and lists
@@ -53,6 +53,10 @@ of_first x y xs ys same = (cc same, cc same)
 
 pub none_empty : {X : Type 0} (xs : List X) (x : X) → x ∷ xs ≡ [] → ⊥
 none_empty xs x same = cc same
+
+-- lines that begin in two ways
+pub of_two : {X : Type 0} {all xs ys : List X} {x y : X} → all ≡ x ∷ xs → all ≡ y ∷ ys → (x ≡ y) × (xs ≡ ys)
+of_two {xs = xs} {ys = ys} {x = x} {y = y} one other = of_first x y xs ys (sym one ∙ other)
 
 -- one line is no setup and a setup
 pub no_setup : (line : List ℕ) (xs : List Node) (m : Option ℕ) (fault : JsonFault) → numbered_setup_in line ≡ Ok (xs, m) → numbered_setup_in line ≡ Err fault → ⊥
@@ -129,7 +133,8 @@ module _ {K : Type 0} (keeper : Keeper K) where
 -- ---- what is left
 
 module _ (held : ChangesAreHeld) (start : NodesCanStartAgain) (keeps : NodesKeepOpenings) (alike : RestartsAreHeld) {K : Type 0} (keeper : Keeper K) (source : Source K)
-    (wanted : Option (List ℕ)) (opened : List ℕ) (echo : Bool) (most : ℕ) (setup : List Node) (lines : ℕ → List ℕ) (base : ℕ) where
+    (wanted : Option (List ℕ)) (opened : List ℕ) (echo : Bool) (most : ℕ) (setup : List Node) (lines : ℕ → List ℕ) (base : ℕ)
+    (member : Node) (only : (first : List ℕ) (m : Node) → numbered_setup_in first ≡ Ok (setup, Some base) → IsMember setup wanted m → m ≡ member) where
   -- the lines that were answered, as they stand behind the number
   pub record Answered {first : List ℕ} {all : List (List ℕ)} {number known : ℕ} {now : Running K} (h : Going keeps keeper source wanted opened echo most setup (Some base) first all number known now)
       : Type 0 where
@@ -219,15 +224,15 @@ module _ (held : ChangesAreHeld) (start : NodesCanStartAgain) (keeps : NodesKeep
     -- of a run that ended behind these lines, or at the next
     pub ran_so : (Made : Content → Type 0) → ((c : Content) → Made c → MadeNext c) → (k : K)
         → (keeper.is_honest k → keeper.is_honest now.node.keep × ((c : Content) → IsLeftBy keeper k c → (c ≡ keeper.content now.node.keep) ⊎ Made c))
-        → (text : List ℕ) → TellsTo number most text → WasFed keeper source setup wanted lines base most text (Some k)
-    ran_so Made next k loses text tells = Opened k h.member h.asked (record {
+        → (text : List ℕ) → TellsTo number most text → WasFed keeper source setup member lines base most text (Some k)
+    ran_so Made next k loses text tells = Opened k (subst (λ (m : Node). FedRun keeper source setup m lines base most text k) (only first h.member h.reads h.asked) (record {
       fresh = h.begins.starts.fresh;
       found = h.begins.found;
       earlier = λ honest. h.begins.starts.reopens.keeps.earlier (h.earlier (loses honest).0);
       read = r.read;
       tells = r.tells text tells;
       leaves = λ honest found holds c over. let l = loses honest in left_so l.0 found holds {Made = Made} next c (l.1 c over);
-    })
+    }))
 
   -- ---- the lines of the run stand among those that are fed
 
@@ -249,12 +254,12 @@ module _ (held : ChangesAreHeld) (start : NodesCanStartAgain) (keeps : NodesKeep
       → Going keeps keeper source wanted opened echo most xs m first before number known now → IsFed setup lines base most (before ++ later) → Fits before later number known now
   fits xs m first before later number known now h (NoLines none) = absurd (none_empty ((h.numbered ++ h.others) ++ some_lines later) first (sym (all_are h later) ∙ none))
   fits xs m first before later number known now h (No_setup part fault are none) =
-      let one = of_first first part ((h.numbered ++ h.others) ++ some_lines later) [] (sym (all_are h later) ∙ are) in
+      let one = of_two (all_are h later) are in
       absurd (no_setup part xs m fault (subst (λ (l : List ℕ). numbered_setup_in l ≡ Ok (xs, m)) one.0 h.reads) none)
   fits xs m first before later number known now h (By_number line fed cut are reads behind most_is is_cut) =
-      let one = of_first first line ((h.numbered ++ h.others) ++ some_lines later) (fed ++ cut) (sym (all_are h later) ∙ are) in
+      let one = of_two (all_are h later) are in
       let g = subst (λ (p : List Node × Option ℕ). Going keeps keeper source wanted opened echo most p.0 p.1 first before number known now) (one_setup first line xs setup m (Some base) one.0 h.reads reads) h in
-      let same = of_first first line ((g.numbered ++ g.others) ++ some_lines later) (fed ++ cut) (sym (all_are g later) ∙ are) in
+      let same = of_two (all_are g later) are in
       record { first = first; going = g; fed = fed; cut = cut; same = same.1; behind = behind; most_is = most_is; is_cut = is_cut }
 
   -- those that were read stand in front of those that were fed, but for the beginning of a line
@@ -351,7 +356,7 @@ module _ (held : ChangesAreHeld) (start : NodesCanStartAgain) (keeps : NodesKeep
   -- ---- behind a line
 
   abbrev pub Left : List ℕ → Option K → Type 0
-  Left text kept = WasFed keeper source setup wanted lines base most text kept
+  Left text kept = WasFed keeper source setup member lines base most text kept
 
   -- what tells of no line above some number goes on so
   abbrev pub Tell : List ℕ → List ℕ → Type 0
@@ -372,13 +377,15 @@ module _ (held : ChangesAreHeld) (start : NodesCanStartAgain) (keeps : NodesKeep
   -- ---- at a line
 
   -- the setup had no such node, or none was made of what the store had
-  pub unbegun : (line : List ℕ) (xs : List Node) (m : Option ℕ) (places : List ℕ) (spare : Option K) (stop : NodeStop) (text : List ℕ) → ◌≡◌ {A = List Node × Option ℕ} (xs, m) (setup, Some base)
+  pub unbegun : (line : List ℕ) (xs : List Node) (base_told : Option ℕ) (places : List ℕ) (spare : Option K) (stop : NodeStop) (text : List ℕ) → numbered_setup_in line ≡ Ok (xs, base_told) → ◌≡◌ {A = List Node × Option ℕ} (xs, base_told) (setup, Some base)
       → IsUnbegun keeper source xs wanted places spare stop → ((n : ℕ) → TellsTo n most text) → Left text spare
-  unbegun line xs m places spare stop text same (turns.Unknown none asked is told) tells = subst (Left text) (sym is) (Unopened (tells base))
-  unbegun line xs m places spare stop text same (turns.Unkept member of fault may asked is told) tells = subst (Left text) (sym is) (Unopened (tells base))
-  unbegun line xs m places spare stop text same (turns.NotMade member of fault k unmade found asked is told) tells =
+  unbegun line xs base_told places spare stop text read same (turns.Unknown none asked is told) tells = subst (Left text) (sym is) (Unopened (tells base))
+  unbegun line xs base_told places spare stop text read same (turns.Unkept m of fault may asked is told) tells = subst (Left text) (sym is) (Unopened (tells base))
+  unbegun line xs base_told places spare stop text read same (turns.NotMade m of fault k unmade found asked is told) tells =
       let setup_is : xs ≡ setup = ap (λ (p : List Node × Option ℕ). p.0) same in
-      subst (Left text) (sym is) (Opened k member (subst (λ (l : List Node). IsMember l wanted member) setup_is of) (record {
+      let reads = subst (λ (p : List Node × Option ℕ). numbered_setup_in line ≡ Ok p) same read in
+      let member_is = only line m reads (subst (λ (l : List Node). IsMember l wanted m) setup_is of) in
+      subst (Left text) (sym is) (Opened k (subst (λ (m : Node). FedRun keeper source setup m lines base most text k) member_is (record {
         fresh = unmade.fresh;
         found = found;
         earlier = unmade.keeps.earlier;
@@ -386,9 +393,9 @@ module _ (held : ChangesAreHeld) (start : NodesCanStartAgain) (keeps : NodesKeep
         tells = tells (base + length {A = List ℕ} []);
         leaves = λ honest was holds c over.
             let at : c ≡ keeper.content unmade.fresh = found_is honest c over in
-            As_fed [] was (subst (λ (b : Content). Holds setup member b was) (sym at) holds)
+            As_fed [] was (subst (λ (b : Content). Holds setup m b was) (sym at) holds)
             (record { are = λ i l at. absurd (cc at); did = []; now = restarted was.state; carries = none_carried; leaves = Behind [] none_changed (alike.by_restarts was.state) });
-      }))
+      })))
     where
       found_is : keeper.is_honest k → (c : Content) → IsLeftBy keeper k c → c ≡ keeper.content unmade.fresh
       found_is honest c (inl same) = same ∙ unmade.keeps.same honest

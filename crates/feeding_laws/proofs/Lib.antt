@@ -3,4 +3,5 @@ mod Ends
 mod Exactly
 mod Fed
 mod Left
+mod Members
 mod Parts

@@ -112,18 +112,17 @@ pub record FedRun {K : Type 0} (keeper : Keeper K) (source : Source K) (setup : 
       → IsLeft setup member lines held base read c
 
 -- the same of any run: where no keeper was opened, no line was answered
-pub data WasFed {K : Type 0} (keeper : Keeper K) (source : Source K) (setup : List Node) (wanted : Option (List ℕ)) (lines : ℕ → List ℕ) (base most : ℕ) (text : List ℕ) : Option K → Type 0 where
-  Unopened : TellsTo base most text → WasFed keeper source setup wanted lines base most text None
-  Opened : (kept : K) (member : Node) → IsMember setup wanted member → FedRun keeper source setup member lines base most text kept
-      → WasFed keeper source setup wanted lines base most text (Some kept)
+pub data WasFed {K : Type 0} (keeper : Keeper K) (source : Source K) (setup : List Node) (member : Node) (lines : ℕ → List ℕ) (base most : ℕ) (text : List ℕ) : Option K → Type 0 where
+  Unopened : TellsTo base most text → WasFed keeper source setup member lines base most text None
+  Opened : (kept : K) → FedRun keeper source setup member lines base most text kept → WasFed keeper source setup member lines base most text (Some kept)
 
 -- So it is of each run of `run_node` that is fed so, wherever it ended. (What a reader has, and what a writer holds, is
 -- known where these tell it.)
 abbrev pub RunsAreFed : {K : Type 0} → Keeper K → Source K → Type 0
 RunsAreFed {K} keeper source =
-    (setup : List Node) (lines : ℕ → List ℕ) (base most : ℕ) (opened word : List ℕ) (echo : Bool) (input before : List ℕ) (new : Option (List ℕ)) (kept : Option K)
-    → IsFed setup lines base most (lines_of input) → Ended keeper source opened word echo (Some input) (Some before) new kept
-    → (text : List ℕ) × (new ≡ Some (before ++ text)) × WasFed keeper source setup (asked_for word) lines base most text kept
+    (setup : List Node) (member : Node) (lines : ℕ → List ℕ) (base most : ℕ) (opened word : List ℕ) (echo : Bool) (input before : List ℕ) (new : Option (List ℕ)) (kept : Option K)
+    → IsMember setup (asked_for word) member → IsFed setup lines base most (lines_of input) → Ended keeper source opened word echo (Some input) (Some before) new kept
+    → (text : List ℕ) × (new ≡ Some (before ++ text)) × WasFed keeper source setup member lines base most text kept
 
 -- ---- runs one after another
 
