@@ -30,8 +30,8 @@ use Rattle.feeding_laws.specs.Feeding.{AreBehind, Held, IsExact, Ran}
 
 -- ---- what is fed
 
--- The last line of an input counts without its line feed. So where its feeder stopped within a line, a beginning of that
--- stands there: it is read as the line is, or is no line.
+-- The last line of an input counts without its line feed. So where its feeder stopped within a line, a beginning of
+-- that stands there: it is read as the line is, or is no line.
 pub data IsPart (line part : List ℕ) : Type 0 where
   Same : node_line_in part ≡ node_line_in line → IsPart line part
   No_line : (fault : JsonFault) → node_line_in part ≡ Err fault → IsPart line part
@@ -41,9 +41,9 @@ pub data IsCut (line : List ℕ) : List (List ℕ) → Type 0 where
   Between : IsCut line []
   Within : (part : List ℕ) → IsPart line part → IsCut line (part ∷ [])
 
--- The lines of an input that hold something: none; or a beginning of the setup, which is none; or the setup, which tells
--- that number, and then lines that stand behind the one of that number, up to the one of the number `most`, and maybe a
--- beginning of the next.
+-- The lines of an input that hold something: none; or a beginning of the setup, which is none; or the setup, which
+-- tells that number, and then lines that stand behind the one of that number, up to the one of the number `most`, and
+-- maybe a beginning of the next.
 pub data IsFed (setup : List Node) (lines : ℕ → List ℕ) (base most : ℕ) (all : List (List ℕ)) : Type 0 where
   Nothing : some_lines all ≡ [] → IsFed setup lines base most all
   No_setup : (part : List ℕ) (fault : JsonFault) → some_lines all ≡ part ∷ [] → numbered_setup_in part ≡ Err fault → IsFed setup lines base most all
@@ -58,8 +58,8 @@ pub data Ended {K : Type 0} (keeper : Keeper K) (source : Source K) (opened word
 
 -- ---- what is written
 
--- What a run writes of one thing. What became of a line behind the setup is told with its number. That is at most `last`,
--- or above `most`, where no line was fed to its end; so of no other line a `done` was seen.
+-- What a run writes of one thing. What became of a line behind the setup is told with its number. That is at most
+-- `last`, or above `most`, where no line was fed to its end; so of no other line a `done` was seen.
 pub data IsPiece (last most : ℕ) : List ℕ → Type 0 where
   Beginning : (echo : Bool) → IsPiece last most (begin_bytes echo)
   Echo : (echo : Bool) (line : List ℕ) → IsPiece last most (echo_of echo line)
@@ -100,8 +100,8 @@ pub data IsLeft (setup : List Node) (member : Node) (lines : ℕ → List ℕ) (
   Known_again : suc (base + length read) ≤ found.line → DoneAgain member lines (suc (base + length read)) c → IsLeft setup member lines found base read c
 
 -- A run over a store, by its keeper as it was opened and as it was left. Whatever rows of the node the store had, and
--- whatever number, what it has at the end, or what a stop leaves of that, is what a run leaves that answered these lines.
--- Of no line behind them that was fed to its end it told what became of it.
+-- whatever number, what it has at the end, or what a stop leaves of that, is what a run leaves that answered these
+-- lines. Of no line behind them that was fed to its end it told what became of it.
 pub record FedRun {K : Type 0} (keeper : Keeper K) (source : Source K) (setup : List Node) (member : Node) (lines : ℕ → List ℕ) (base most : ℕ) (text : List ℕ) (kept : K) : Type 0 where
   pub fresh : K
   pub found : source.found 1 fresh
@@ -126,8 +126,9 @@ RunsAreFed {K} keeper source =
 
 -- ---- runs one after another
 
--- Runs of one node over one store, each over what the one before left: what its keeper kept at the end, or what a stop
--- left of that. The first is told 1; each other is told at most the number of the last line that the one before answered.
+-- Runs of one node over one store, each over what the one before left: what its keeper kept at the end, or what a
+-- stop left of that. The first is told 1; each other is told at most the number of the last line that the one before
+-- answered.
 pub data AreFedRuns {K : Type 0} (keeper : Keeper K) (source : Source K) (setup : List Node) (member : Node) (lines : ℕ → List ℕ) (first : Content) : ℕ → Content → Type 0 where
   none_fed : AreFedRuns keeper source setup member lines first 1 first
   one_fed : {seen base most : ℕ} {before after : Content} {text : List ℕ} {kept : K} → AreFedRuns keeper source setup member lines first seen before → 1 ≤ base → base ≤ seen

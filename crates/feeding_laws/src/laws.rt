@@ -18,9 +18,9 @@ pub fn feeding_is_exact()
     alike_are_classes();
 }
 
-/// Each run of `run_node` that is fed so is such a run, wherever it ended: by the end of its input, by a stop of the node,
-/// by a commit that was refused, by want of memory, by a failed read or write. What it wrote tells what became of no line
-/// behind those that it answered.
+/// Each run of `run_node` that is fed so is such a run, wherever it ended: by the end of its input, by a stop of the
+/// node, by a commit that was refused, by want of memory, by a failed read or write. What it wrote tells what became
+/// of no line behind those that it answered.
 pub fn runs_are_fed<S: Keeps>()
     ensures { RunsAreFed (keeper_of S.Kept.content S.Kept.is_honest S.Kept.refusals S.Kept.may_leave) (source_of S.may_refuse S.found) }
 {
@@ -30,8 +30,8 @@ pub fn runs_are_fed<S: Keeps>()
     restarts_are_held();
 }
 
-/// So runs of `run_node` over one store, each fed so over what the one before left or a stop left of that, leave what each
-/// line made that came once and in order.
+/// So runs of `run_node` over one store, each fed so over what the one before left or a stop left of that, leave what
+/// each line made that came once and in order.
 pub fn fed_runs_are_exact<S: Keeps>()
     ensures { FedRunsAreExact (keeper_of S.Kept.content S.Kept.is_honest S.Kept.refusals S.Kept.may_leave) (source_of S.may_refuse S.found) }
 {
