@@ -1,5 +1,5 @@
 -- How a run of `node` ends that is fed lines by their numbers.
-use Rattle.std.proofs.Common.{◌≡◌, ◌++◌, ◌∙◌, ◌+◌, ◌<◌, ◌≤◌, ℕ, suc, Bool, List, [], ◌∷◌, Option, Some, None, Ok, refl, sym, ap, subst, arith, length, append_assoc, append-nil, take, take_all, take_at}
+use Rattle.std.proofs.Common.{◌≡◌, ◌++◌, ◌∙◌, ◌+◌, ◌<◌, ℕ, Bool, List, [], ◌∷◌, Option, Some, None, Ok, refl, sym, ap, subst, arith, length, append_assoc, append-nil, take, take_all, take_at}
 use Rattle.std.specs.Io.KnownBytes.{Appends}
 use Rattle.std.specs.Str.Lines.{lines as lines_of}
 use Rattle.std.proofs.lemmas.List.Concat.{flat_map-append}

@@ -1,6 +1,5 @@
 -- What runs of `node` leave, and what they write, that are fed lines by their numbers.
-use Rattle.std.proofs.Common.{◌≡◌, ◌≢◌, ◌⊎◌, ◌++◌, ◌∙◌, ◌+◌, ◌<◌, ◌≤◌, ℕ, zero, suc, Bool, false, List, [], ◌∷◌, Option, Some, None, Ok, refl, sym, ap, subst, inl, inr, arith, length, length-append, append_assoc, append-nil, take, take_all, take_at}
-use Rattle.std.specs.Prelude.{All, IsSome, slice_get}
+use Rattle.std.proofs.Common.{◌≡◌, ◌≢◌, ◌++◌, ◌∙◌, ◌+◌, ◌<◌, ◌≤◌, ℕ, suc, Bool, false, List, [], ◌∷◌, Option, Some, Ok, refl, sym, ap, subst, arith, length, length-append, append_assoc, append-nil, take, take_all}
 use Rattle.std.proofs.lemmas.List.Concat.{flat_map-append}
 use Rattle.line_runs.specs.Numbered.{AreNumbered, echo_of, empty_line, none_numbered, refused_line, taken_line}
 use Rattle.line_runs.specs.declared.outcome.Ran.{Ran as How}
@@ -8,22 +7,20 @@ use Rattle.line_runs.specs.declared.run.Turn.{Turn}
 use Rattle.line_runs.specs.declared.run.Turn.TheVariants.{Ended, Refused, Taken}
 use Rattle.node_keepers.specs.Opening.{Source}
 use Rattle.node_laws.specs.Runs.{Run}
-use Rattle.node_rows.specs.Laws.{ChangesAreHeld, RestartsAreHeld}
 use Rattle.node_runs.proofs.HistoryLemmas.{line_run}
-use Rattle.node_runs.specs.LineAnswers.{Answers}
 use Rattle.node_runs.specs.NodeAnswers as answers
 use Rattle.node_runs.specs.NodeAnswers.{BehindTurn, LineTurn, NodeLineGives, NodeTurn, next_stage}
 use Rattle.node_runs.specs.NodeHistories.{kept_line, some_lines}
 use Rattle.node_runs.specs.NodeTurns as turns
-use Rattle.node_runs.specs.NodeTurns.{Begins, IsMember, OpensNode, Running, SetupTurn, Stage, number_from, opened_stage, opening}
+use Rattle.node_runs.specs.NodeTurns.{Begins, IsMember, OpensNode, Running, SetupTurn, Stage, number_from, opening}
 use Rattle.node_runs.specs.NumberedRuns.{Carries, Changed, IsKnown, IsRead, Numbered, Takes, none_carried, none_changed, one_carried, one_changed, one_quiet}
 use Rattle.node_runs.specs.SetupLines.{numbered_setup_in}
-use Rattle.node_store.specs.Contents.{Content, line_of}
+use Rattle.node_store.specs.Contents.{line_of}
 use Rattle.node_store.proofs.Numbered.{numbers_are_no_rows}
 use Rattle.ocpi_text.specs.Whole.{max_whole}
 use Rattle.ocpi_types.specs.Setups.{party_of}
 use Rattle.ocpi_types.specs.declared.setup.Node.{Node}
-use Rattle.stored_laws.specs.Nodes.{IsOfOpening, NodesCanStartAgain, NodesKeepOpenings, restarted}
+use Rattle.stored_laws.specs.Nodes.{IsOfOpening, NodesKeepOpenings}
 use Rattle.stored_nodes.specs.Keepers.{Commits, IsSettled, Keeper, Nothing, Taken as TakenBy}
 use Rattle.stored_nodes.specs.Stored.{Stored}
 use Rattle.stored_nodes.specs.Transactions.{changes_of_each}

@@ -1,5 +1,5 @@
 -- What a run of `node` leaves that is fed lines by their numbers, wherever it ends.
-use Rattle.std.proofs.Common.{◌≡◌, ◌≢◌, ◌⊎◌, ◌++◌, ◌∙◌, ◌+◌, ◌<◌, ◌≤◌, ℕ, zero, suc, Bool, List, [], ◌∷◌, Option, Some, None, Ok, Err, refl, sym, ap, subst, inl, inr, arith, length, length-append, append_assoc, append-nil, take, take_all, take_at}
+use Rattle.std.proofs.Common.{◌≡◌, ◌≢◌, ◌⊎◌, ◌++◌, ◌∙◌, ◌+◌, ◌<◌, ◌≤◌, ℕ, zero, suc, Bool, List, [], ◌∷◌, Option, Some, Ok, Err, refl, sym, ap, subst, inl, inr, arith, length, length-append, append_assoc, append-nil}
 use Rattle.std.specs.Prelude.{All, IsSome, slice_get}
 use Rattle.std.proofs.lemmas.List.Concat.{flat_map-append}
 use Rattle.line_runs.specs.declared.run.Turn.{Turn}
@@ -20,7 +20,6 @@ use Rattle.node_runs.specs.SetupLines.{numbered_setup_in}
 use Rattle.node_runs.specs.declared.fault.NodeStop.{NodeStop}
 use Rattle.node_store.specs.Contents.{Content, IsReadAgain, changed_all, line_of, marked}
 use Rattle.node_store.proofs.Numbered.{numbers_are_no_rows}
-use Rattle.ocpi_text.specs.Whole.{max_whole}
 use Rattle.ocpi_types.specs.Setups.{party_of}
 use Rattle.ocpi_types.specs.declared.setup.Node.{Node}
 use Rattle.stored_laws.specs.Nodes.{IsOfOpening, NodesCanStartAgain, NodesKeepOpenings, restarted}
@@ -34,7 +33,7 @@ use Rattle.world_steps.specs.World.{NodeState, opening_of}
 use Rattle.feeding_laws.proofs.Fed.{Before, Comes, Going, Runs, no_others, of_run, one_kept, tells_within}
 use Rattle.feeding_laws.proofs.Parts.{At_end, Front, In_front, at_place, behind_front, behind_more, fronts, last_one, not_empty, nothing_of, nothing_taken, part_of, same_answers, same_takes, short_cut, without}
 use Rattle.feeding_laws.specs.Fed.{As_fed, By_number, FedRun, Holds, IsCut, IsFed, IsLeft, IsPart, Known_again, No_line, No_setup, Nothing as NoLines, Same, Opened, TellsTo, Unopened, WasFed, nothing_told}
-use Rattle.feeding_laws.specs.Feeding.{AreBehind, Behind, Held, One_more, Ran}
+use Rattle.feeding_laws.specs.Feeding.{AreBehind, Behind, Held, One_more}
 
 -- ---- numbers and lists
 

@@ -1,5 +1,5 @@
 -- A beginning of a line, where its feeder stopped within it.
-use Rattle.std.proofs.Common.{◌≡◌, ◌≢◌, ◌⊎◌, ◌++◌, ◌∙◌, ◌+◌, ℕ, zero, suc, List, [], ◌∷◌, Option, Some, None, Ok, Err, refl, sym, ap, subst, inl, inr, length}
+use Rattle.std.proofs.Common.{◌≡◌, ◌⊎◌, ◌++◌, ◌∙◌, ◌+◌, ℕ, zero, suc, List, [], ◌∷◌, Option, Some, Err, refl, sym, ap, subst, inl, inr, length}
 use Rattle.std.specs.Prelude.{slice_get}
 use Rattle.json_text.specs.Fault.{Read}
 use Rattle.json_text.specs.declared.fault.JsonFault.{JsonFault}

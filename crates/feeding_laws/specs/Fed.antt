@@ -1,5 +1,5 @@
 -- Runs of the command `node` that are fed lines by their numbers: what each leaves in its store, and what it writes.
-use Rattle.std.specs.Prelude.{◌≡◌, ◌≢◌, ◌⊎◌, ◌≤◌, ℕ, suc, ◌+◌, Bool, List, [], ◌∷◌, ◌++◌, Option, None, Some, Ok, Err, length, take}
+use Rattle.std.specs.Prelude.{◌≡◌, ◌≢◌, ◌≤◌, ℕ, suc, ◌+◌, Bool, List, [], ◌∷◌, ◌++◌, Option, None, Some, Ok, Err, length, take}
 use Rattle.std.specs.Str.Lines.{lines as lines_of}
 use Rattle.json_text.specs.declared.fault.JsonFault.{JsonFault}
 use Rattle.line_runs.specs.Numbered.{echo_of}
