@@ -19,5 +19,15 @@ pub mod AnswerLemmas
 pub mod LineLemmas
 pub mod LineFacts
 pub mod HistoryLemmas
+pub mod FrontLemmas
 pub mod FitLemmas
+pub mod ResultLemmas
+pub mod AnsweredLines
+pub mod WayLemmas
+pub mod OpenLemmas
 pub mod PartyLemmas
+pub mod LinesRead
+pub mod SetupRead
+pub mod TranscriptLemmas
+pub mod FileRead
+pub mod TranscriptRead

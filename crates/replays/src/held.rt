@@ -1,6 +1,7 @@
 //! What a store has: the rows of a node, and the number of the last line that took hold.
 
-ghost use Rattle.std.specs.Prelude.{◌≡◌, ◌++◌, ◌∷◌, [], IfOk, OnOk, false, true};
+ghost use Rattle.std.specs.Prelude.{◌≡◌, ◌≤◌, ◌++◌, ◌∷◌, [], IfOk, OnOk, false, true};
+ghost use Rattle.ocpi_text.specs.Whole.{max_whole};
 ghost use Rattle.replays.specs.LineTurns.{nothing_held};
 
 use ocpi_text::Whole;
@@ -42,6 +43,15 @@ impl Start {
             held: Held { rows, line },
             is_given: true,
         })
+    }
+}
+
+impl Start {
+    /// A line can have its number, which its type keeps. It does nothing.
+    pub(crate) fn is_numbered(&self)
+        ensures { self.now.held.line ≤ max_whole }
+    {
+        let _number = self.held.line.value();
     }
 }
 

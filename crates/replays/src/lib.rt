@@ -25,6 +25,7 @@ mod fault;
 mod held;
 mod history;
 pub mod laws;
+mod members;
 mod opening;
 mod reading;
 mod transcript;

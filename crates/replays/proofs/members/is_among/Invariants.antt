@@ -1,7 +1,7 @@
 use Rattle.std.proofs.Common.{◌≡◌, ℕ, List, take}
 use Rattle.std.specs.Prelude.{Contains}
 use Rattle.ocpi_text.specs.Text.{key}
-use Rattle.replays.proofs.reading.is_among.Given as goal
+use Rattle.replays.proofs.members.is_among.Given as goal
 
 -- none before this one is the party
 abbrev pub invariant-loop-other : goal.invariant-loop-other
