@@ -53,8 +53,7 @@ impl Start {
     pub(crate) fn is_numbered(&self)
         ensures { IsNumbered self.now.held }
     {
-        requests_fit(self.held.rows.as_slice());
-        let _number = self.held.line.value();
+        self.held.is_numbered();
     }
 }
 
@@ -131,6 +130,14 @@ impl Held {
         ensures { result ≡ self.now.line }
     {
         self.line
+    }
+
+    /// Lines and requests can have its numbers, which their types keep. It does nothing.
+    fn is_numbered(&self)
+        ensures { IsNumbered self.now }
+    {
+        requests_fit(self.rows.as_slice());
+        let _number = self.line.value();
     }
 
     /// Equal rows. An error is want of memory.
