@@ -48,17 +48,19 @@ pub record Runs (now : Running) : Type 0 where
 runs_on : (now : Running) (line out : List ℕ) (entered : List Placed) (did : List Deed) (next : Running) → Runs now → LineGives now line out entered did next → Runs next
 runs_on now line out entered did next runs gives = record { fit = fit gives; counted = stays_counted now line out entered did next runs.counted gives; within = within gives }
   where
-  fit : LineGives now line out entered did next → IsFit next.state
-  fit (WasKnown known written none nothing is) = subst (λ (n : Running). IsFit n.state) (sym is) runs.fit
-  fit (WasBeyond new at written none nothing is) = subst (λ (n : Running). IsFit n.state) (sym is) runs.fit
-  fit (WasRead new low turn after answers held is) = subst (λ (n : Running). IsFit n.state) (sym is) (answers_fit answers runs.fit)
-  number : (changes : List Change) → suc now.number ≤ max_whole → last_behind changes now.last (suc now.number) ≤ max_whole
-  number [] low = runs.within
-  number (c ∷ cs) low = low
-  within : LineGives now line out entered did next → next.last ≤ max_whole
-  within (WasKnown known written none nothing is) = subst (λ (n : Running). n.last ≤ max_whole) (sym is) runs.within
-  within (WasBeyond new at written none nothing is) = subst (λ (n : Running). n.last ≤ max_whole) (sym is) runs.within
-  within (WasRead new low turn after answers held is) = subst (λ (n : Running). n.last ≤ max_whole) (sym is) (number (changes_of_each did) low)
+    fit : LineGives now line out entered did next → IsFit next.state
+    fit (WasKnown known written none nothing is) = subst (λ (n : Running). IsFit n.state) (sym is) runs.fit
+    fit (WasBeyond new at written none nothing is) = subst (λ (n : Running). IsFit n.state) (sym is) runs.fit
+    fit (WasRead new low turn after answers held is) = subst (λ (n : Running). IsFit n.state) (sym is) (answers_fit answers runs.fit)
+
+    number : (changes : List Change) → suc now.number ≤ max_whole → last_behind changes now.last (suc now.number) ≤ max_whole
+    number [] low = runs.within
+    number (c ∷ cs) low = low
+
+    within : LineGives now line out entered did next → next.last ≤ max_whole
+    within (WasKnown known written none nothing is) = subst (λ (n : Running). n.last ≤ max_whole) (sym is) runs.within
+    within (WasBeyond new at written none nothing is) = subst (λ (n : Running). n.last ≤ max_whole) (sym is) runs.within
+    within (WasRead new low turn after answers held is) = subst (λ (n : Running). n.last ≤ max_whole) (sym is) (number (changes_of_each did) low)
 
 -- what a line gives is one value, of which each line ends
 pub line_facts : Gifts Runs
@@ -96,12 +98,13 @@ left_by now held runs left = record {
   within = subst (λ k. k ≤ max_whole) (sym left.line) runs.within;
 }
   where
-  of_kept : (k : Kept) (r : Row) → AreOf k now.state → HasKept k r → HasNodeRow now.state r
-  of_kept (Listed rows) r are has = (listed rows now.state are r).0 has
-  of_kept (OfNode n) r is has = subst (λ m. HasNodeRow m r) is has
-  of_node : (n : NodeState) → HasOwn n → (k : ℕ) (c : SentCommand) → HasNodeRow n (row.Command k c) → HasOwnUrl k c
-  of_node (Operates s) own k c has = absurd has
-  of_node (Provides s) own k c has = own k c has
+    of_kept : (k : Kept) (r : Row) → AreOf k now.state → HasKept k r → HasNodeRow now.state r
+    of_kept (Listed rows) r are has = (listed rows now.state are r).0 has
+    of_kept (OfNode n) r is has = subst (λ m. HasNodeRow m r) is has
+
+    of_node : (n : NodeState) → HasOwn n → (k : ℕ) (c : SentCommand) → HasNodeRow n (row.Command k c) → HasOwnUrl k c
+    of_node (Operates s) own k c has = absurd has
+    of_node (Provides s) own k c has = own k c has
 
 -- ---- an opening
 
@@ -133,11 +136,11 @@ module _ (line : List ℕ) (setup : List Node) (base : Option ℕ) (reads : numb
 one_state : (setup : List Node) (m : Node) (held : Held) (s u : NodeState) (o : OpensOver setup m held s) (p : OpensOver setup m held u) → (s ≡ u) × (length o.rows ≡ length p.rows)
 one_state setup m held s u o p = of held.kept o.lists p.lists
   where
-  of : (k : Kept) → Lists k o.rows → Lists k p.rows → (s ≡ u) × (length o.rows ≡ length p.rows)
-  of (Listed given) a b =
-      (made_once setup m o.rows s u o.starts p.starts o.made (subst (λ l. IsMadeOfRows setup m l u) (b ∙ sym a) p.made), ap length (a ∙ sym b))
-  of (OfNode n) a b =
-      (made_once setup m o.rows s u o.starts p.starts o.made (made_of setup m p.rows o.rows u p.made (of_others p.rows o.rows n b a u (has_rows setup m p.rows u p.made))), same_count o.rows p.rows n a b)
+    of : (k : Kept) → Lists k o.rows → Lists k p.rows → (s ≡ u) × (length o.rows ≡ length p.rows)
+    of (Listed given) a b =
+        (made_once setup m o.rows s u o.starts p.starts o.made (subst (λ l. IsMadeOfRows setup m l u) (b ∙ sym a) p.made), ap length (a ∙ sym b))
+    of (OfNode n) a b =
+        (made_once setup m o.rows s u o.starts p.starts o.made (made_of setup m p.rows o.rows u p.made (of_others p.rows o.rows n b a u (has_rows setup m p.rows u p.made))), same_count o.rows p.rows n a b)
 
 -- the rows of two stores that are alike are those of one node
 same_rows : (held left : Held) → Alike held left → (setup : List Node) (m : Node) (s : NodeState) (rows : List Row) → Lists left.kept rows → IsMadeOfRows setup m rows s
@@ -145,15 +148,17 @@ same_rows : (held left : Held) → Alike held left → (setup : List Node) (m : 
 same_rows held left (Same is) setup m s rows lists made = (rows, subst (λ (h : Held). Lists h.kept rows) is lists, made, refl)
 same_rows held left (Both now a b) setup m s rows lists made = of held.kept a.rows
   where
-  there : (k : Kept) → AreOf k now.state → Lists k rows → AreNodeRows rows now.state
-  there (Listed given) are is = subst (λ l. AreNodeRows l now.state) (sym is) are
-  there (OfNode n) is are = subst (AreNodeRows rows) is are
-  are : AreNodeRows rows now.state
-  are = there left.kept b.rows lists
-  of : (k : Kept) → AreOf k now.state → (others : List Row) × Lists k others × IsMadeOfRows setup m others s × (length rows ≡ length others)
-  of (Listed given) listed_so =
-      (given, refl, made_of setup m rows given s made (of_others rows given now.state are listed_so s (has_rows setup m rows s made)), same_count rows given now.state are listed_so)
-  of (OfNode n) is = (rows, subst (AreNodeRows rows) (sym is) are, made, refl)
+    there : (k : Kept) → AreOf k now.state → Lists k rows → AreNodeRows rows now.state
+    there (Listed given) are is = subst (λ l. AreNodeRows l now.state) (sym is) are
+    there (OfNode n) is are = subst (AreNodeRows rows) is are
+
+    are : AreNodeRows rows now.state
+    are = there left.kept b.rows lists
+
+    of : (k : Kept) → AreOf k now.state → (others : List Row) × Lists k others × IsMadeOfRows setup m others s × (length rows ≡ length others)
+    of (Listed given) listed_so =
+        (given, refl, made_of setup m rows given s made (of_others rows given now.state are listed_so s (has_rows setup m rows s made)), same_count rows given now.state are listed_so)
+    of (OfNode n) is = (rows, subst (AreNodeRows rows) (sym is) are, made, refl)
 
 pub opening_facts : Openings Runs Stores
 opening_facts = record {

@@ -28,10 +28,10 @@ is_longer (q ∷ ps) p within = let a = length-append q (longer ps) in elim (of_
 pub fresh : (parties : List (List ℕ)) → (party : List ℕ) × IsOther parties party
 fresh parties = (longer parties, other)
   where
-  other : IsOther parties (longer parties)
-  other p within same =
-      let a : length (map to_ascii_uppercase p) ≡ length (map to_ascii_uppercase (longer parties)) = ap length same in
-      let b = length-map p to_ascii_uppercase in
-      let c = length-map (longer parties) to_ascii_uppercase in
-      let d = is_longer parties p within in
-      omega (arith, a, b, c, d)
+    other : IsOther parties (longer parties)
+    other p within same =
+        let a : length (map to_ascii_uppercase p) ≡ length (map to_ascii_uppercase (longer parties)) = ap length same in
+        let b = length-map p to_ascii_uppercase in
+        let c = length-map (longer parties) to_ascii_uppercase in
+        let d = is_longer parties p within in
+        omega (arith, a, b, c, d)

@@ -75,10 +75,11 @@ both_change did also done more first second = (
   (λ some. back did also (some_of_both (changes_of_each done) (changes_of_each more) (changes_of_each did) (changes_of_each also) first.1 second.1 (parts done more some))),
 )
   where
-  parts : (a b : List Deed) → changes_of_each (a ++ b) ≢ [] → changes_of_each a ++ changes_of_each b ≢ []
-  parts a b some none = some (flat_map-append changes_of a b ∙ none)
-  back : (a b : List Deed) → changes_of_each a ++ changes_of_each b ≢ [] → changes_of_each (a ++ b) ≢ []
-  back a b some none = some (sym (flat_map-append changes_of a b) ∙ none)
+    parts : (a b : List Deed) → changes_of_each (a ++ b) ≢ [] → changes_of_each a ++ changes_of_each b ≢ []
+    parts a b some none = some (flat_map-append changes_of a b ∙ none)
+
+    back : (a b : List Deed) → changes_of_each a ++ changes_of_each b ≢ [] → changes_of_each (a ++ b) ≢ []
+    back a b some none = some (sym (flat_map-append changes_of a b) ∙ none)
 
 none_change : (did done : List Deed) → did ≡ [] → done ≡ [] → (changes_of_each did ≢ []) ↔ (changes_of_each done ≢ [])
 none_change did done none nothing = ((λ some. absurd (some (ap changes_of_each none))), (λ some. absurd (some (ap changes_of_each nothing))))

@@ -20,9 +20,9 @@ use Rattle.replays.proofs.Lists.{IsPlain, behind_front, heads, last_is, tails}
 glyph_high : (d : ℕ) → 48 ≤ digit_glyph false d
 glyph_high d = of (nat_lt d 10)
   where
-  of : (b : Bool) → 48 ≤ cond b (48 + d) (87 + d)
-  of true = omega arith
-  of false = omega arith
+    of : (b : Bool) → 48 ≤ cond b (48 + d) (87 + d)
+    of true = omega arith
+    of false = omega arith
 
 digits_high : (k n : ℕ) (text : List ℕ) → All (λ b. 48 ≤ b) text → All (λ b. 48 ≤ b) (digits_onto k 10 false n text)
 digits_high zero n text high = high
@@ -31,9 +31,9 @@ digits_high (suc k) n text high =
     either (n / 10 == 0) (digit_glyph false (n % 10) ∷ text) (digits_onto k 10 false (n / 10) (digit_glyph false (n % 10) ∷ text)) more
     (digits_high k (n / 10) (digit_glyph false (n % 10) ∷ text) more)
   where
-  either : (b : Bool) (xs ys : List ℕ) → All (λ b. 48 ≤ b) xs → All (λ b. 48 ≤ b) ys → All (λ b. 48 ≤ b) (cond b xs ys)
-  either true xs ys a b = a
-  either false xs ys a b = b
+    either : (b : Bool) (xs ys : List ℕ) → All (λ b. 48 ≤ b) xs → All (λ b. 48 ≤ b) ys → All (λ b. 48 ≤ b) (cond b xs ys)
+    either true xs ys a b = a
+    either false xs ys a b = b
 
 pub decimal_high : (n : ℕ) → All (λ b. 48 ≤ b) (decimal n)
 unfolding digits
@@ -92,12 +92,14 @@ json_plain text =
 json_tells : (a b xs ys : List ℕ) → text_json a ++ xs ≡ text_json b ++ ys → a ≡ b
 json_tells a b xs ys is = of (sym (content-escape a xs) ∙ ap (content plain) bodies ∙ content-escape b ys)
   where
-  front : (text rest : List ℕ) → text_json text ++ rest ≡ 34 ∷ (escape text ++ 34 ∷ rest)
-  front text rest = ap (λ l. l ++ rest) (json_is text) ∙ ap (λ l. 34 ∷ l) (append_assoc (escape text) (34 ∷ []) rest)
-  bodies : escape a ++ 34 ∷ xs ≡ escape b ++ 34 ∷ ys
-  bodies = tails 34 34 (escape a ++ 34 ∷ xs) (escape b ++ 34 ∷ ys) (sym (front a xs) ∙ is ∙ front b ys)
-  of : Some a ≡ Some b → a ≡ b
-  of same = cc
+    front : (text rest : List ℕ) → text_json text ++ rest ≡ 34 ∷ (escape text ++ 34 ∷ rest)
+    front text rest = ap (λ l. l ++ rest) (json_is text) ∙ ap (λ l. 34 ∷ l) (append_assoc (escape text) (34 ∷ []) rest)
+
+    bodies : escape a ++ 34 ∷ xs ≡ escape b ++ 34 ∷ ys
+    bodies = tails 34 34 (escape a ++ 34 ∷ xs) (escape b ++ 34 ∷ ys) (sym (front a xs) ∙ is ∙ front b ys)
+
+    of : Some a ≡ Some b → a ≡ b
+    of same = cc
 
 -- ---- the line
 
@@ -117,12 +119,14 @@ tail_ends rows serial =
     behind (codes ",\"rows\":") _ (printable_plain (codes ",\"rows\":") of_rows) (behind (decimal rows) _ (number rows)
     (behind (codes ",\"serial\":") _ (printable_plain (codes ",\"serial\":") of_serial) (behind (decimal serial) _ (number serial) (125 ∷ [], refl, printable_plain (125 ∷ []) brace))))
   where
-  of_rows : is_ascii_text (codes ",\"rows\":") ≡ true
-  of_rows = refl
-  of_serial : is_ascii_text (codes ",\"serial\":") ≡ true
-  of_serial = refl
-  brace : is_ascii_text (125 ∷ []) ≡ true
-  brace = refl
+    of_rows : is_ascii_text (codes ",\"rows\":") ≡ true
+    of_rows = refl
+
+    of_serial : is_ascii_text (codes ",\"serial\":") ≡ true
+    of_serial = refl
+
+    brace : is_ascii_text (125 ∷ []) ≡ true
+    brace = refl
 
 pub opened_ends : (line : ℕ) (party : List ℕ) (rows serial : ℕ) → (body : List ℕ) × (opened_line line party rows serial ≡ body ++ 10 ∷ []) × IsPlain body
 unfolding is_ascii_text
@@ -130,10 +134,11 @@ opened_ends line party rows serial =
     behind (codes "{\"done\":\"opened\",\"line\":") _ (printable_plain (codes "{\"done\":\"opened\",\"line\":") opened) (behind (decimal line) _ (number line) (behind (codes ",\"party\":") _ (printable_plain (codes ",\"party\":") of_party)
     (behind (text_json party) _ (json_plain party) (tail_ends rows serial))))
   where
-  opened : is_ascii_text (codes "{\"done\":\"opened\",\"line\":") ≡ true
-  opened = refl
-  of_party : is_ascii_text (codes ",\"party\":") ≡ true
-  of_party = refl
+    opened : is_ascii_text (codes "{\"done\":\"opened\",\"line\":") ≡ true
+    opened = refl
+
+    of_party : is_ascii_text (codes ",\"party\":") ≡ true
+    of_party = refl
 
 pub opened_long : (line : ℕ) (party : List ℕ) (rows serial : ℕ) → opened_line line party rows serial ≢ 10 ∷ []
 opened_long line party rows serial is =
@@ -155,9 +160,10 @@ front_tells : (a b : ℕ) (p q xs ys : List ℕ) → a ≤ max_whole → b ≤ m
     → (a ≡ b) × (p ≡ q)
 front_tells a b p q xs ys small low is =
     let numbers = behind_front (codes "{\"done\":\"opened\",\"line\":") (decimal a ++ (codes ",\"party\":" ++ (text_json p ++ xs))) (decimal b ++ (codes ",\"party\":" ++ (text_json q ++ ys))) is in
-    let cut = same_cut 44 (decimal a) (decimal b) (codes "\"party\":" ++ (text_json p ++ xs)) (codes "\"party\":" ++ (text_json q ++ ys)) (decimal_without 44 a (omega arith)) (decimal_without 44 b (omega arith)) numbers in
-    (decimal_injective a b (omega (arith, small)) (omega (arith, low)) cut.0,
-    json_tells p q xs ys (behind_front (codes "\"party\":") (text_json p ++ xs) (text_json q ++ ys) cut.1))
+    let cut = same_cut 44 (decimal a) (decimal b) (codes "\"party\":" ++ (text_json p ++ xs)) (codes "\"party\":" ++ (text_json q ++ ys)) (decimal_without 44 a (omega arith)) (decimal_without 44 b (omega arith)) numbers in (
+      decimal_injective a b (omega (arith, small)) (omega (arith, low)) cut.0,
+      json_tells p q xs ys (behind_front (codes "\"party\":") (text_json p ++ xs) (text_json q ++ ys) cut.1),
+    )
 
 joined_behind : (a d b j t m : List ℕ) → (a ++ (d ++ (b ++ (j ++ t)))) ++ m ≡ a ++ (d ++ (b ++ (j ++ (t ++ m))))
 joined_behind a d b j t m =
@@ -168,12 +174,14 @@ pub opened_tells : (a b : ℕ) (p q : List ℕ) (r s u v : ℕ) (piece missing :
 opened_tells a b p q r s u v piece missing small low whole cut =
     front_tells a b p q (e.0 ++ missing) (tail_of_line u v) small low (sym (rejoined missing) ∙ ap (λ l. l ++ missing) piece_is ∙ sym cut)
   where
-  e : (body : List ℕ) × (tail_of_line r s ≡ body ++ 10 ∷ []) × IsPlain body
-  e = tail_ends r s
-  rejoined : (m : List ℕ) → (codes "{\"done\":\"opened\",\"line\":" ++ (decimal a ++ (codes ",\"party\":" ++ (text_json p ++ e.0)))) ++ m
-      ≡ codes "{\"done\":\"opened\",\"line\":" ++ (decimal a ++ (codes ",\"party\":" ++ (text_json p ++ (e.0 ++ m))))
-  rejoined m = joined_behind (codes "{\"done\":\"opened\",\"line\":") (decimal a) (codes ",\"party\":") (text_json p) e.0 m
-  piece_is : codes "{\"done\":\"opened\",\"line\":" ++ (decimal a ++ (codes ",\"party\":" ++ (text_json p ++ e.0))) ≡ piece
-  piece_is =
-      last_is (codes "{\"done\":\"opened\",\"line\":" ++ (decimal a ++ (codes ",\"party\":" ++ (text_json p ++ e.0)))) piece 10 10
-      (rejoined (10 ∷ []) ∙ ap (λ t. codes "{\"done\":\"opened\",\"line\":" ++ (decimal a ++ (codes ",\"party\":" ++ (text_json p ++ t)))) (sym e.1) ∙ whole)
+    e : (body : List ℕ) × (tail_of_line r s ≡ body ++ 10 ∷ []) × IsPlain body
+    e = tail_ends r s
+
+    rejoined : (m : List ℕ) → (codes "{\"done\":\"opened\",\"line\":" ++ (decimal a ++ (codes ",\"party\":" ++ (text_json p ++ e.0)))) ++ m
+        ≡ codes "{\"done\":\"opened\",\"line\":" ++ (decimal a ++ (codes ",\"party\":" ++ (text_json p ++ (e.0 ++ m))))
+    rejoined m = joined_behind (codes "{\"done\":\"opened\",\"line\":") (decimal a) (codes ",\"party\":") (text_json p) e.0 m
+
+    piece_is : codes "{\"done\":\"opened\",\"line\":" ++ (decimal a ++ (codes ",\"party\":" ++ (text_json p ++ e.0))) ≡ piece
+    piece_is =
+        last_is (codes "{\"done\":\"opened\",\"line\":" ++ (decimal a ++ (codes ",\"party\":" ++ (text_json p ++ e.0)))) piece 10 10
+        (rejoined (10 ∷ []) ∙ ap (λ t. codes "{\"done\":\"opened\",\"line\":" ++ (decimal a ++ (codes ",\"party\":" ++ (text_json p ++ t)))) (sym e.1) ∙ whole)

@@ -37,13 +37,15 @@ spelled_so : (s t : List ℕ) → party_at s ≡ Ok t → t ≡ s
 unfolding party_at
 spelled_so s t is = of (is_party_shape s) refl
   where
-  shaped : is_party_shape s ≡ true → t ≡ s
-  shaped shape = ci_text_is 6 s t (sym (party_by_shape s shape) ∙ is)
-  other : is_party_shape s ≡ false → party_at s ≡ Err TooLong
-  other shape = rw shape refl
-  of : (b : Bool) → is_party_shape s ≡ b → t ≡ s
-  of true shape = shaped shape
-  of false shape = absurd (let bad : Err TooLong ≡ Ok t = sym (other shape) ∙ is in cc)
+    shaped : is_party_shape s ≡ true → t ≡ s
+    shaped shape = ci_text_is 6 s t (sym (party_by_shape s shape) ∙ is)
+
+    other : is_party_shape s ≡ false → party_at s ≡ Err TooLong
+    other shape = rw shape refl
+
+    of : (b : Bool) → is_party_shape s ≡ b → t ≡ s
+    of true shape = shaped shape
+    of false shape = absurd (let bad : Err TooLong ≡ Ok t = sym (other shape) ∙ is in cc)
 
 module _ {X : Type 0} (P : Data → X → Type 0) where
   item_form : (ds : Items) (xs : List X) → AreItems P ds xs → (x : X) → Contains xs x → (d : Data) × P d x

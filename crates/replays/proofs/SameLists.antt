@@ -25,7 +25,7 @@ module _ {X : Type 0} where
   no_more (x ∷ xs) ys apart within =
       let p = parts ys x (within x (in_front x xs)) in
       let rest = no_more xs (p.0 ++ p.1) (later_pairs (λ a b. a ≢ b) x xs apart) (λ y there. beside p.0 p.1 x y
-        (All-contains (λ b. x ≢ b) xs y (first_pairs (λ a b. a ≢ b) x xs apart) there) (subst (λ l. Contains l y) p.2 (within y (in_later x xs y there)))) in
+      (All-contains (λ b. x ≢ b) xs y (first_pairs (λ a b. a ≢ b) x xs apart) there) (subst (λ l. Contains l y) p.2 (within y (in_later x xs y there)))) in
       let a = length-append p.0 p.1 in
       let b = length-append p.0 (x ∷ p.1) in
       let c = ap length p.2 in

@@ -53,18 +53,18 @@ module _ (rows others : List Row) (n : NodeState) (of_one : AreNodeRows rows n) 
   pub same_count : length rows ≡ length others
   same_count = same_length rows others (differ rows (apart rows n of_one)) (differ others (apart others n of_other)) same_elements
     where
-    differ : (list : List Row) → AreApart list → AllPairs (λ a b. a ≢ b) list
-    differ list so i j d below within is = so i j d below within (ap key_of is)
+      differ : (list : List Row) → AreApart list → AllPairs (λ a b. a ≢ b) list
+      differ list so i j d below within is = so i j d below within (ap key_of is)
 
   -- and what has the rows of the one has those of the other
   pub of_others : (m : NodeState) → AreNodeRows rows m → AreNodeRows others m
   of_others m are = are_rows others m (λ r. of r) (apart others n of_other)
     where
-    of : (r : Row) → Contains others r ↔ HasNodeRow m r
-    of r =
-        let a = same_elements r in
-        let b = listed rows m are r in
-        ((λ there. b.0 (a.1 there)), (λ has. a.0 (b.1 has)))
+      of : (r : Row) → Contains others r ↔ HasNodeRow m r
+      of r =
+          let a = same_elements r in
+          let b = listed rows m are r in
+          ((λ there. b.0 (a.1 there)), (λ has. a.0 (b.1 has)))
 
 -- ---- a node that is made of rows
 
