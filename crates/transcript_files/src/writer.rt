@@ -95,12 +95,14 @@ impl<F: SyncedWrite, W: Write> TranscriptWriter<F, W> {
 
     /// Writes these bytes to the output, and notes where that does not take them all.
     fn tell(&mut self, bytes: &[u8])
+        requires { self.old.is_cut ≡ false }
         ensures file { self.new.file ≡ self.old.file }
         ensures told { Tells self.new.is_cut (W.contents self.old.output) (W.contents self.new.output) bytes.now }
         ensures part { self.new.part ≡ self.old.part }
     {
-        if write_whole(&mut self.output, bytes).is_err() {
-            self.is_cut = true;
+        match write_whole(&mut self.output, bytes) {
+            Ok(()) => {}
+            Err(_) => self.is_cut = true,
         }
     }
 
