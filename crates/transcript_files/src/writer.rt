@@ -1,6 +1,7 @@
 //! What is written goes to the file, and to the output what is an answer.
 
-ghost use Rattle.std.specs.Prelude.{◌≡◌, ◌≢◌, ℕ, ◌<◌, None, true, false, take, IfOk, IsErr, OnErr, OnOk};
+ghost use Rattle.std.specs.Prelude.{◌≡◌, ◌≢◌, ℕ, ◌<◌, None, Some, true, false, take, IfErr, IfOk, IsErr, OnErr, OnOk};
+ghost use Rattle.std.specs.IoError.{error_kind};
 ghost use Rattle.std.specs.Io.{WritesAtMost};
 ghost use Rattle.std.specs.Io.KnownBytes.{Keeps, WriteAppends};
 ghost use Rattle.transcript_files.specs.Parts.{Tells, is_told, part_after, part_flushed};
@@ -57,7 +58,7 @@ impl<F, W> TranscriptWriter<F, W> {
         ensures output { self.new.output ≡ self.old.output }
         ensures part { self.new.part ≡ self.old.part }
         ensures cut { self.new.is_cut ≡ self.old.is_cut }
-        ensures written { self.new.fault ≡ None → (kind ≡ ErrorKind.Interrupted) × (self.old.fault ≡ None) }
+        ensures noted { kind ≢ ErrorKind.Interrupted → self.new.fault ≡ Some kind }
     {
         if kind != ErrorKind::Interrupted {
             self.fault = Some(kind);
@@ -78,6 +79,8 @@ impl<F: SyncedWrite, W: Write> TranscriptWriter<F, W> {
         ensures output { self.new.output ≡ self.old.output }
         ensures part { self.new.part ≡ self.old.part }
         ensures cut { self.new.is_cut ≡ self.old.is_cut }
+        ensures written { IfOk result (λ n. 0 < n → self.new.fault ≡ self.old.fault) }
+        ensures unwritten { IfErr result (λ e. error_kind e ≢ ErrorKind.Interrupted → self.new.fault ≡ Some (error_kind e)) }
     {
         match self.file.write(bytes) {
             Ok(count) => {
@@ -99,6 +102,7 @@ impl<F: SyncedWrite, W: Write> TranscriptWriter<F, W> {
         ensures file { self.new.file ≡ self.old.file }
         ensures told { Tells self.new.is_cut (W.contents self.old.output) (W.contents self.new.output) bytes.now }
         ensures part { self.new.part ≡ self.old.part }
+        ensures fault { self.new.fault ≡ self.old.fault }
     {
         match write_whole(&mut self.output, bytes) {
             Ok(()) => {}
@@ -113,6 +117,8 @@ impl<F: SyncedWrite, W: Write> TranscriptWriter<F, W> {
         ensures output { self.new.output ≡ self.old.output }
         ensures part { self.new.part ≡ self.old.part }
         ensures cut { self.new.is_cut ≡ self.old.is_cut }
+        ensures written { OnOk result (self.new.fault ≡ self.old.fault) }
+        ensures unsynced { IfErr result (λ e. self.new.fault ≡ Some (error_kind e)) }
     {
         match self.file.sync() {
             Ok(()) => Ok(()),
@@ -138,6 +144,8 @@ impl<F: SyncedWrite, W: Write> Write for TranscriptWriter<F, W> {
         ensures part { IfOk result (λ n. 0 < n → self.new.part ≡ part_after self.old.part buf.now) }
         ensures refused { OnErr result ((self.new.output ≡ self.old.output) × (self.new.part ≡ self.old.part)) }
         ensures stopped { self.old.is_cut ≡ true → IsErr result × (self.new ≡ self.old) }
+        ensures written { IfOk result (λ n. 0 < n → self.new.fault ≡ self.old.fault) }
+        ensures unwritten { IfErr result (λ e. self.old.is_cut ≡ false → error_kind e ≢ ErrorKind.Interrupted → self.new.fault ≡ Some (error_kind e)) }
     {
         if self.is_cut {
             return Err(cut());
@@ -163,6 +171,9 @@ impl<F: SyncedWrite, W: Write> Write for TranscriptWriter<F, W> {
         ensures part { OnOk result (self.new.part ≡ part_flushed self.old.part) }
         ensures refused { OnErr result (self.new.part ≡ self.old.part) }
         ensures stopped { self.old.is_cut ≡ true → IsErr result × (self.new ≡ self.old) }
+        ensures written { OnOk result (self.new.fault ≡ self.old.fault) }
+        ensures unsynced { IfErr result (λ e. self.old.is_cut ≡ false → self.old.part ≡ Echoed → self.new.fault ≡ Some (error_kind e)) }
+        ensures unflushed { OnErr result (self.old.part ≢ Echoed → self.new.fault ≡ self.old.fault) }
     {
         if self.is_cut {
             return Err(cut());
