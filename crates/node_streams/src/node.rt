@@ -22,7 +22,7 @@ use transcript_files::{TranscriptWriter, open_transcript};
 pub fn run_node_word(rt: &HostRuntime, seed: HashSeed, words: &NodeWords<'_>) -> u8 {
     match words.transcript {
         None => run_and_report(rt, seed, words, None),
-        Some(path) => match open_transcript(rt, path) {
+        Some(path) => match open_transcript(rt, path, words.store) {
             Ok(file) => run_and_report(rt, seed, words, Some(file)),
             Err(error) => report_unopened(rt, path, error.kind()),
         },

@@ -194,6 +194,7 @@ pub(crate) fn words_for_unopened(kind: ErrorKind) -> &'static str {
             "its folder does not exist: create it first"
         }
         ErrorKind::IsADirectory => "it is a folder: name a file",
+        ErrorKind::AlreadyExists => "it is the store: name a file of its own",
         ErrorKind::PermissionDenied | ErrorKind::ReadOnlyFilesystem => {
             "no permission: the file must be writable, and its folder readable and writable"
         }

@@ -2,7 +2,7 @@
 //! without an echo writes.
 //!
 //! ```
-//! let file = open_transcript(rt, path)?;
+//! let file = open_transcript(rt, path, store)?;
 //! let mut writer = TranscriptWriter::new(file, output);
 //! let ran = run_node(alloc, seed, &mut input, &mut writer, party, true, keeps, kept);
 //! let unwritten = writer.unwritten();
