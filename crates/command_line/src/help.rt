@@ -168,11 +168,11 @@ Example, after `ocpi_nodes play --store stores`:
 
 /// After the help of `weave`.
 pub const WEAVE: &str =
-    r#"Input: each FILE is a transcript, all that `node PARTY --transcript FILE` read and printed for one
-  node, or `node PARTY --echo` printed.
-  Several runs over one store stand in it one behind the other, wherever they were stopped. The first
-  is over a store without rows; or, behind --store STORE, over STORE, a copy of it that was made
-  before, while no program had it open. The parties differ. Standard input is not read.
+    r#"Input: each FILE is a transcript, all that a node read and printed: `node PARTY --transcript FILE`
+  wrote it, or `node PARTY --echo` printed it. Several runs over one store stand in it one behind the
+  other, wherever they were stopped. The first is over a store without rows; or, behind --store STORE,
+  over STORE, a copy of it that was made before, while no program had it open. The parties differ.
+  Standard input is not read.
   What a party sent that --given names is taken as it was received; it has no FILE. PARTY is one of
   the setups, in any case. Give --given once for each such party.
 
