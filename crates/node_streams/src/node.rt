@@ -15,7 +15,7 @@ use std::alloc::Global;
 use std::fs::File;
 use std::io::{self, BufRead, BufReader, Write};
 use tables::HashSeed;
-use transcript_files::{TranscriptWriter, open_transcript};
+use transcript_files::{SyncedWrite, TranscriptWriter, open_transcript};
 
 /// Runs one node, says what stopped it, and answers the exit status. Where its transcript cannot be opened, nothing is
 /// read.
@@ -137,8 +137,8 @@ fn run_over<S: Keeps + Drop>(
     }
 }
 
-/// Runs a node on what a reader gives. What it prints goes to the standard output, and to its transcript too, where it
-/// has one, each line before.
+/// Runs a node on what a reader gives. What it prints goes to the standard output. Where it has a transcript, that gets
+/// each line too, and the same.
 fn run_from<R: BufRead + Drop, S: Keeps + Drop>(
     rt: &HostRuntime,
     seed: HashSeed,
@@ -151,20 +151,50 @@ fn run_from<R: BufRead + Drop, S: Keeps + Drop>(
 ) -> Result<Ran, NodeRunFault> {
     let output = WatchedWriter::new(io::writer(rt), watch);
     match transcript {
-        Some(file) => {
-            let mut writer = TranscriptWriter::new(file, output);
-            let ran = run_to(rt.alloc(), seed, words, reader, &mut writer, keeps, besides);
-            besides.unwritten = writer.unwritten();
-            drop(writer);
-            ran
-        }
-        None => {
-            let mut writer = output;
-            let ran = run_to(rt.alloc(), seed, words, reader, &mut writer, keeps, besides);
-            drop(writer);
-            ran
-        }
+        Some(file) => run_recorded(
+            rt.alloc(),
+            seed,
+            words,
+            reader,
+            TranscriptWriter::new(file, output),
+            keeps,
+            besides,
+        ),
+        None => run_printed(rt.alloc(), seed, words, reader, output, keeps, besides),
     }
+}
+
+/// Runs a node on what a reader gives to its transcript and to the output behind that.
+fn run_recorded<R: BufRead + Drop, F: SyncedWrite + Drop, W: Write + Drop, S: Keeps + Drop>(
+    alloc: Global,
+    seed: HashSeed,
+    words: &NodeWords<'_>,
+    reader: R,
+    writer: TranscriptWriter<F, W>,
+    keeps: S,
+    besides: &mut Besides,
+) -> Result<Ran, NodeRunFault> {
+    let mut writer = writer;
+    let ran = run_to(alloc, seed, words, reader, &mut writer, keeps, besides);
+    besides.unwritten = writer.unwritten();
+    drop(writer);
+    ran
+}
+
+/// Runs a node on what a reader gives to an output.
+fn run_printed<R: BufRead + Drop, W: Write + Drop, S: Keeps + Drop>(
+    alloc: Global,
+    seed: HashSeed,
+    words: &NodeWords<'_>,
+    reader: R,
+    output: W,
+    keeps: S,
+    besides: &mut Besides,
+) -> Result<Ran, NodeRunFault> {
+    let mut output = output;
+    let ran = run_to(alloc, seed, words, reader, &mut output, keeps, besides);
+    drop(output);
+    ran
 }
 
 /// Runs a node on what a reader gives to a writer, and closes the keeper of its rows.
