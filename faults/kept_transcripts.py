@@ -19,8 +19,8 @@ def make_noter(folder):
 class Transcript:
     """The file of the transcript of one node, which `weave` must read behind each stop.
 
-    Behind a stop the file is cut where the last sync of it ended well, or at any byte behind that. The store stays as it
-    was left, so it may have all that the file lost.
+    Behind a stop the file is cut where the last sync of it ended well, or at any byte behind that. The store stays as
+    it was left, so it may have all that the file lost.
     """
 
     def __init__(self, program, folder, others, seed):

@@ -39,7 +39,8 @@ only those lines are counted that were seen to send packets in more than one run
 some. (PROGRAM may be one from before the numbers: no setup line has one.)
 
 A try of a minute: `--runs 4 --stops 5 --events 200`. Standard error has a line for each run. The last three lines of
-the output, or four with --transcript, tell the stops that passed, how they came, and what they cost. The status is 0 where all passed.
+the output, or four with --transcript, tell the stops that passed, how they came, and what they cost. The status is 0
+where all passed.
 """
 
 import argparse
@@ -500,7 +501,7 @@ def options():
     words.add_argument("--most", type=int, default=1, help="how many events a line has at most")
     words.add_argument("--seed", type=int, default=1)
     words.add_argument("--folder", help="where the stores lie that are killed (its disk is the one that is tried)")
-    words.add_argument("--transcript", action="store_true", help="keep transcripts in files, which are cut at each stop")
+    words.add_argument("--transcript", action="store_true", help="keep transcripts in files, and cut them at each stop")
     words.add_argument("--old-rule", action="store_true", help="feed on by the rule for lines without numbers")
     given = words.parse_args()
     given.program = os.path.abspath(given.program)

@@ -71,9 +71,9 @@ pub struct FileWords<'a> {
 }
 
 /// Takes the command line `ocpi_nodes [answer | play [--store DIR] | node PARTY [--store FILE [--existing]]
-/// [--echo | --transcript FILE] | settle FILE | weave [--given PARTY].. [[--store STORE] FILE].. | help [COMMAND]]`, the
-/// first three also with `--explain` and `--strict`, or gives clap's text: the help or the version that was asked for,
-/// or what is wrong.
+/// [--echo | --transcript FILE] | settle FILE | weave [--given PARTY].. [[--store STORE] FILE].. | help [COMMAND]]`,
+/// the first three also with `--explain` and `--strict`, or gives clap's text: the help or the version that was asked
+/// for, or what is wrong.
 pub fn take_words<'a>(alloc: Global, words: &'a [String]) -> Result<Word<'a>, Error> {
     let command = program(alloc)?;
     let matches = command.try_get_matches_from(words)?;
