@@ -46,7 +46,7 @@ def main(program: str, party: str, store: str, lines: str) -> int:
         else:
             changed = said["line"] if said["done"] == "stepped" else changed
             if "event" not in said:
-                seen = said["line"]
+                seen = max(seen, said["line"])
                 note(noted, seen, changed)
     return node.wait()
 

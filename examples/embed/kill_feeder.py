@@ -3,12 +3,14 @@
 
 It feeds a day of an operator. At each packet it is killed once alone, and once with its node, which is then killed too.
 It is run again until all lines have their `done`. Then no packet was sent twice, and the rows are those of a day that
-nobody stopped, but for the serial of the last packet. The last line is 'N of M stops were as wanted'.
+nobody stopped, but for the serial of the last packet. At the end it gets an older copy of its store, and must feed
+nothing. The last line is 'N of M stops were as wanted'.
 """
 import contextlib
 import json
 import os
 import pathlib
+import shutil
 import signal
 import sqlite3
 import subprocess
@@ -63,6 +65,22 @@ def day(program: str, stop: int, signal_all: bool) -> tuple[bool, int, list[tupl
         return seen[0] == str(lines) and len(sent) == len(set(sent)), len(sent), rows_of(folder)
 
 
+def refuses_older_copy(program: str) -> bool:
+    """Whether the feeder feeds nothing over a copy that was made before the last lines took hold."""
+    with tempfile.TemporaryDirectory() as folder:
+        store, lines = f"{folder}/be.db", pathlib.Path(f"{folder}/lines")
+        write_day(str(lines))
+        day = lines.read_text(encoding="utf-8").splitlines(keepends=True)
+        lines.write_text("".join(day[:4]), encoding="utf-8")
+        feed(program, folder, 0, False)
+        shutil.copy(store, f"{folder}/copy.db")
+        lines.write_text("".join(day), encoding="utf-8")
+        feed(program, folder, 0, False)
+        shutil.copy(f"{folder}/copy.db", store)
+        status, sent = feed(program, folder, 0, False)
+        return status == 1 and not sent
+
+
 def main(program: str) -> int:
     is_right, packets, wanted = day(program, 0, False)
     stops = [(stop, signal_all) for stop in range(1, packets + 1) for signal_all in (False, True)]
@@ -70,8 +88,10 @@ def main(program: str) -> int:
     for stop, signal_all in stops:
         is_well, _, rows = day(program, stop, signal_all)
         passed += is_well and rows == wanted
+    refused = refuses_older_copy(program)
+    print(f"an older copy of the store was {'refused' if refused else 'FED'}")
     print(f"{passed} of {len(stops)} stops were as wanted")
-    return 0 if is_right and passed == len(stops) > 0 else 1
+    return 0 if is_right and refused and passed == len(stops) > 0 else 1
 
 
 if __name__ == "__main__":

@@ -37,7 +37,7 @@ le_same : (a b : ℕ) → a ≤ b → b ≤ a → a ≡ b
 le_same a b low high = omega (arith, low, high)
 
 -- two lists that end alike are alike in front
-ends_alike : {X : Type 0} (ys xs : List X) (y x : X) → ys ++ y ∷ [] ≡ xs ++ x ∷ [] → (ys ≡ xs) × (y ≡ x)
+pub ends_alike : {X : Type 0} (ys xs : List X) (y x : X) → ys ++ y ∷ [] ≡ xs ++ x ∷ [] → (ys ≡ xs) × (y ≡ x)
 ends_alike [] [] y x same = (refl, cc same)
 ends_alike [] (a ∷ []) y x same = absurd (cc same)
 ends_alike [] (a ∷ b ∷ xs) y x same = absurd (cc same)
@@ -47,16 +47,16 @@ ends_alike (a ∷ ys) (b ∷ xs) y x same =
     let r = ends_alike ys xs y x (cc same) in
     (cc (same, r.0), r.1)
 
-no_end : {X : Type 0} (xs : List X) (x : X) → xs ++ x ∷ [] ≡ [] → ⊥
+pub no_end : {X : Type 0} (xs : List X) (x : X) → xs ++ x ∷ [] ≡ [] → ⊥
 no_end [] x is = cc is
 no_end (y ∷ ys) x is = cc is
 
-in_front : {X : Type 0} (xs ys : List X) (i : ℕ) (x : X) → slice_get xs i ≡ Some x → slice_get (xs ++ ys) i ≡ Some x
+pub in_front : {X : Type 0} (xs ys : List X) (i : ℕ) (x : X) → slice_get xs i ≡ Some x → slice_get (xs ++ ys) i ≡ Some x
 in_front [] ys i x is = absurd (cc is)
 in_front (a ∷ xs) ys zero x is = is
 in_front (a ∷ xs) ys (suc i) x is = in_front xs ys i x is
 
-at_end : {X : Type 0} (xs : List X) (x : X) → slice_get (xs ++ x ∷ []) (length xs) ≡ Some x
+pub at_end : {X : Type 0} (xs : List X) (x : X) → slice_get (xs ++ x ∷ []) (length xs) ≡ Some x
 at_end [] x = refl
 at_end (a ∷ xs) x = at_end xs x
 

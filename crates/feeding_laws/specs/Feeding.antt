@@ -18,8 +18,9 @@ pub record Held : Type 0 where
 abbrev pub AreBehind : (ℕ → List ℕ) → ℕ → List (List ℕ) → Type 0
 AreBehind lines base read = (i : ℕ) (line : List ℕ) → slice_get read i ≡ Some line → line ≡ lines (suc (base + i))
 
--- What a run leaves that answered lines up to the number `last`, and then had this node: its rows, and the number of the
--- last line that changed any; or those behind the whole of the next line, which was carried out, or may have been.
+-- What a run leaves that answered lines up to the number `last`, and then had this node: its rows, and the number of
+-- the last line that changed any; or those behind the whole of the next line, which was carried out, or may have
+-- been.
 pub data Leaves (party : List ℕ) (lines : ℕ → List ℕ) (known last : ℕ) (did : List Numbered) (now : NodeState) (left : Held) : List ℕ → Type 0 where
   Behind : (changed : List ℕ) → Changed known did changed left.line → restarted left.state ≡ restarted now → Leaves party lines known last did now left changed
   One_more : (changed : List ℕ) (before : ℕ) → Changed known did changed before → suc known ≤ suc last
@@ -34,9 +35,9 @@ pub record Ran (party : List ℕ) (lines : ℕ → List ℕ) (found : Held) (bas
   pub carries : Carries party found.line base (restarted found.state) read did now
   pub leaves : Leaves party lines found.line (base + length read) did now left changed
 
--- Runs one after another, each over what the one before left. The first is told 1; each other is told at most the number
--- of the last line that the one before answered, which is that of the last `done` that its feeder can have seen. The
--- numbers are those of the lines by which rows were changed, in the order in which that was done.
+-- Runs one after another, each over what the one before left. The first is told 1; each other is told at most the
+-- number of the last line that the one before answered, which is that of the last `done` that its feeder can have
+-- seen. The numbers are those of the lines by which rows were changed, in the order in which that was done.
 pub data AreRuns (party : List ℕ) (lines : ℕ → List ℕ) (first : Held) : ℕ → List ℕ → Held → Type 0 where
   none_ran : AreRuns party lines first 1 [] first
   one_ran : {seen base : ℕ} {before changed : List ℕ} {found left : Held} {read : List (List ℕ)} → AreRuns party lines first seen before found

@@ -2,13 +2,21 @@
 //!
 //! # Promises
 //!
-//! - A run is told the number of a line, and is fed those behind it. What is kept at any end are the rows of a node to
-//!   which each line came once and in order, with restarts between: up to the last line that was answered, and up to
-//!   the last that took hold. By law `feeding_is_exact` (`IsExact` of `specs/Feeding`).
-//! - No line changes rows twice, in whichever runs it is fed. So what a line sent was sent by one run alone. By the same:
-//!   `once`.
-//! - A run stops between two lines, or at one that was carried out or was not. That each run of `node` is such a run is
-//!   told by the laws of `node_runs`: `runs_are_histories`, `two_runs_are_one`, `lost_lines_go_on`.
+//! - A run is told the number of a line, and is fed those behind it. What is kept at any end are the rows of a node
+//!   to which each line came once and in order, with restarts between: up to the last line that was answered, and up
+//!   to the last that took hold. By law `feeding_is_exact` (`IsExact` of `specs/Feeding`).
+//! - No line changes rows twice, in whichever runs it is fed. So what a line sent was sent by one run alone. By the
+//!   same: `once`.
+//! - Each run of `run_node` that is fed so is such a run, wherever it ends: with its input, which may end within a
+//!   line; at a line, for want of memory or because its commit is refused; or where reading or writing fails. This is
+//!   of the node's store: of what its keeper keeps at the end, and of what a stop leaves of that. By law
+//!   `runs_are_fed` (`FedRun` of `specs/Fed`), from the clauses `output`, `node` and `begun` of `run_node`.
+//! - What such a run writes tells of no line that was fed to its end, behind those that it answered. So a feeder has
+//!   seen the `done` of none. By the same: `tells`.
+//! - Such runs over one store, each over what the one before left, leave each line once and in order. By law
+//!   `fed_runs_are_exact`.
+//! - One case is open: where a run ends at a line that had taken hold before it, `run_node` does not tell that
+//!   nothing was carried out (`Known_again` of `specs/Fed`). By reading: it reads no such line.
 #![tactic(auto)]
 
 pub mod laws;

@@ -62,15 +62,15 @@ pub enters_both : (place : ℕ) (line : List ℕ) (xs ys : List Placed) (first m
     → Enters place (came_by line (xs ++ ys)) first last
 enters_both place line xs ys first middle last one two = record {
   entries = two.entries ∙ ap (λ l. l ++ entries_behind (came_by line ys)) one.entries ∙ append_assoc first.entries.items (entries_behind (came_by line xs)) (entries_behind (came_by line ys))
-    ∙ ap (λ l. first.entries.items ++ l) (sym (behind_joined line xs (came_by line ys)) ∙ ap entries_behind (sym (came_joined line xs ys)));
+      ∙ ap (λ l. first.entries.items ++ l) (sym (behind_joined line xs (came_by line ys)) ∙ ap entries_behind (sym (came_joined line xs ys)));
   added = one.added ++ two.added;
   sources = two.sources ∙ ap (λ l. l ++ two.added) one.sources ∙ append_assoc first.sources.items one.added two.added;
   from = subst (λ l. AreSourcesOf place l (one.added ++ two.added)) (sym (came_joined line xs ys))
-    (sources_join place place (came_by line xs) (came_by line ys) one.added two.added one.from (count (no_openings line xs)) two.from);
+      (sources_join place place (came_by line xs) (came_by line ys) one.added two.added one.from (count (no_openings line xs)) two.from);
 }
   where
-  count : openings_in (came_by line xs) ≡ [] → place + length (openings_in (came_by line xs)) ≡ place
-  count none = let size = ap length none in omega (arith, size)
+    count : openings_in (came_by line xs) ≡ [] → place + length (openings_in (came_by line xs)) ≡ place
+    count none = let size = ap length none in omega (arith, size)
 
 -- ---- the last line that took hold
 
@@ -91,8 +91,8 @@ last_by true (c ∷ cs) last number tells = refl
 last_by false [] last number tells = refl
 last_by false (c ∷ cs) last number tells = absurd (no_truth (tells.1 (λ none. some none)))
   where
-  some : c ∷ cs ≡ [] → ⊥
-  some none = let size = ap length none in omega (arith, size)
+    some : c ∷ cs ≡ [] → ⊥
+    some none = let size = ap length none in omega (arith, size)
 
 -- ---- whether the storing of an event was refused
 
@@ -161,54 +161,56 @@ module _ (before after : Running) (number : ℕ) (place : Option ℕ) (read : Re
         → EventDone before after number place read element text_before text_after first last
     stepped packets changed text leads bytes written kept same entries sources = by leads.step leads.tells leads.own
       where
-      from : (line : List ℕ) (p : Placed) → p.place ≡ place → IsTextAt line place element → AreSourcesOf (suc before.opening) (Came line p ∷ []) (Echoed before.opening text ∷ [])
-      from line p where_so at = (refl, subst (λ l. IsTextAt line p.place l) (sym bytes) (subst (λ o. IsTextAt line o element) (sym where_so) at), tt)
-      by : (step : EntryStep before.node (record { event = x.kind; packets = packets }) after.node)
-          → (IsTrue changed ↔ ChangesRows step) → (Passes before.node x.kind → ⊥) → EventDone before after number place read element text_before text_after first last
-      by (Does deed did) tells own_role = record {
-        taken = true;
-        out = packet_lines (packets_of deed) ++ step_line number place (packets_of deed) changed;
-        did = deed ∷ [];
-        turns = λ party e. answer.WasDone x (its_own party e) deed did.brings did.step changed tells refl refl refl;
-        written = written ∙ ap (λ l. text_before ++ (packet_lines l ++ step_line number place l changed)) did.sends;
-        last = kept ∙ last_by changed (changes_of deed) before.last number tells ∙ ap (λ l. last_behind l before.last number) (sym (one_changed deed));
-        same = same;
-        enters = λ party e line at. record {
-          entries = entries ∙ ap (λ l. first.entries.items ++ record { event = x.kind; packets = l } ∷ []) did.sends;
-          added = Echoed before.opening text ∷ [];
-          sources = sources;
-          from = from line (record { place = place; entry = record { event = x.kind; packets = packets_of deed } }) refl at;
-        };
-      }
-      by (Idle idle) tells own_role = record {
-        taken = true;
-        out = idle_line number place;
-        did = [];
-        turns = λ party e. answer.WasUnstored x (its_own party e) stored refl refl refl idle.same;
-        written = written ∙ ap₂ (λ l b. text_before ++ (packet_lines l ++ step_line number place l b)) idle.sends unchanged;
-        last = kept ∙ ap (λ b. cond b number before.last) unchanged;
-        same = same;
-        enters = λ party e line at. record {
-          entries = entries ∙ ap (λ l. first.entries.items ++ record { event = x.kind; packets = l } ∷ []) idle.sends;
-          added = Echoed before.opening text ∷ [];
-          sources = sources;
-          from = from line (record { place = place; entry = record { event = x.kind; packets = [] } }) refl at;
-        };
-      }
-        where
-        stored : x.kind ≡ event.Refused
-        stored = of (is_refused x.kind) idle.why
+        from : (line : List ℕ) (p : Placed) → p.place ≡ place → IsTextAt line place element → AreSourcesOf (suc before.opening) (Came line p ∷ []) (Echoed before.opening text ∷ [])
+        from line p where_so at = (refl, subst (λ l. IsTextAt line p.place l) (sym bytes) (subst (λ o. IsTextAt line o element) (sym where_so) at), tt)
+
+        by : (step : EntryStep before.node (record { event = x.kind; packets = packets }) after.node)
+            → (IsTrue changed ↔ ChangesRows step) → (Passes before.node x.kind → ⊥) → EventDone before after number place read element text_before text_after first last
+        by (Does deed did) tells own_role = record {
+          taken = true;
+          out = packet_lines (packets_of deed) ++ step_line number place (packets_of deed) changed;
+          did = deed ∷ [];
+          turns = λ party e. answer.WasDone x (its_own party e) deed did.brings did.step changed tells refl refl refl;
+          written = written ∙ ap (λ l. text_before ++ (packet_lines l ++ step_line number place l changed)) did.sends;
+          last = kept ∙ last_by changed (changes_of deed) before.last number tells ∙ ap (λ l. last_behind l before.last number) (sym (one_changed deed));
+          same = same;
+          enters = λ party e line at. record {
+            entries = entries ∙ ap (λ l. first.entries.items ++ record { event = x.kind; packets = l } ∷ []) did.sends;
+            added = Echoed before.opening text ∷ [];
+            sources = sources;
+            from = from line (record { place = place; entry = record { event = x.kind; packets = packets_of deed } }) refl at;
+          };
+        }
+        by (Idle idle) tells own_role = record {
+          taken = true;
+          out = idle_line number place;
+          did = [];
+          turns = λ party e. answer.WasUnstored x (its_own party e) stored refl refl refl idle.same;
+          written = written ∙ ap₂ (λ l b. text_before ++ (packet_lines l ++ step_line number place l b)) idle.sends unchanged;
+          last = kept ∙ ap (λ b. cond b number before.last) unchanged;
+          same = same;
+          enters = λ party e line at. record {
+            entries = entries ∙ ap (λ l. first.entries.items ++ record { event = x.kind; packets = l } ∷ []) idle.sends;
+            added = Echoed before.opening text ∷ [];
+            sources = sources;
+            from = from line (record { place = place; entry = record { event = x.kind; packets = [] } }) refl at;
+          };
+        }
           where
-          of : (x.kind ≡ event.Refused) ⊎ (x.kind ≢ event.Refused) → (x.kind ≡ event.Refused) ⊎ ((i : Input) → Brings before.node x.kind i → ⊥) → x.kind ≡ event.Refused
-          of (inl is) why = is
-          of (inr other) (inl is) = is
-          of (inr other) (inr nothing) = absurd (own_role (record { taken = other; nothing = nothing }))
-        unchanged : changed ≡ false
-        unchanged = is_false changed (λ yes. tells.0 yes)
-          where
-          is_false : (b : Bool) → (IsTrue b → ⊥) → b ≡ false
-          is_false true never = absurd (never refl)
-          is_false false never = refl
+            stored : x.kind ≡ event.Refused
+            stored = of (is_refused x.kind) idle.why
+              where
+                of : (x.kind ≡ event.Refused) ⊎ (x.kind ≢ event.Refused) → (x.kind ≡ event.Refused) ⊎ ((i : Input) → Brings before.node x.kind i → ⊥) → x.kind ≡ event.Refused
+                of (inl is) why = is
+                of (inr other) (inl is) = is
+                of (inr other) (inr nothing) = absurd (own_role (record { taken = other; nothing = nothing }))
+
+            unchanged : changed ≡ false
+            unchanged = is_false changed (λ yes. tells.0 yes)
+              where
+                is_false : (b : Bool) → (IsTrue b → ⊥) → b ≡ false
+                is_false true never = absurd (never refl)
+                is_false false never = refl
 
 -- ---- all events of a line
 
@@ -233,45 +235,49 @@ module _ (before now after : Running) (number : ℕ) (line : List ℕ) (reads : 
       → IsTextAt line (Some (length reads)) element → EventsDone before after number line (reads ++ read ∷ []) text_first text_after first last
   one_more so one at = by one.taken (one.turns before.party (sym so.same.party)) (one.enters before.party (sym so.same.party) line at)
     where
-    written_so : text_after ≡ text_first ++ (so.out ++ one.out)
-    written_so = one.written ∙ ap (λ l. l ++ one.out) so.written ∙ append_assoc text_first so.out one.out
-    last_so : after.last ≡ last_behind (changes_of_each (so.did ++ one.did)) before.last number
-    last_so =
-        one.last ∙ ap (λ l. last_behind (changes_of_each one.did) l number) so.last
-        ∙ sym (last_joined (changes_of_each so.did) (changes_of_each one.did) before.last number) ∙ ap (λ l. last_behind l before.last number) (sym (changes_joined so.did one.did))
-    same_so : IsSameRun before after
-    same_so = record {
-      party = one.same.party ∙ so.same.party;
-      known = one.same.known ∙ so.same.known;
-      number = one.same.number ∙ so.same.number;
-      opening = one.same.opening ∙ so.same.opening;
-    }
-    joined : (xs : List Placed) → Enters (suc now.opening) (came_by line xs) middle last → Enters (suc before.opening) (came_by line (entries_of_done so.done ++ xs)) first last
-    joined xs more =
-        enters_both (suc before.opening) line (entries_of_done so.done) xs first middle last so.enters
-        (subst (λ o. Enters (suc o) (came_by line xs) middle last) so.same.opening more)
-    by : (taken : Bool) (turns : PlacedTurn before.party now.node number (Some (length reads)) read (turn_of taken) one.out one.did after.node)
-        → Enters (suc now.opening) (came_by line (entries_of_turn turns)) middle last → EventsDone before after number line (reads ++ read ∷ []) text_first text_after first last
-    by true turns more = record {
-      turn = so.turn;
-      out = so.out ++ one.out;
-      did = so.did ++ one.did;
-      done = answer.one_taken so.done turns;
-      written = written_so;
-      last = last_so;
-      same = same_so;
-      enters = joined (entries_of_turn turns) more;
-    }
-    by false turns more = record {
-      turn = Refused;
-      out = so.out ++ one.out;
-      did = so.did ++ one.did;
-      done = answer.one_refused so.done turns;
-      written = written_so;
-      last = last_so;
-      same = same_so;
-      enters = joined (entries_of_turn turns) more;
-    }
+      written_so : text_after ≡ text_first ++ (so.out ++ one.out)
+      written_so = one.written ∙ ap (λ l. l ++ one.out) so.written ∙ append_assoc text_first so.out one.out
+
+      last_so : after.last ≡ last_behind (changes_of_each (so.did ++ one.did)) before.last number
+      last_so =
+          one.last ∙ ap (λ l. last_behind (changes_of_each one.did) l number) so.last
+          ∙ sym (last_joined (changes_of_each so.did) (changes_of_each one.did) before.last number) ∙ ap (λ l. last_behind l before.last number) (sym (changes_joined so.did one.did))
+
+      same_so : IsSameRun before after
+      same_so = record {
+        party = one.same.party ∙ so.same.party;
+        known = one.same.known ∙ so.same.known;
+        number = one.same.number ∙ so.same.number;
+        opening = one.same.opening ∙ so.same.opening;
+      }
+
+      joined : (xs : List Placed) → Enters (suc now.opening) (came_by line xs) middle last → Enters (suc before.opening) (came_by line (entries_of_done so.done ++ xs)) first last
+      joined xs more =
+          enters_both (suc before.opening) line (entries_of_done so.done) xs first middle last so.enters
+          (subst (λ o. Enters (suc o) (came_by line xs) middle last) so.same.opening more)
+
+      by : (taken : Bool) (turns : PlacedTurn before.party now.node number (Some (length reads)) read (turn_of taken) one.out one.did after.node)
+          → Enters (suc now.opening) (came_by line (entries_of_turn turns)) middle last → EventsDone before after number line (reads ++ read ∷ []) text_first text_after first last
+      by true turns more = record {
+        turn = so.turn;
+        out = so.out ++ one.out;
+        did = so.did ++ one.did;
+        done = answer.one_taken so.done turns;
+        written = written_so;
+        last = last_so;
+        same = same_so;
+        enters = joined (entries_of_turn turns) more;
+      }
+      by false turns more = record {
+        turn = Refused;
+        out = so.out ++ one.out;
+        did = so.did ++ one.did;
+        done = answer.one_refused so.done turns;
+        written = written_so;
+        last = last_so;
+        same = same_so;
+        enters = joined (entries_of_turn turns) more;
+      }
 
 -- ---- what a call answered
 
@@ -295,13 +301,13 @@ replayed_done (replayed.Stepped changed) before middle after number place read l
     (told.last ∙ ap (λ l. cond changed number l) kept) run (ap (λ (v : Vec Entry Global). v.items) told.entries ∙ adds.2)
     (told.sources ∙ ap₂ (λ l o. l ++ Echoed o line ∷ []) sources same.opening)
   where
-  run : IsSameRun before after
-  run = record {
-    party = told.same.party ∙ same.party;
-    known = told.same.known ∙ same.known;
-    number = told.same.number ∙ same.number;
-    opening = told.same.opening ∙ same.opening;
-  }
+    run : IsSameRun before after
+    run = record {
+      party = told.same.party ∙ same.party;
+      known = told.same.known ∙ same.known;
+      number = told.same.number ∙ same.number;
+      opening = told.same.opening ∙ same.opening;
+    }
 
 -- why the node refused it
 pub declined_done : (x : ReplayFault) (before after : Running) (number : ℕ) (place : Option ℕ) (read : Read NodeEvent) (element text_before text_after : List ℕ) (first last : Happened) (e : NodeEvent)

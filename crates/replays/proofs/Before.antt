@@ -42,7 +42,7 @@ ends_behind : (xs ys : List ℕ) → EndsLine ys → EndsLine (xs ++ 10 ∷ ys)
 ends_behind xs ys NoLine = AtFeed xs
 ends_behind xs ys (AtFeed before) = subst EndsLine (append_assoc xs (10 ∷ before) (10 ∷ [])) (AtFeed (xs ++ 10 ∷ before))
 
-no_feed_in : (text : List ℕ) → ((k d : ℕ) → k < length text → get_or text k d ≢ 10) → feeds_of text ≡ 0
+pub no_feed_in : (text : List ℕ) → ((k d : ℕ) → k < length text → get_or text k d ≢ 10) → feeds_of text ≡ 0
 unfolding feeds_of
 no_feed_in [] plain = refl
 no_feed_in (c ∷ text) plain =
@@ -65,27 +65,33 @@ module _ (start : Held) (text bytes more : List ℕ) (count : ℕ) (t : IsText b
       → (lines : ℕ) → Shown start told held bytes w lines → (all : List Happening) × ArePrintedBy (Prints w) start (10 ∷ 10 ∷ lines_front (feeds_of consumed + lines) text) all
   shown told held reached lines s = (told ++ s.said, subst (λ l. ArePrintedBy (Prints w) start l (told ++ s.said)) (sym whole_is) printed)
     where
-    tail : List ℕ
-    tail = s.rest ++ (feeds count ++ more)
-    b : Before (Prints w) start (10 ∷ 10 ∷ text) (s.front ++ tail) told held
-    b = subst (λ l. Before (Prints w) start (10 ∷ 10 ∷ text) l told held) (ap (λ l. l ++ (feeds count ++ more)) s.is ∙ append_assoc s.front s.rest (feeds count ++ more))
-      (run_front start (10 ∷ 10 ∷ text) bytes more count t enough told held w reached)
-    printed : ArePrintedBy (Prints w) start (b.text ++ 10 ∷ 10 ∷ s.front) (told ++ s.said)
-    printed = printed_to (Prints w) start (10 ∷ 10 ∷ text) s.front tail told s.said held s.left b s.prints (prefix_plain bytes s.front s.rest s.is t.plain)
-    f : Front text (b.text ++ 10 ∷ 10 ∷ s.front) tail
-    f = front_of text b.text s.front tail (b.is ∙ sym (append_assoc b.text (10 ∷ 10 ∷ s.front) tail))
-    ends : EndsLine f.before
-    ends = end_behind 10 f.before (end_behind 10 (10 ∷ f.before) (subst EndsLine (append_assoc b.text (10 ∷ []) (10 ∷ s.front) ∙ sym f.whole) (ends_behind (b.text ++ 10 ∷ []) s.front s.ends)))
-    number : feeds_of f.before ≡ feeds_of consumed + lines
-    number =
-        let one = ap feeds_of (sym f.is ∙ parts ∙ ap (λ l. consumed ++ l) (ap (λ l. l ++ (feeds count ++ more)) s.is ∙ append_assoc s.front s.rest (feeds count ++ more))) in
-        let a = feeds_join f.before tail in
-        let c = feeds_join consumed (s.front ++ tail) in
-        let d = feeds_join s.front tail in
-        let e = s.count in
-        omega (arith, one, a, c, d, e)
-    whole_is : 10 ∷ 10 ∷ lines_front (feeds_of consumed + lines) text ≡ b.text ++ 10 ∷ 10 ∷ s.front
-    whole_is = ap (λ l. 10 ∷ 10 ∷ l) (ap₂ lines_front (sym number) f.is ∙ front_is f.before tail ends) ∙ f.whole
+      tail : List ℕ
+      tail = s.rest ++ (feeds count ++ more)
+
+      b : Before (Prints w) start (10 ∷ 10 ∷ text) (s.front ++ tail) told held
+      b = subst (λ l. Before (Prints w) start (10 ∷ 10 ∷ text) l told held) (ap (λ l. l ++ (feeds count ++ more)) s.is ∙ append_assoc s.front s.rest (feeds count ++ more))
+          (run_front start (10 ∷ 10 ∷ text) bytes more count t enough told held w reached)
+
+      printed : ArePrintedBy (Prints w) start (b.text ++ 10 ∷ 10 ∷ s.front) (told ++ s.said)
+      printed = printed_to (Prints w) start (10 ∷ 10 ∷ text) s.front tail told s.said held s.left b s.prints (prefix_plain bytes s.front s.rest s.is t.plain)
+
+      f : Front text (b.text ++ 10 ∷ 10 ∷ s.front) tail
+      f = front_of text b.text s.front tail (b.is ∙ sym (append_assoc b.text (10 ∷ 10 ∷ s.front) tail))
+
+      ends : EndsLine f.before
+      ends = end_behind 10 f.before (end_behind 10 (10 ∷ f.before) (subst EndsLine (append_assoc b.text (10 ∷ []) (10 ∷ s.front) ∙ sym f.whole) (ends_behind (b.text ++ 10 ∷ []) s.front s.ends)))
+
+      number : feeds_of f.before ≡ feeds_of consumed + lines
+      number =
+          let one = ap feeds_of (sym f.is ∙ parts ∙ ap (λ l. consumed ++ l) (ap (λ l. l ++ (feeds count ++ more)) s.is ∙ append_assoc s.front s.rest (feeds count ++ more))) in
+          let a = feeds_join f.before tail in
+          let c = feeds_join consumed (s.front ++ tail) in
+          let d = feeds_join s.front tail in
+          let e = s.count in
+          omega (arith, one, a, c, d, e)
+
+      whole_is : 10 ∷ 10 ∷ lines_front (feeds_of consumed + lines) text ≡ b.text ++ 10 ∷ 10 ∷ s.front
+      whole_is = ap (λ l. 10 ∷ 10 ∷ l) (ap₂ lines_front (sym number) f.is ∙ front_is f.before tail ends) ∙ f.whole
 
   module _ (Counted : Running → Type 0) (counting : Counting Counted) (r : Reader) (k : IsKnown start (10 ∷ 10 ∷ text) (bytes ++ (feeds count ++ more)) r) (may : MayBe r w)
       (malformed_ends : (fault : JsonFault) → (body : List ℕ) × (malformed_line 1 None fault ≡ body ++ 10 ∷ []) × (feeds_of body ≡ 0)) where
@@ -96,13 +102,25 @@ module _ (start : Held) (text bytes more : List ℕ) (count : ℕ) (t : IsText b
     nothing_shown : (told : List Happening) (held : Held) → Shown start told held bytes w 0
     unfolding feeds_of
     nothing_shown told held = record {
-      front = []; rest = bytes; is = refl; ends = NoLine; count = refl; said = []; left = held;
+      front = [];
+      rest = bytes;
+      is = refl;
+      ends = NoLine;
+      count = refl;
+      said = [];
+      left = held;
       prints = printed.NotBegun (65 ∷ []) one_letter [] (65 ∷ 10 ∷ []) refl;
     }
 
     first_shown : (told : List Happening) (held : Held) (line behind : List ℕ) → IsFirstLine bytes line behind → Shown start told held bytes w 1
     first_shown told held line behind f = record {
-      front = line ++ 10 ∷ []; rest = behind; is = f.is ∙ sym (append_assoc line (10 ∷ []) behind); ends = AtFeed line; count = one_feed line (no_feed_in line f.plain); said = []; left = held;
+      front = line ++ 10 ∷ [];
+      rest = behind;
+      is = f.is ∙ sym (append_assoc line (10 ∷ []) behind);
+      ends = AtFeed line;
+      count = one_feed line (no_feed_in line f.plain);
+      said = [];
+      left = held;
       prints = printed.NotBegun line (first_is_line bytes line behind t f) (line ++ 10 ∷ []) [] (sym (append-nil (line ++ 10 ∷ [])));
     }
 
@@ -116,15 +134,15 @@ module _ (start : Held) (text bytes more : List ℕ) (count : ℕ) (t : IsText b
           is = f.is ∙ ap (λ l. line ++ 10 ∷ l) is ∙ sym (append_assoc line (10 ∷ []) (malformed_line 1 None fault ++ after)) ∙ sym (append_assoc (line ++ 10 ∷ []) (malformed_line 1 None fault) after);
           ends = subst EndsLine (append_assoc (line ++ 10 ∷ []) m.0 (10 ∷ []) ∙ ap (λ l. (line ++ 10 ∷ []) ++ l) (sym m.1)) (AtFeed ((line ++ 10 ∷ []) ++ m.0));
           count =
-            let a = feeds_join (line ++ 10 ∷ []) (malformed_line 1 None fault) in
-            let b = one_feed line (no_feed_in line f.plain) in
-            let c = ap feeds_of m.1 in
-            let d = one_feed m.0 m.2 in
-            omega (arith, a, b, c, d);
+              let a = feeds_join (line ++ 10 ∷ []) (malformed_line 1 None fault) in
+              let b = one_feed line (no_feed_in line f.plain) in
+              let c = ap feeds_of m.1 in
+              let d = one_feed m.0 m.2 in
+              omega (arith, a, b, c, d);
           said = [];
           left = held;
           prints = printed.NoSetup line (first_is_line bytes line behind t f) fault fails real (malformed_line 1 None fault) [] (sym (append-nil (malformed_line 1 None fault)))
-            (subst (λ l. 0 < length l) (sym m.1) (has_text (m.0 ++ 10 ∷ []) (λ none. joined_is_none m.0 10 [] none)));
+              (subst (λ l. 0 < length l) (sym m.1) (has_text (m.0 ++ 10 ∷ []) (λ none. joined_is_none m.0 10 [] none)));
         }
 
     lines_shown : (told : List Happening) (held : Held) (line behind piece rest : List ℕ) (setup : List Node) (base : Option ℕ) (closed : Bool) → HasSetup bytes line behind setup base piece closed rest
@@ -132,45 +150,53 @@ module _ (start : Held) (text bytes more : List ℕ) (count : ℕ) (t : IsText b
         → Shown start told held bytes w (2 + feeds_of d.text)
     lines_shown told held line behind piece rest setup base closed h way same d = of closed rest h.is refl
       where
-      fed : IsLine line
-      fed = first_is_line bytes line behind t h.first
-      o : Opens w held line
-      o = opens_so w setup base line h.reads held way.member way.within same way.state way.opens
-      opening_is : opening_of o ≡ piece ++ 10 ∷ []
-      opening_is = way.tells
-      goes : GoesOn (begun o) d.text d.told (left_by d.now)
-      goes = printed_before (begun_over held way.member way.state base) rest d
-      after : List ℕ
-      after = echo_of d.line ++ d.more
-      front : List ℕ
-      front = echo_of line ++ (opening_of o ++ d.text)
-      ends_so : EndsLine front
-      ends_so =
-          subst EndsLine (append_assoc (echo_of line) piece (10 ∷ d.text) ∙ ap (λ l. echo_of line ++ l) (sym (append_assoc piece (10 ∷ []) d.text) ∙ ap (λ l. l ++ d.text) (sym opening_is)))
-          (ends_behind (echo_of line ++ piece) d.text (walk_ends Counted counting (begun_over held way.member way.state base) d.now d.text d.told d.walks))
-      count_so : feeds_of front ≡ 2 + feeds_of d.text
-      count_so =
-          let a = feeds_join (echo_of line) (opening_of o ++ d.text) in
-          let b = one_feed line (no_feed_in line h.first.plain) in
-          let c = feeds_join (opening_of o) d.text in
-          let e = ap feeds_of opening_is in
-          let f = one_feed piece (no_feed_in piece h.plain) in
-          omega (arith, a, b, c, e, f)
-      of : (c : Bool) (tail : List ℕ) → IsBehind behind piece c tail → rest ≡ tail → Shown start told held bytes w (2 + feeds_of d.text)
-      of c tail (read.Line x is) e = record {
-        front = front;
-        rest = after;
-        is = h.first.is ∙ ap (λ l. line ++ 10 ∷ l) (is ∙ ap (λ l. piece ++ 10 ∷ l) (sym e ∙ d.is) ∙ sym (append_assoc piece (10 ∷ []) (d.text ++ after)) ∙ sym (append_assoc (piece ++ 10 ∷ []) d.text after) ∙ ap (λ l. (l ++ d.text) ++ after) (sym opening_is))
-          ∙ sym (append_assoc line (10 ∷ []) ((opening_of o ++ d.text) ++ after)) ∙ sym (append_assoc (echo_of line) (opening_of o ++ d.text) after);
-        ends = ends_so;
-        count = count_so;
-        said = Opened (opened_by o) ∷ d.told;
-        left = left_by d.now;
-        prints = printed.Begun line fed o d.text d.told (left_by d.now) goes;
-      }
-      of c tail (read.Beginning is) e =
-          joined_is_none (d.text ++ d.line) 10 d.more
-          (append_assoc d.text d.line (10 ∷ d.more) ∙ ap (λ l. d.text ++ l) (sym (append_assoc d.line (10 ∷ []) d.more)) ∙ sym d.is ∙ e)
+        fed : IsLine line
+        fed = first_is_line bytes line behind t h.first
+
+        o : Opens w held line
+        o = opens_so w setup base line h.reads held way.member way.within same way.state way.opens
+
+        opening_is : opening_of o ≡ piece ++ 10 ∷ []
+        opening_is = way.tells
+
+        goes : GoesOn (begun o) d.text d.told (left_by d.now)
+        goes = printed_before (begun_over held way.member way.state base) rest d
+
+        after : List ℕ
+        after = echo_of d.line ++ d.more
+
+        front : List ℕ
+        front = echo_of line ++ (opening_of o ++ d.text)
+
+        ends_so : EndsLine front
+        ends_so =
+            subst EndsLine (append_assoc (echo_of line) piece (10 ∷ d.text) ∙ ap (λ l. echo_of line ++ l) (sym (append_assoc piece (10 ∷ []) d.text) ∙ ap (λ l. l ++ d.text) (sym opening_is)))
+            (ends_behind (echo_of line ++ piece) d.text (walk_ends Counted counting (begun_over held way.member way.state base) d.now d.text d.told d.walks))
+
+        count_so : feeds_of front ≡ 2 + feeds_of d.text
+        count_so =
+            let a = feeds_join (echo_of line) (opening_of o ++ d.text) in
+            let b = one_feed line (no_feed_in line h.first.plain) in
+            let c = feeds_join (opening_of o) d.text in
+            let e = ap feeds_of opening_is in
+            let f = one_feed piece (no_feed_in piece h.plain) in
+            omega (arith, a, b, c, e, f)
+
+        of : (c : Bool) (tail : List ℕ) → IsBehind behind piece c tail → rest ≡ tail → Shown start told held bytes w (2 + feeds_of d.text)
+        of c tail (read.Line x is) e = record {
+          front = front;
+          rest = after;
+          is = h.first.is ∙ ap (λ l. line ++ 10 ∷ l) (is ∙ ap (λ l. piece ++ 10 ∷ l) (sym e ∙ d.is) ∙ sym (append_assoc piece (10 ∷ []) (d.text ++ after)) ∙ sym (append_assoc (piece ++ 10 ∷ []) d.text after) ∙ ap (λ l. (l ++ d.text) ++ after) (sym opening_is))
+              ∙ sym (append_assoc line (10 ∷ []) ((opening_of o ++ d.text) ++ after)) ∙ sym (append_assoc (echo_of line) (opening_of o ++ d.text) after);
+          ends = ends_so;
+          count = count_so;
+          said = Opened (opened_by o) ∷ d.told;
+          left = left_by d.now;
+          prints = printed.Begun line fed o d.text d.told (left_by d.now) goes;
+        }
+        of c tail (read.Beginning is) e =
+            joined_is_none (d.text ++ d.line) 10 d.more
+            (append_assoc d.text d.line (10 ∷ d.more) ∙ ap (λ l. d.text ++ l) (sym (append_assoc d.line (10 ∷ []) d.more)) ∙ sym d.is ∙ e)
 
 module _ (start : Held) (text bytes more : List ℕ) (count : ℕ) (t : IsText bytes) (enough : (more ≡ []) ⊎ (2 ≤ count)) (consumed : List ℕ) (parts : text ≡ consumed ++ (bytes ++ (feeds count ++ more)))
     (Counted : Running → Type 0) (counting : Counting Counted) (r : Reader) (k : IsKnown start (10 ∷ 10 ∷ text) (bytes ++ (feeds count ++ more)) r)
@@ -197,24 +223,26 @@ module _ (start : Held) (text bytes more : List ℕ) (count : ℕ) (t : IsText b
   pub blamed : (number at n : ℕ) → number ≡ suc (feeds_of consumed) → RunRefused r bytes number at → at ≡ suc n → IsShown n
   blamed number at n first (read.SaysElse line behind f fault fails real none place) is = of place
     where
-    w : List ℕ
-    w = someone.0
-    of : (at ≡ number) ⊎ (at ≡ suc number) ⊎ ((at ≡ suc (suc number)) × ((after : List ℕ) × (behind ≡ malformed_line 1 None fault ++ after))) → IsShown n
-    of (inl e) =
-        in_front w someone.1 0 n (omega (arith, e, is, first)) (nothing_shown start text bytes more count t enough consumed parts w Counted counting r k someone.1 malformed_ends k.told r.story.held)
-    of (inr (inl e)) =
-        in_front w someone.1 1 n (omega (arith, e, is, first)) (first_shown start text bytes more count t enough consumed parts w Counted counting r k someone.1 malformed_ends k.told r.story.held line behind f)
-    of (inr (inr (e, (after, behind_is)))) =
-        in_front w someone.1 2 n (omega (arith, e, is, first)) (fault_shown start text bytes more count t enough consumed parts w Counted counting r k someone.1 malformed_ends k.told r.story.held line behind f fault fails real after behind_is)
+      w : List ℕ
+      w = someone.0
+
+      of : (at ≡ number) ⊎ (at ≡ suc number) ⊎ ((at ≡ suc (suc number)) × ((after : List ℕ) × (behind ≡ malformed_line 1 None fault ++ after))) → IsShown n
+      of (inl e) =
+          in_front w someone.1 0 n (omega (arith, e, is, first)) (nothing_shown start text bytes more count t enough consumed parts w Counted counting r k someone.1 malformed_ends k.told r.story.held)
+      of (inr (inl e)) =
+          in_front w someone.1 1 n (omega (arith, e, is, first)) (first_shown start text bytes more count t enough consumed parts w Counted counting r k someone.1 malformed_ends k.told r.story.held line behind f)
+      of (inr (inr (e, (after, behind_is)))) =
+          in_front w someone.1 2 n (omega (arith, e, is, first)) (fault_shown start text bytes more count t enough consumed parts w Counted counting r k someone.1 malformed_ends k.told r.story.held line behind f fault fails real after behind_is)
   blamed number at n first (read.NotOpened {line = line} {behind = behind} h none none_too place) is = of place
     where
-    w : List ℕ
-    w = someone.0
-    of : (at ≡ number) ⊎ (at ≡ suc number) → IsShown n
-    of (inl e) =
-        in_front w someone.1 0 n (omega (arith, e, is, first)) (nothing_shown start text bytes more count t enough consumed parts w Counted counting r k someone.1 malformed_ends k.told r.story.held)
-    of (inr e) =
-        in_front w someone.1 1 n (omega (arith, e, is, first)) (first_shown start text bytes more count t enough consumed parts w Counted counting r k someone.1 malformed_ends k.told r.story.held line behind h.first)
+      w : List ℕ
+      w = someone.0
+
+      of : (at ≡ number) ⊎ (at ≡ suc number) → IsShown n
+      of (inl e) =
+          in_front w someone.1 0 n (omega (arith, e, is, first)) (nothing_shown start text bytes more count t enough consumed parts w Counted counting r k someone.1 malformed_ends k.told r.story.held)
+      of (inr e) =
+          in_front w someone.1 1 n (omega (arith, e, is, first)) (first_shown start text bytes more count t enough consumed parts w Counted counting r k someone.1 malformed_ends k.told r.story.held line behind h.first)
   blamed number at n first (read.DiffersBefore {line = line} {behind = behind} {piece = piece} {rest = rest} {setup = setup} {base = base} {closed = closed} h way d place) is =
       let w = party_of way.member in
       in_front w way.may (2 + feeds_of d.text) n (omega (arith, place, is, first))

@@ -23,27 +23,27 @@ use Rattle.replays.specs.Reading.{Doubt, Doubts, LinesTaken, MayBe, Reader, RunR
 pub silent : (w : List ℕ) (held left : Held) (told : List Happening) → Prints w held [] told left → (told ≡ []) × (left ≡ held)
 silent w held left told one = of [] told left one refl
   where
-  of : (run : List ℕ) (told : List Happening) (left : Held) → Prints w held run told left → run ≡ [] → (told ≡ []) × (left ≡ held)
-  of run told left (printed.NotBegun line is front more cut) none = (refl, refl)
-  of run told left (printed.NoSetup line is fault fails real front more cut has) none = joined_is_none line 10 front (sym (append_assoc line (10 ∷ []) front) ∙ none)
-  of run told left (printed.CutOpening line is o front more cut has long) none = joined_is_none line 10 front (sym (append_assoc line (10 ∷ []) front) ∙ none)
-  of run told left (printed.BareOpening line is o front cut kept_by kept) none = joined_is_none line 10 front (sym (append_assoc line (10 ∷ []) front) ∙ none)
-  of run told left (printed.Begun line is o text said kept_by goes) none = joined_is_none line 10 (opening_of o ++ text) (sym (append_assoc line (10 ∷ []) (opening_of o ++ text)) ∙ none)
+    of : (run : List ℕ) (told : List Happening) (left : Held) → Prints w held run told left → run ≡ [] → (told ≡ []) × (left ≡ held)
+    of run told left (printed.NotBegun line is front more cut) none = (refl, refl)
+    of run told left (printed.NoSetup line is fault fails real front more cut has) none = joined_is_none line 10 front (sym (append_assoc line (10 ∷ []) front) ∙ none)
+    of run told left (printed.CutOpening line is o front more cut has long) none = joined_is_none line 10 front (sym (append_assoc line (10 ∷ []) front) ∙ none)
+    of run told left (printed.BareOpening line is o front cut kept_by kept) none = joined_is_none line 10 front (sym (append_assoc line (10 ∷ []) front) ∙ none)
+    of run told left (printed.Begun line is o text said kept_by goes) none = joined_is_none line 10 (opening_of o ++ text) (sym (append_assoc line (10 ∷ []) (opening_of o ++ text)) ∙ none)
 
 -- one that printed something begins with a line
 pub begins : (w : List ℕ) (held left : Held) (c : ℕ) (text : List ℕ) (told : List Happening) → Prints w held (c ∷ text) told left → c ≢ 10
 begins w held left c text told one feed = of (c ∷ text) told left one (ap (λ x. x ∷ text) feed)
   where
-  of : (run : List ℕ) (told : List Happening) (left : Held) → Prints w held run told left → run ≡ 10 ∷ text → ⊥
-  of run told left (printed.NotBegun line fed [] more cut) is = some_is_none 10 text (sym is)
-  of run told left (printed.NotBegun [] fed (d ∷ front) more cut) is = not-suc-le-zero fed.some
-  of run told left (printed.NotBegun (e ∷ line) fed (d ∷ front) more cut) is =
-      fed.plain 0 0 (zero-lt-suc (length line)) (heads e d (line ++ 10 ∷ []) (front ++ more) cut ∙ heads d 10 front text is)
-  of run told left (printed.NoSetup line fed fault fails real front more cut has) is = line_first line front text fed (sym (append_assoc line (10 ∷ []) front) ∙ is)
-  of run told left (printed.CutOpening line fed o front more cut has long) is = line_first line front text fed (sym (append_assoc line (10 ∷ []) front) ∙ is)
-  of run told left (printed.BareOpening line fed o front cut kept_by kept) is = line_first line front text fed (sym (append_assoc line (10 ∷ []) front) ∙ is)
-  of run told left (printed.Begun line fed o more said kept_by goes) is =
-      line_first line (opening_of o ++ more) text fed (sym (append_assoc line (10 ∷ []) (opening_of o ++ more)) ∙ is)
+    of : (run : List ℕ) (told : List Happening) (left : Held) → Prints w held run told left → run ≡ 10 ∷ text → ⊥
+    of run told left (printed.NotBegun line fed [] more cut) is = some_is_none 10 text (sym is)
+    of run told left (printed.NotBegun [] fed (d ∷ front) more cut) is = not-suc-le-zero fed.some
+    of run told left (printed.NotBegun (e ∷ line) fed (d ∷ front) more cut) is =
+        fed.plain 0 0 (zero-lt-suc (length line)) (heads e d (line ++ 10 ∷ []) (front ++ more) cut ∙ heads d 10 front text is)
+    of run told left (printed.NoSetup line fed fault fails real front more cut has) is = line_first line front text fed (sym (append_assoc line (10 ∷ []) front) ∙ is)
+    of run told left (printed.CutOpening line fed o front more cut has long) is = line_first line front text fed (sym (append_assoc line (10 ∷ []) front) ∙ is)
+    of run told left (printed.BareOpening line fed o front cut kept_by kept) is = line_first line front text fed (sym (append_assoc line (10 ∷ []) front) ∙ is)
+    of run told left (printed.Begun line fed o more said kept_by goes) is =
+        line_first line (opening_of o ++ more) text fed (sym (append_assoc line (10 ∷ []) (opening_of o ++ more)) ∙ is)
 
 -- of line feeds alone nothing is told
 pub feeds_silent : (w : List ℕ) (held : Held) (text : List ℕ) (told : List Happening) (n : ℕ) → ArePrintedBy (Prints w) held text told → text ≡ feeds n → told ≡ []
@@ -58,9 +58,9 @@ feeds_silent w held text told (suc (suc n)) (OneMore {left = left} {run = []} {r
 feeds_silent w held text told (suc (suc n)) (OneMore {left = left} {run = c ∷ run} {rest = rest} {told = said} {later = later} one plain more) is =
     absurd (begins w held left c run said one (first n (tails 10 10 (c ∷ (run ++ rest)) (feeds n) (tails 10 10 (10 ∷ c ∷ (run ++ rest)) (10 ∷ feeds n) is))))
   where
-  first : (n : ℕ) → c ∷ (run ++ rest) ≡ feeds n → c ≡ 10
-  first zero is = some_is_none c (run ++ rest) is
-  first (suc n) is = heads c 10 (run ++ rest) (feeds n) is
+    first : (n : ℕ) → c ∷ (run ++ rest) ≡ feeds n → c ≡ 10
+    first zero is = some_is_none c (run ++ rest) is
+    first (suc n) is = heads c 10 (run ++ rest) (feeds n) is
 
 -- ---- whatever printed it
 
@@ -88,16 +88,16 @@ opened_before r after bytes ended (read.CutAfter h others d is parties some cut 
 opened_before r after bytes ended (read.CutEither h parties some cut d is others any cut_too same) none = subst (λ (a : Reader). a.story.openings ≡ []) same none
 opened_before r after bytes ended (read.OpenedBefore h way x) none = absurd (has x.lines)
   where
-  has : {first : Running} {rest : List ℕ} → LinesTaken first rest ended x.opened after.story → ⊥
-  has (read.AtTail text tail told now is walks plain adds kept there) = joined_is_none r.story.openings x.is.opening [] (sym x.is.openings ∙ sym adds.openings ∙ none)
-  has (read.AtGift text line more told now is walks fed some out entered did next gives missing cut adds kept no_doubt) =
-      joined_is_none r.story.openings x.is.opening [] (sym x.is.openings ∙ sym adds.openings ∙ none)
+    has : {first : Running} {rest : List ℕ} → LinesTaken first rest ended x.opened after.story → ⊥
+    has (read.AtTail text tail told now is walks plain adds kept there) = joined_is_none r.story.openings x.is.opening [] (sym x.is.openings ∙ sym adds.openings ∙ none)
+    has (read.AtGift text line more told now is walks fed some out entered did next gives missing cut adds kept no_doubt) =
+        joined_is_none r.story.openings x.is.opening [] (sym x.is.openings ∙ sym adds.openings ∙ none)
 opened_before r after bytes ended (read.OpenedAfter h d there way x) none = absurd (has x.lines)
   where
-  has : {first : Running} {rest : List ℕ} → LinesTaken first rest ended x.opened after.story → ⊥
-  has (read.AtTail text tail told now is walks plain adds kept doubt) = joined_is_none r.story.openings x.is.opening [] (sym x.is.openings ∙ sym adds.openings ∙ none)
-  has (read.AtGift text line more told now is walks fed some out entered did next gives missing cut adds kept no_doubt) =
-      joined_is_none r.story.openings x.is.opening [] (sym x.is.openings ∙ sym adds.openings ∙ none)
+    has : {first : Running} {rest : List ℕ} → LinesTaken first rest ended x.opened after.story → ⊥
+    has (read.AtTail text tail told now is walks plain adds kept doubt) = joined_is_none r.story.openings x.is.opening [] (sym x.is.openings ∙ sym adds.openings ∙ none)
+    has (read.AtGift text line more told now is walks fed some out entered did next gives missing cut adds kept no_doubt) =
+        joined_is_none r.story.openings x.is.opening [] (sym x.is.openings ∙ sym adds.openings ∙ none)
 
 module _ (Good : Running → Type 0) (gifts : Gifts Good) (Own : Held → Type 0) (known : Openings Good Own) where
   some_none : {X : Type 0} (d : Doubt) (o : Option Doubt) → o ≡ None → o ≡ Some d → X
@@ -106,23 +106,24 @@ module _ (Good : Running → Type 0) (gifts : Gifts Good) (Own : Held → Type 0
   same_doubt : (d e : Doubt) (o : Option Doubt) → o ≡ Some d → o ≡ Some e → d ≡ e
   same_doubt d e o a b = of (sym a ∙ b)
     where
-    of : Some d ≡ Some e → d ≡ e
-    of is = cc
+      of : Some d ≡ Some e → d ≡ e
+      of is = cc
 
   own_lines : (first : Running) (rest : List ℕ) (ended : Bool) (s t : Story) → Good first → LinesTaken first rest ended s t → Own t.held × ((d : Doubt) → t.doubt ≡ Some d → Own d.held)
   own_lines first rest ended s t good (read.AtTail text tail told now is walks plain adds kept there) = (known.own now t.held fine kept, (λ d is. of d is there))
     where
-    fine : Good now
-    fine = stays_good Good gifts.counting.stays first now text told good walks
-    of : (d : Doubt) → t.doubt ≡ Some d → Tail now tail ended (length s.openings) t.doubt → Own d.held
-    of d is (read.Nothing none no_doubt) = some_none d t.doubt no_doubt is
-    of d is (read.Cut cut no_doubt) = some_none d t.doubt no_doubt is
-    of d is (read.Echo ends line doubts) = by t.doubt doubts is
-      where
-      by : (o : Option Doubt) → Doubts now tail (length s.openings) o → o ≡ Some d → Own d.held
-      by o (read.Idle out entered did next gives same) is = some_none d None refl is
-      by o (read.Doubtful out entered did next gives moved e left entries from) is =
-          subst (λ (x : Doubt). Own x.held) (same_doubt e d (Some e) refl is) (known.own next e.held (gifts.counting.stays now tail out entered did next fine gives) left)
+      fine : Good now
+      fine = stays_good Good gifts.counting.stays first now text told good walks
+
+      of : (d : Doubt) → t.doubt ≡ Some d → Tail now tail ended (length s.openings) t.doubt → Own d.held
+      of d is (read.Nothing none no_doubt) = some_none d t.doubt no_doubt is
+      of d is (read.Cut cut no_doubt) = some_none d t.doubt no_doubt is
+      of d is (read.Echo ends line doubts) = by t.doubt doubts is
+        where
+          by : (o : Option Doubt) → Doubts now tail (length s.openings) o → o ≡ Some d → Own d.held
+          by o (read.Idle out entered did next gives same) is = some_none d None refl is
+          by o (read.Doubtful out entered did next gives moved e left entries from) is =
+              subst (λ (x : Doubt). Own x.held) (same_doubt e d (Some e) refl is) (known.own next e.held (gifts.counting.stays now tail out entered did next fine gives) left)
   own_lines first rest ended s t good (read.AtGift text line more told now is walks fed some out entered did next gives missing cut adds kept none) =
       (known.own next t.held (gifts.counting.stays now line out entered did next (stays_good Good gifts.counting.stays first now text told good walks) gives) kept, (λ d is. some_none d t.doubt none is))
 
@@ -166,50 +167,60 @@ module _ (Good : Running → Type 0) (gifts : Gifts Good) (Own : Held → Type 0
       comes_on (Ended none quiet) = none_here none
       comes_on (On may left option before later tells quiet printed) = of more anew refl
         where
-        n : Next (Prints w) (silent w) (begins w) left bytes behind later
-        n = next_of left later printed
-        x : Onward r after bytes n.run ended w n.said n.left
-        x = onward Good gifts Own known r bytes t single o.own o.own_too w may left option n.run n.said n.left n.one (which n.is) after ended taken
-        -- nothing was opened so far
-        quiet_so : after.story.openings ≡ [] → openings_in (before ++ n.said) ≡ []
-        quiet_so none =
-            openings_join before n.said ∙ ap (λ l. l ++ openings_in n.said) (quiet (opened_before r after bytes ended taken none)) ∙ x.quiet none
-        tells_so : all ≡ (before ++ n.said) ++ n.later
-        tells_so = tells ∙ ap (λ l. before ++ l) n.tells ∙ sym (append_assoc before n.said n.later)
-        -- at the end of the file
-        at_end : (m : ℕ) → n.rest ≡ feeds m → more ≡ [] → Comes w more after all
-        at_end m rest_is none = Ended none
-            (λ empty. ap openings_in (tells_so ∙ ap (λ l. (before ++ n.said) ++ l) (feeds_silent w n.left n.rest n.later m n.more rest_is) ∙ append-nil (before ++ n.said)) ∙ quiet_so empty)
-        one_less : (m : ℕ) (rest tail : List ℕ) → feeds m ++ tail ≡ 10 ∷ rest → ((k : ℕ) × (rest ≡ feeds k ++ tail)) ⊎ (tail ≡ 10 ∷ rest)
-        one_less zero rest tail e = inr e
-        one_less (suc m) rest tail e = inl (m, sym (tails 10 10 (feeds m ++ tail) rest e))
-        further : MayBe after w × IsOption after.story n.left → (m : ℕ) → n.rest ≡ feeds m ++ more → Comes w more after all
-        further g m rest_is =
-            On g.0 n.left g.1 (before ++ n.said) n.later tells_so quiet_so (drop_feeds (Prints w) (silent w) (begins w) n.left n.rest n.later m more anew rest_is n.more)
-        -- more than two line feeds stand behind it
-        three : (c : ℕ) (tail : List ℕ) → c ≢ 10 → (k : ℕ) → n.rest ≡ feeds k ++ c ∷ tail → behind ≡ 10 ∷ n.rest → Form n.rest → IsTrue ended
-        three c tail other k rest_is feed (Nothing none) = joined_is_none (feeds k) c tail (sym rest_is ∙ none)
-        three c tail other zero rest_is feed (Feed one) = absurd (other (heads c 10 tail [] (sym rest_is ∙ one)))
-        three c tail other (suc k) rest_is feed (Feed one) = joined_is_none (feeds k) c tail (tails 10 10 (feeds k ++ c ∷ tail) [] (sym rest_is ∙ one))
-        three c tail other k rest_is feed (Feeds m two) = far (m, feed ∙ ap (λ l. 10 ∷ l) two)
-        of : (tail : List ℕ) → BeginsAnew tail → more ≡ tail → Comes w more after all
-        of tail Empty e = by_end n.is
-          where
-          only_feeds : behind ≡ feeds count
-          only_feeds = is ∙ ap (λ l. feeds count ++ l) e ∙ append-nil (feeds count)
-          fewer : (m : ℕ) → feeds m ≡ 10 ∷ n.rest → (k : ℕ) × (n.rest ≡ feeds k)
-          fewer zero z = some_is_none 10 n.rest (sym z)
-          fewer (suc m) z = (m, sym (tails 10 10 (feeds m) n.rest z))
-          by_end : ((n.run ≡ bytes) × (n.rest ≡ behind)) ⊎ ((n.run ≡ bytes ++ 10 ∷ []) × (behind ≡ 10 ∷ n.rest)) → Comes w more after all
-          by_end (inl y) = at_end count (y.1 ∙ only_feeds) e
-          by_end (inr y) = let f = fewer count (sym only_feeds ∙ y.1) in at_end f.0 f.1 e
-        of tail (Other c others other) e = by n.is
-          where
-          by : ((n.run ≡ bytes) × (n.rest ≡ behind)) ⊎ ((n.run ≡ bytes ++ 10 ∷ []) × (behind ≡ 10 ∷ n.rest)) → Comes w more after all
-          by (inl y) = further (x.goes (inl y.0)) count (y.1 ∙ is)
-          by (inr y) = with (one_less count n.rest more (sym is ∙ y.1))
+          n : Next (Prints w) (silent w) (begins w) left bytes behind later
+          n = next_of left later printed
+
+          x : Onward r after bytes n.run ended w n.said n.left
+          x = onward Good gifts Own known r bytes t single o.own o.own_too w may left option n.run n.said n.left n.one (which n.is) after ended taken
+
+          -- nothing was opened so far
+          quiet_so : after.story.openings ≡ [] → openings_in (before ++ n.said) ≡ []
+          quiet_so none =
+              openings_join before n.said ∙ ap (λ l. l ++ openings_in n.said) (quiet (opened_before r after bytes ended taken none)) ∙ x.quiet none
+
+          tells_so : all ≡ (before ++ n.said) ++ n.later
+          tells_so = tells ∙ ap (λ l. before ++ l) n.tells ∙ sym (append_assoc before n.said n.later)
+
+          -- at the end of the file
+          at_end : (m : ℕ) → n.rest ≡ feeds m → more ≡ [] → Comes w more after all
+          at_end m rest_is none = Ended none
+              (λ empty. ap openings_in (tells_so ∙ ap (λ l. (before ++ n.said) ++ l) (feeds_silent w n.left n.rest n.later m n.more rest_is) ∙ append-nil (before ++ n.said)) ∙ quiet_so empty)
+
+          one_less : (m : ℕ) (rest tail : List ℕ) → feeds m ++ tail ≡ 10 ∷ rest → ((k : ℕ) × (rest ≡ feeds k ++ tail)) ⊎ (tail ≡ 10 ∷ rest)
+          one_less zero rest tail e = inr e
+          one_less (suc m) rest tail e = inl (m, sym (tails 10 10 (feeds m ++ tail) rest e))
+
+          further : MayBe after w × IsOption after.story n.left → (m : ℕ) → n.rest ≡ feeds m ++ more → Comes w more after all
+          further g m rest_is =
+              On g.0 n.left g.1 (before ++ n.said) n.later tells_so quiet_so (drop_feeds (Prints w) (silent w) (begins w) n.left n.rest n.later m more anew rest_is n.more)
+
+          -- more than two line feeds stand behind it
+          three : (c : ℕ) (tail : List ℕ) → c ≢ 10 → (k : ℕ) → n.rest ≡ feeds k ++ c ∷ tail → behind ≡ 10 ∷ n.rest → Form n.rest → IsTrue ended
+          three c tail other k rest_is feed (Nothing none) = joined_is_none (feeds k) c tail (sym rest_is ∙ none)
+          three c tail other zero rest_is feed (Feed one) = absurd (other (heads c 10 tail [] (sym rest_is ∙ one)))
+          three c tail other (suc k) rest_is feed (Feed one) = joined_is_none (feeds k) c tail (tails 10 10 (feeds k ++ c ∷ tail) [] (sym rest_is ∙ one))
+          three c tail other k rest_is feed (Feeds m two) = far (m, feed ∙ ap (λ l. 10 ∷ l) two)
+
+          of : (tail : List ℕ) → BeginsAnew tail → more ≡ tail → Comes w more after all
+          of tail Empty e = by_end n.is
             where
-            with : ((k : ℕ) × (n.rest ≡ feeds k ++ more)) ⊎ (more ≡ 10 ∷ n.rest) → Comes w more after all
-            with (inl k) =
-                further (x.goes (inr (three c others other k.0 (k.1 ∙ ap (λ l. feeds k.0 ++ l) e) y.1 (form (Prints w) n.left n.rest n.later n.more)))) k.0 k.1
-            with (inr bad) = absurd (other (heads c 10 others n.rest (sym e ∙ bad)))
+              only_feeds : behind ≡ feeds count
+              only_feeds = is ∙ ap (λ l. feeds count ++ l) e ∙ append-nil (feeds count)
+
+              fewer : (m : ℕ) → feeds m ≡ 10 ∷ n.rest → (k : ℕ) × (n.rest ≡ feeds k)
+              fewer zero z = some_is_none 10 n.rest (sym z)
+              fewer (suc m) z = (m, sym (tails 10 10 (feeds m) n.rest z))
+
+              by_end : ((n.run ≡ bytes) × (n.rest ≡ behind)) ⊎ ((n.run ≡ bytes ++ 10 ∷ []) × (behind ≡ 10 ∷ n.rest)) → Comes w more after all
+              by_end (inl y) = at_end count (y.1 ∙ only_feeds) e
+              by_end (inr y) = let f = fewer count (sym only_feeds ∙ y.1) in at_end f.0 f.1 e
+          of tail (Other c others other) e = by n.is
+            where
+              by : ((n.run ≡ bytes) × (n.rest ≡ behind)) ⊎ ((n.run ≡ bytes ++ 10 ∷ []) × (behind ≡ 10 ∷ n.rest)) → Comes w more after all
+              by (inl y) = further (x.goes (inl y.0)) count (y.1 ∙ is)
+              by (inr y) = with (one_less count n.rest more (sym is ∙ y.1))
+                where
+                  with : ((k : ℕ) × (n.rest ≡ feeds k ++ more)) ⊎ (more ≡ 10 ∷ n.rest) → Comes w more after all
+                  with (inl k) =
+                      further (x.goes (inr (three c others other k.0 (k.1 ∙ ap (λ l. feeds k.0 ++ l) e) y.1 (form (Prints w) n.left n.rest n.later n.more)))) k.0 k.1
+                  with (inr bad) = absurd (other (heads c 10 others n.rest (sym e ∙ bad)))

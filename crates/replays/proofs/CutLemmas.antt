@@ -43,32 +43,34 @@ pub further : (text : List ℕ) (length : ℕ) (c : ℕ) (behind rest : List ℕ
     → GoesPast rest → take (length + 1) text ≡ take length text ++ c ∷ [] → GoesFurther (take (length + 1) text) behind
 further text length c behind rest g is first past one = subst (λ l. GoesFurther l behind) (sym one) (record { plain = plain; open_line = open_line })
   where
-  front : List ℕ
-  front = take length text
-  plain : HasNoEmptyLine (front ++ c ∷ [])
-  plain before after e = of after (cuts front (c ∷ []) before (10 ∷ 10 ∷ after) e)
-    where
-    of : (after : List ℕ) → Cuts front (c ∷ []) before (10 ∷ 10 ∷ after) → ⊥
-    of after (First m a b) = short m b
+    front : List ℕ
+    front = take length text
+
+    plain : HasNoEmptyLine (front ++ c ∷ [])
+    plain before after e = of after (cuts front (c ∷ []) before (10 ∷ 10 ∷ after) e)
       where
-      short : (m : List ℕ) → c ∷ [] ≡ m ++ 10 ∷ 10 ∷ after → ⊥
-      short [] e = some_is_none 10 after (sym (tails c 10 [] (10 ∷ after) e))
-      short (x ∷ m) e = joined_is_none m 10 (10 ∷ after) (sym (tails c x [] (m ++ 10 ∷ 10 ∷ after) e))
-    of after (Second m a b) = long m a b
-      where
-      long : (m : List ℕ) → front ≡ before ++ m → 10 ∷ 10 ∷ after ≡ m ++ c ∷ [] → ⊥
-      long [] a b = some_is_none 10 after (tails 10 c (10 ∷ after) [] b)
-      long (x ∷ []) a b =
-          let here : x ≡ 10 = sym (heads 10 x (10 ∷ after) (c ∷ []) b) in
-          let last : c ≡ 10 = sym (heads 10 c after [] (tails 10 x (10 ∷ after) (c ∷ []) b)) in
-          let o = g.open_line before (a ∙ ap (λ y. before ++ y ∷ []) here) in
-          o.1.2 (heads o.0 c o.1.0 behind (sym o.1.1 ∙ first) ∙ last)
-      long (x ∷ y ∷ m) a b =
-          let here : x ≡ 10 = sym (heads 10 x (10 ∷ after) (y ∷ (m ++ c ∷ [])) b) in
-          let there : y ≡ 10 = sym (heads 10 y after (m ++ c ∷ []) (tails 10 x (10 ∷ after) (y ∷ (m ++ c ∷ [])) b)) in
-          g.plain before m (a ∙ ap (λ z. before ++ z ∷ y ∷ m) here ∙ ap (λ z. before ++ 10 ∷ z ∷ m) there)
-  open_line : (before : List ℕ) → front ++ c ∷ [] ≡ before ++ 10 ∷ [] → (d : ℕ) × ((more : List ℕ) × (behind ≡ d ∷ more) × (d ≢ 10))
-  open_line before e = past behind (first ∙ ap (λ x. x ∷ behind) (last_one front before c 10 e))
+        of : (after : List ℕ) → Cuts front (c ∷ []) before (10 ∷ 10 ∷ after) → ⊥
+        of after (First m a b) = short m b
+          where
+            short : (m : List ℕ) → c ∷ [] ≡ m ++ 10 ∷ 10 ∷ after → ⊥
+            short [] e = some_is_none 10 after (sym (tails c 10 [] (10 ∷ after) e))
+            short (x ∷ m) e = joined_is_none m 10 (10 ∷ after) (sym (tails c x [] (m ++ 10 ∷ 10 ∷ after) e))
+        of after (Second m a b) = long m a b
+          where
+            long : (m : List ℕ) → front ≡ before ++ m → 10 ∷ 10 ∷ after ≡ m ++ c ∷ [] → ⊥
+            long [] a b = some_is_none 10 after (tails 10 c (10 ∷ after) [] b)
+            long (x ∷ []) a b =
+                let here : x ≡ 10 = sym (heads 10 x (10 ∷ after) (c ∷ []) b) in
+                let last : c ≡ 10 = sym (heads 10 c after [] (tails 10 x (10 ∷ after) (c ∷ []) b)) in
+                let o = g.open_line before (a ∙ ap (λ y. before ++ y ∷ []) here) in
+                o.1.2 (heads o.0 c o.1.0 behind (sym o.1.1 ∙ first) ∙ last)
+            long (x ∷ y ∷ m) a b =
+                let here : x ≡ 10 = sym (heads 10 x (10 ∷ after) (y ∷ (m ++ c ∷ [])) b) in
+                let there : y ≡ 10 = sym (heads 10 y after (m ++ c ∷ []) (tails 10 x (10 ∷ after) (y ∷ (m ++ c ∷ [])) b)) in
+                g.plain before m (a ∙ ap (λ z. before ++ z ∷ y ∷ m) here ∙ ap (λ z. before ++ 10 ∷ z ∷ m) there)
+
+    open_line : (before : List ℕ) → front ++ c ∷ [] ≡ before ++ 10 ∷ [] → (d : ℕ) × ((more : List ℕ) × (behind ≡ d ∷ more) × (d ≢ 10))
+    open_line before e = past behind (first ∙ ap (λ x. x ∷ behind) (last_one front before c 10 e))
 
 pub not_far : (text : List ℕ) → GoesFurther (take 0 text) text
 not_far text = record {
@@ -81,11 +83,11 @@ take_front [] c behind = refl
 take_front (x ∷ front) c behind =
     ap (λ k. take k (x ∷ (front ++ c ∷ behind))) (more (length front)) ∙ ap (λ l. x ∷ l) (take_front front c behind)
   where
-  more : (n : ℕ) → suc n + 1 ≡ suc (n + 1)
-  more n = omega arith
+    more : (n : ℕ) → suc n + 1 ≡ suc (n + 1)
+    more n = omega arith
 
 pub one_longer : (text : List ℕ) (n c : ℕ) (behind : List ℕ) → text ≡ take n text ++ c ∷ behind → n + length (c ∷ behind) ≡ length text → take (n + 1) text ≡ take n text ++ c ∷ []
 one_longer text n c behind is size = ap₂ (λ k l. take (k + 1) l) count is ∙ take_front (take n text) c behind
   where
-  count : n ≡ length (take n text)
-  count = let a = ap length is in let b = length-append (take n text) (c ∷ behind) in omega (arith, a, b, size)
+    count : n ≡ length (take n text)
+    count = let a = ap length is in let b = length-append (take n text) (c ∷ behind) in omega (arith, a, b, size)

@@ -53,8 +53,8 @@ on_from first now text told (one_line {text = before} {told = said} {now = there
     subst (λ l. GoesOn first l ((said ++ came_by line entered) ++ later) left) (both before (echo_of line) out rest)
     (subst (λ l. GoesOn first (before ++ (echo_of line ++ (out ++ rest))) l left) (sym (append_assoc said (came_by line entered) later)) whole)
   where
-  both : (a b c d : List ℕ) → a ++ (b ++ (c ++ d)) ≡ (a ++ (b ++ c)) ++ d
-  both a b c d = ap (λ l. a ++ l) (sym (append_assoc b c d)) ∙ sym (append_assoc a (b ++ c) d)
+    both : (a b c d : List ℕ) → a ++ (b ++ (c ++ d)) ≡ (a ++ (b ++ c)) ++ d
+    both a b c d = ap (λ l. a ++ l) (sym (append_assoc b c d)) ∙ sym (append_assoc a (b ++ c) d)
 
 module _ (Good : Running → Type 0)
     (stays : (now : Running) (line out : List ℕ) (entered : List Placed) (did : List Deed) (next : Running) → Good now → LineGives now line out entered did next → Good next) where
@@ -79,20 +79,20 @@ module _ (fed : (now : Running) (line out : List ℕ) (entered : List Placed) (d
 
 module _ (Good : Running → Type 0)
     (one : (now : Running) (line out also : List ℕ) (entered came : List Placed) (did done : List Deed) (next last : Running) → Good now
-        → LineGives now line out entered did next → LineGives now line also came done last → OneGift out also did done next last) where
+    → LineGives now line out entered did next → LineGives now line also came done last → OneGift out also did done next last) where
   pub at_line : (now : Running) (line more text : List ℕ) (told : List Happening) (left : Held) → Good now → IsPlain line → more ≢ [] → text ≡ line ++ 10 ∷ more
       → (out : List ℕ) (entered : List Placed) (did : List Deed) (next : Running) → LineGives now line out entered did next
       → GoesOn now text told left → Follows next out more left
   at_line now line more text told left good plain some same out entered did next gives (Stopped other is front rest cut kept_by kept) =
       absurd (some (last_none other line more rest is.plain plain (cut ∙ ap (λ l. l ++ rest) same)))
     where
-    last_none : (other line more rest : List ℕ) → IsPlain other → IsPlain line → other ++ 10 ∷ [] ≡ (line ++ 10 ∷ more) ++ rest → more ≡ []
-    last_none other line more rest p q is =
-        empty_front more rest (sym (same_line other line [] (more ++ rest) p q (is ∙ append_assoc line (10 ∷ more) rest)).1)
-      where
-      empty_front : (more rest : List ℕ) → more ++ rest ≡ [] → more ≡ []
-      empty_front [] rest is = refl
-      empty_front (c ∷ more) rest is = some_is_none c (more ++ rest) is
+      last_none : (other line more rest : List ℕ) → IsPlain other → IsPlain line → other ++ 10 ∷ [] ≡ (line ++ 10 ∷ more) ++ rest → more ≡ []
+      last_none other line more rest p q is =
+          empty_front more rest (sym (same_line other line [] (more ++ rest) p q (is ∙ append_assoc line (10 ∷ more) rest)).1)
+        where
+          empty_front : (more rest : List ℕ) → more ++ rest ≡ [] → more ≡ []
+          empty_front [] rest is = refl
+          empty_front (c ∷ more) rest is = some_is_none c (more ++ rest) is
   at_line now line more text told left good plain some same out entered did next gives (TookHold other is also came done last took changed kept_by kept) =
       absurd (some (sym (same_line other line [] more is.plain plain same).1))
   at_line now line more text told left good plain some same out entered did next gives (Cut other is also came done last took front rest cut has kept_by kept) =
@@ -112,22 +112,25 @@ module _ (Good : Running → Type 0)
     behind_walk first now text told good no_line rest all left on = (all, on)
     behind_walk first now text told good (one_line {text = before} {told = said} {now = there} walks line is out entered did next gives) rest all left on =
         let here = behind_walk first there before said good walks (echo_of line ++ (out ++ rest)) all left
-          (subst (λ l. GoesOn first l all left) (sym (both before (echo_of line) out rest)) on) in
+        (subst (λ l. GoesOn first l all left) (sym (both before (echo_of line) out rest)) on) in
         let closed = fed there line out entered did next gives in
         follows (at_line there line (out ++ rest) (echo_of line ++ (out ++ rest)) here.0 left (stays_good Good stays first there before said good walks) is.plain
-          (λ none. joined_is_none closed.0 10 rest (sym (append_assoc closed.0 (10 ∷ []) rest) ∙ ap (λ l. l ++ rest) (sym closed.1) ∙ none))
-          (append_assoc line (10 ∷ []) (out ++ rest)) out entered did next gives here.1)
+        (λ none. joined_is_none closed.0 10 rest (sym (append_assoc closed.0 (10 ∷ []) rest) ∙ ap (λ l. l ++ rest) (sym closed.1) ∙ none))
+        (append_assoc line (10 ∷ []) (out ++ rest)) out entered did next gives here.1)
       where
-      both : (a b c d : List ℕ) → a ++ (b ++ (c ++ d)) ≡ (a ++ (b ++ c)) ++ d
-      both a b c d = ap (λ l. a ++ l) (sym (append_assoc b c d)) ∙ sym (append_assoc a (b ++ c) d)
-      front_none : (xs ys : List ℕ) → xs ++ ys ≡ [] → xs ≡ []
-      front_none [] ys none = refl
-      front_none (x ∷ xs) ys none = some_is_none x (xs ++ ys) none
-      whole_end : (m : List ℕ) → out ≡ (out ++ rest) ++ m → rest ≡ []
-      whole_end m is = front_none rest m (sym (behind_front out [] (rest ++ m) (append-nil out ∙ is ∙ append_assoc out rest m)))
-      follows : Follows next out (out ++ rest) left → (later : List Happening) × GoesOn next rest later left
-      follows (Ends m is kept) = ([], subst (λ l. GoesOn next l [] left) (sym (whole_end m is)) (Stopped (65 ∷ []) one_letter [] (65 ∷ 10 ∷ []) refl left kept))
-        where
-        one_letter : IsLine (65 ∷ [])
-        one_letter = record { some = zero-lt-suc zero; plain = All-cons (λ b. b ≢ 10) 65 [] (omega arith) (All-nil (λ b. b ≢ 10)) }
-      follows (Goes text later is on) = (later, subst (λ l. GoesOn next l later left) (sym (behind_front out rest text is)) on)
+        both : (a b c d : List ℕ) → a ++ (b ++ (c ++ d)) ≡ (a ++ (b ++ c)) ++ d
+        both a b c d = ap (λ l. a ++ l) (sym (append_assoc b c d)) ∙ sym (append_assoc a (b ++ c) d)
+
+        front_none : (xs ys : List ℕ) → xs ++ ys ≡ [] → xs ≡ []
+        front_none [] ys none = refl
+        front_none (x ∷ xs) ys none = some_is_none x (xs ++ ys) none
+
+        whole_end : (m : List ℕ) → out ≡ (out ++ rest) ++ m → rest ≡ []
+        whole_end m is = front_none rest m (sym (behind_front out [] (rest ++ m) (append-nil out ∙ is ∙ append_assoc out rest m)))
+
+        follows : Follows next out (out ++ rest) left → (later : List Happening) × GoesOn next rest later left
+        follows (Ends m is kept) = ([], subst (λ l. GoesOn next l [] left) (sym (whole_end m is)) (Stopped (65 ∷ []) one_letter [] (65 ∷ 10 ∷ []) refl left kept))
+          where
+            one_letter : IsLine (65 ∷ [])
+            one_letter = record { some = zero-lt-suc zero; plain = All-cons (λ b. b ≢ 10) 65 [] (omega arith) (All-nil (λ b. b ≢ 10)) }
+        follows (Goes text later is on) = (later, subst (λ l. GoesOn next l later left) (sym (behind_front out rest text is)) on)

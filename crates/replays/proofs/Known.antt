@@ -28,9 +28,9 @@ pub still_may : (r : Reader) (parties : List (List ℕ)) (story : Story) → par
 still_may r parties story some each w (other, inl none) = absurd (some none)
 still_may r parties story some each w (other, inr (p, within, same)) = (other, of (each p within).1)
   where
-  of : (r.parties ≡ []) ⊎ IsAmong r.parties p → (r.parties ≡ []) ⊎ IsAmong r.parties w
-  of (inl none) = inl none
-  of (inr (q, there, also)) = inr (q, there, also ∙ same)
+    of : (r.parties ≡ []) ⊎ IsAmong r.parties p → (r.parties ≡ []) ⊎ IsAmong r.parties w
+    of (inl none) = inl none
+    of (inr (q, there, also)) = inr (q, there, also ∙ same)
 
 -- one of the parties, where there is but one, is each
 abbrev pub AreOne : List (List ℕ) → Type 0
@@ -83,7 +83,7 @@ module _ (start : Held) where
       record {
         told = k.told ++ x.later;
         tells = subst (λ l. Tells (k.told ++ x.later) r.story.openings (r.story.entries ++ l) (r.story.sources ++ d.sources)) (sym x.entries)
-          (came_told k.told x.later r.story.openings r.story.entries r.story.sources d.sources k.tells x.begun x.quiet x.from);
+            (came_told k.told x.later r.story.openings r.story.entries r.story.sources d.sources k.tells x.begun x.quiet x.from);
         reached = x.reached;
         doubted = λ d is. absurd (let bad : None ≡ Some d = is in cc);
         others = k.others;
@@ -118,18 +118,18 @@ module _ (start : Held) where
       tells = k.tells;
       reached = λ w may. still k.told r.story.held w (k.reached w (narrows w may)) (prints w may);
       doubted = λ d is.
-        let x = k.doubted d is in
-        record {
-          later = x.later;
-          quiet = x.quiet;
-          entries = x.entries;
-          from = x.from;
-          reached = λ w may. still (k.told ++ x.later) d.held w (x.reached w (narrows w may)) (prints_too d is w may);
-          some = (one d is).0;
-          one = (one d is).1;
-          begun = x.begun;
-          apart = x.apart;
-        };
+          let x = k.doubted d is in
+          record {
+            later = x.later;
+            quiet = x.quiet;
+            entries = x.entries;
+            from = x.from;
+            reached = λ w may. still (k.told ++ x.later) d.held w (x.reached w (narrows w may)) (prints_too d is w may);
+            some = (one d is).0;
+            one = (one d is).1;
+            begun = x.begun;
+            apart = x.apart;
+          };
       others = others;
       some = some;
     }
@@ -142,20 +142,20 @@ module _ (start : Held) where
           → Tells (told ++ Opened run ∷ []) opened.openings opened.entries opened.sources
       still_tells s opened run told tells i = of s.openings refl
         where
-        of : (os : List Opening) → s.openings ≡ os → Tells (told ++ Opened run ∷ []) opened.openings opened.entries opened.sources
-        of [] none =
-            let here = i.first none in
-            subst (λ l. Tells (told ++ Opened run ∷ []) l opened.entries opened.sources) (sym (i.openings ∙ ap (λ l. l ++ i.opening ∷ []) none))
-            (subst (λ l. Tells (told ++ Opened run ∷ []) (i.opening ∷ []) l opened.sources) (sym here.0)
-            (subst (λ l. Tells (told ++ Opened run ∷ []) (i.opening ∷ []) s.entries l) (sym here.1)
-            (first_told told s.entries s.sources (subst (λ l. Tells told l s.entries s.sources) none tells) run i.opening i.is)))
-        of (x ∷ os) some =
-            let there : s.openings ≢ [] = (λ none. some_is_none x os (sym some ∙ none)) in
-            let here = i.later there in
-            subst (λ l. Tells (told ++ Opened run ∷ []) l opened.entries opened.sources) (sym i.openings)
-            (subst (λ l. Tells (told ++ Opened run ∷ []) (s.openings ++ i.opening ∷ []) l opened.sources) (sym here.0)
-            (subst (λ l. Tells (told ++ Opened run ∷ []) (s.openings ++ i.opening ∷ []) (s.entries ++ restart_entry ∷ []) l) (sym here.1)
-            (next_told told s.openings s.entries s.sources tells there run i.opening i.is)))
+          of : (os : List Opening) → s.openings ≡ os → Tells (told ++ Opened run ∷ []) opened.openings opened.entries opened.sources
+          of [] none =
+              let here = i.first none in
+              subst (λ l. Tells (told ++ Opened run ∷ []) l opened.entries opened.sources) (sym (i.openings ∙ ap (λ l. l ++ i.opening ∷ []) none))
+              (subst (λ l. Tells (told ++ Opened run ∷ []) (i.opening ∷ []) l opened.sources) (sym here.0)
+              (subst (λ l. Tells (told ++ Opened run ∷ []) (i.opening ∷ []) s.entries l) (sym here.1)
+              (first_told told s.entries s.sources (subst (λ l. Tells told l s.entries s.sources) none tells) run i.opening i.is)))
+          of (x ∷ os) some =
+              let there : s.openings ≢ [] = (λ none. some_is_none x os (sym some ∙ none)) in
+              let here = i.later there in
+              subst (λ l. Tells (told ++ Opened run ∷ []) l opened.entries opened.sources) (sym i.openings)
+              (subst (λ l. Tells (told ++ Opened run ∷ []) (s.openings ++ i.opening ∷ []) l opened.sources) (sym here.0)
+              (subst (λ l. Tells (told ++ Opened run ∷ []) (s.openings ++ i.opening ∷ []) (s.entries ++ restart_entry ∷ []) l) (sym here.1)
+              (next_told told s.openings s.entries s.sources tells there run i.opening i.is)))
 
       has_opening : (s opened : Story) (run : OpenedRun) → IsOpenedIn s opened run → opened.openings ≢ []
       has_opening s opened run i none = joined_is_none s.openings i.opening [] (sym i.openings ∙ none)
@@ -163,83 +163,94 @@ module _ (start : Held) where
       only_one : (p x : List ℕ) → Contains (p ∷ []) x → p ≡ x
       only_one p x within = of (Contains-push_cases [] p x within)
         where
-        of : Contains [] x ⊎ (p ≡ x) → p ≡ x
-        of (inl none) = absurd (All-contains (λ y. ⊥) [] x (All-nil (λ y. ⊥)) none)
-        of (inr is) = is
+          of : Contains [] x ⊎ (p ≡ x) → p ≡ x
+          of (inl none) = absurd (All-contains (λ y. ⊥) [] x (All-nil (λ y. ⊥)) none)
+          of (inr is) = is
 
       pub known_opened : (r after : Reader) → r.story.doubt ≡ None → IsKnown whole (bytes ++ (feeds count ++ more)) r → (ended : Bool) → (IsTrue ended → 3 ≤ count)
           → (line behind piece rest : List ℕ) (setup : List Node) (base : Option ℕ) (closed : Bool) → HasSetup bytes line behind setup base piece closed rest
           → (way : WasOpened r setup piece r.story.held) → IsRun r after line setup base rest ended r.story way.opens.rows way.member way.state → IsKnown whole more after
       known_opened r after none k ended far line behind piece rest setup base closed h way run = of (lines_sound Counted counting first rest ended run.opened after.story (counted r.story.held way.member way.state base) run.lines)
         where
-        first : Running
-        first = begun_over r.story.held way.member way.state base
-        one : OpenedRun
-        one = run_over line setup way.opens.rows way.member way.state
-        party : List ℕ
-        party = party_of way.member
-        is_party : (w : List ℕ) → MayBe after w → key party ≡ key w
-        is_party w (other, inl nobody) = absurd (some_is_none party [] (sym run.parties ∙ nobody))
-        is_party w (other, inr (p, within, same)) = ap key (only_one party p (subst (λ l. Contains l p) run.parties within)) ∙ same
-        narrows : (w : List ℕ) → MayBe after w → MayBe r w
-        narrows w may = (subst (λ l. IsOther l w) run.earlier may.0, again way.may.1)
-          where
-          again : (r.parties ≡ []) ⊎ IsAmong r.parties party → (r.parties ≡ []) ⊎ IsAmong r.parties w
-          again (inl nobody) = inl nobody
-          again (inr (q, there, also)) = inr (q, there, also ∙ is_party w may)
-        joined : (told said : List Happening) → told ++ (Opened one ∷ said) ≡ (told ++ Opened one ∷ []) ++ said
-        joined told said = sym (append_assoc told (Opened one ∷ []) said)
-        of : AreSound first rest ended run.opened after.story → IsKnown whole more after
-        of a = record {
-          told = (k.told ++ Opened one ∷ []) ++ a.told;
-          tells = tells;
-          reached = λ w may. subst (λ l. Reached (Prints w) start whole more l after.story.held) (joined k.told a.told)
-            (one_more (Prints w) start whole bytes more k.told (Opened one ∷ a.told) r.story.held after.story.held count (front_of k.told r.story.held w (k.reached w (narrows w may)))
-            (opened_prints bytes line behind piece rest setup base closed t h r.story.held way.member way.within way.state way.opens way.tells w (is_party w may) a.told after.story.held a.goes) t.plain enough);
-          doubted = doubted;
-          others = λ p within. subst (λ l. IsOther l p) (sym run.earlier) (subst (λ x. IsOther r.earlier x) (only_one party p (subst (λ l. Contains l p) run.parties within)) way.may.0);
-          some = λ some none. some_is_none party [] (sym run.parties ∙ none);
-        }
-          where
-          has : run.opened.openings ≢ []
-          has = has_opening r.story run.opened one run.is
-          tells : Tells ((k.told ++ Opened one ∷ []) ++ a.told) after.story.openings after.story.entries after.story.sources
-          tells =
-              subst (λ l. Tells ((k.told ++ Opened one ∷ []) ++ a.told) l after.story.entries after.story.sources) (sym a.adds.openings)
-              (subst (λ l. Tells ((k.told ++ Opened one ∷ []) ++ a.told) run.opened.openings l after.story.sources) (sym a.adds.entries)
-              (subst (λ l. Tells ((k.told ++ Opened one ∷ []) ++ a.told) run.opened.openings (run.opened.entries ++ entries_behind a.told) l) (sym a.adds.sources)
-              (came_told (k.told ++ Opened one ∷ []) a.told run.opened.openings run.opened.entries run.opened.sources a.adds.added
-              (still_tells r.story run.opened one k.told k.tells run.is) has a.quiet a.adds.from)))
-          one_less : (n : ℕ) → 3 ≤ n → (m : ℕ) × (n ≡ suc m) × (2 ≤ m)
-          one_less zero three = absurd (not-suc-le-zero three)
-          one_less (suc m) three = (m, refl, omega (arith, three))
-          doubted : (d : Doubt) → after.story.doubt ≡ Some d → IsDoubted whole more after ((k.told ++ Opened one ∷ []) ++ a.told) d
-          doubted d is = with (subst (λ o. IfSome o (Doubted first rest ended a.told (length run.opened.openings) after.story.held)) is a.doubt)
+          first : Running
+          first = begun_over r.story.held way.member way.state base
+
+          one : OpenedRun
+          one = run_over line setup way.opens.rows way.member way.state
+
+          party : List ℕ
+          party = party_of way.member
+
+          is_party : (w : List ℕ) → MayBe after w → key party ≡ key w
+          is_party w (other, inl nobody) = absurd (some_is_none party [] (sym run.parties ∙ nobody))
+          is_party w (other, inr (p, within, same)) = ap key (only_one party p (subst (λ l. Contains l p) run.parties within)) ∙ same
+
+          narrows : (w : List ℕ) → MayBe after w → MayBe r w
+          narrows w may = (subst (λ l. IsOther l w) run.earlier may.0, again way.may.1)
             where
-            with : Doubted first rest ended a.told (length run.opened.openings) after.story.held d → IsDoubted whole more after ((k.told ++ Opened one ∷ []) ++ a.told) d
-            with x = record {
-              later = x.more;
-              quiet = x.quiet;
-              entries = x.entries;
-              from = subst (λ l. AreSourcesOf (length l) x.more d.sources) (sym a.adds.openings) x.from;
-              reached = λ w may. reached_by w may;
-              some = λ none. some_is_none party [] (sym run.parties ∙ none);
-              one = λ p q here there. ap key (sym (only_one party p (subst (λ l. Contains l p) run.parties here)) ∙ only_one party q (subst (λ l. Contains l q) run.parties there));
-              begun = λ none. has (sym a.adds.openings ∙ none);
-              apart = x.apart;
-            }
-              where
-              less : (m : ℕ) × (count ≡ suc m) × (2 ≤ m)
-              less = one_less count (far x.ends)
-              shifted : bytes ++ (feeds count ++ more) ≡ (bytes ++ 10 ∷ []) ++ (feeds less.0 ++ more)
-              shifted = ap (λ n. bytes ++ (feeds n ++ more)) less.1 ∙ sym (append_assoc bytes (10 ∷ []) (feeds less.0 ++ more))
-              reached_by : (w : List ℕ) → MayBe after w → Reached (Prints w) start whole more (((k.told ++ Opened one ∷ []) ++ a.told) ++ x.more) d.held
-              reached_by w may =
-                  subst (λ l. Reached (Prints w) start whole more l d.held) (joined k.told (a.told ++ x.more) ∙ sym (append_assoc (k.told ++ Opened one ∷ []) a.told x.more))
-                  (one_more (Prints w) start whole (bytes ++ 10 ∷ []) more k.told (Opened one ∷ (a.told ++ x.more)) r.story.held d.held less.0
-                  (subst (λ l. Before (Prints w) start whole l k.told r.story.held) shifted (front_of k.told r.story.held w (k.reached w (narrows w may))))
-                  (opened_with_feed bytes line behind piece rest setup base closed t h r.story.held way.member way.within way.state way.opens way.tells w (is_party w may) (a.told ++ x.more) d.held x.goes)
-                  (plain_with_feed bytes t) (inr less.2))
+              again : (r.parties ≡ []) ⊎ IsAmong r.parties party → (r.parties ≡ []) ⊎ IsAmong r.parties w
+              again (inl nobody) = inl nobody
+              again (inr (q, there, also)) = inr (q, there, also ∙ is_party w may)
+
+          joined : (told said : List Happening) → told ++ (Opened one ∷ said) ≡ (told ++ Opened one ∷ []) ++ said
+          joined told said = sym (append_assoc told (Opened one ∷ []) said)
+
+          of : AreSound first rest ended run.opened after.story → IsKnown whole more after
+          of a = record {
+            told = (k.told ++ Opened one ∷ []) ++ a.told;
+            tells = tells;
+            reached = λ w may. subst (λ l. Reached (Prints w) start whole more l after.story.held) (joined k.told a.told)
+                (one_more (Prints w) start whole bytes more k.told (Opened one ∷ a.told) r.story.held after.story.held count (front_of k.told r.story.held w (k.reached w (narrows w may)))
+                (opened_prints bytes line behind piece rest setup base closed t h r.story.held way.member way.within way.state way.opens way.tells w (is_party w may) a.told after.story.held a.goes) t.plain enough);
+            doubted = doubted;
+            others = λ p within. subst (λ l. IsOther l p) (sym run.earlier) (subst (λ x. IsOther r.earlier x) (only_one party p (subst (λ l. Contains l p) run.parties within)) way.may.0);
+            some = λ some none. some_is_none party [] (sym run.parties ∙ none);
+          }
+            where
+              has : run.opened.openings ≢ []
+              has = has_opening r.story run.opened one run.is
+
+              tells : Tells ((k.told ++ Opened one ∷ []) ++ a.told) after.story.openings after.story.entries after.story.sources
+              tells =
+                  subst (λ l. Tells ((k.told ++ Opened one ∷ []) ++ a.told) l after.story.entries after.story.sources) (sym a.adds.openings)
+                  (subst (λ l. Tells ((k.told ++ Opened one ∷ []) ++ a.told) run.opened.openings l after.story.sources) (sym a.adds.entries)
+                  (subst (λ l. Tells ((k.told ++ Opened one ∷ []) ++ a.told) run.opened.openings (run.opened.entries ++ entries_behind a.told) l) (sym a.adds.sources)
+                  (came_told (k.told ++ Opened one ∷ []) a.told run.opened.openings run.opened.entries run.opened.sources a.adds.added
+                  (still_tells r.story run.opened one k.told k.tells run.is) has a.quiet a.adds.from)))
+
+              one_less : (n : ℕ) → 3 ≤ n → (m : ℕ) × (n ≡ suc m) × (2 ≤ m)
+              one_less zero three = absurd (not-suc-le-zero three)
+              one_less (suc m) three = (m, refl, omega (arith, three))
+
+              doubted : (d : Doubt) → after.story.doubt ≡ Some d → IsDoubted whole more after ((k.told ++ Opened one ∷ []) ++ a.told) d
+              doubted d is = with (subst (λ o. IfSome o (Doubted first rest ended a.told (length run.opened.openings) after.story.held)) is a.doubt)
+                where
+                  with : Doubted first rest ended a.told (length run.opened.openings) after.story.held d → IsDoubted whole more after ((k.told ++ Opened one ∷ []) ++ a.told) d
+                  with x = record {
+                    later = x.more;
+                    quiet = x.quiet;
+                    entries = x.entries;
+                    from = subst (λ l. AreSourcesOf (length l) x.more d.sources) (sym a.adds.openings) x.from;
+                    reached = λ w may. reached_by w may;
+                    some = λ none. some_is_none party [] (sym run.parties ∙ none);
+                    one = λ p q here there. ap key (sym (only_one party p (subst (λ l. Contains l p) run.parties here)) ∙ only_one party q (subst (λ l. Contains l q) run.parties there));
+                    begun = λ none. has (sym a.adds.openings ∙ none);
+                    apart = x.apart;
+                  }
+                    where
+                      less : (m : ℕ) × (count ≡ suc m) × (2 ≤ m)
+                      less = one_less count (far x.ends)
+
+                      shifted : bytes ++ (feeds count ++ more) ≡ (bytes ++ 10 ∷ []) ++ (feeds less.0 ++ more)
+                      shifted = ap (λ n. bytes ++ (feeds n ++ more)) less.1 ∙ sym (append_assoc bytes (10 ∷ []) (feeds less.0 ++ more))
+
+                      reached_by : (w : List ℕ) → MayBe after w → Reached (Prints w) start whole more (((k.told ++ Opened one ∷ []) ++ a.told) ++ x.more) d.held
+                      reached_by w may =
+                          subst (λ l. Reached (Prints w) start whole more l d.held) (joined k.told (a.told ++ x.more) ∙ sym (append_assoc (k.told ++ Opened one ∷ []) a.told x.more))
+                          (one_more (Prints w) start whole (bytes ++ 10 ∷ []) more k.told (Opened one ∷ (a.told ++ x.more)) r.story.held d.held less.0
+                          (subst (λ l. Before (Prints w) start whole l k.told r.story.held) shifted (front_of k.told r.story.held w (k.reached w (narrows w may))))
+                          (opened_with_feed bytes line behind piece rest setup base closed t h r.story.held way.member way.within way.state way.opens way.tells w (is_party w may) (a.told ++ x.more) d.held x.goes)
+                          (plain_with_feed bytes t) (inr less.2))
 
       -- ---- whichever run it was
 
@@ -304,8 +315,8 @@ module _ (start : Held) where
             (λ w may. prints_cut h parties some r.story.held cut w may)
             (λ e there w may. subst (λ (x : Doubt). Prints w x.held bytes [] x.held) (same_doubt d e (sym is ∙ there)) (prints_too h d is others any cut_too w (cut_narrows h parties some r.story.held cut w may))))
           where
-          same_doubt : (d e : Doubt) → Some d ≡ Some e → d ≡ e
-          same_doubt d e is = cc
+            same_doubt : (d e : Doubt) → Some d ≡ Some e → d ≡ e
+            same_doubt d e is = cc
         known_by (read.OpenedBefore {line = line} {behind = behind} {piece = piece} {rest = rest} {setup = setup} {base = base} {closed = closed} h way run) =
             known_opened before after refl (known_before whole (bytes ++ (feeds count ++ more)) r k) ended far line behind piece rest setup base closed h
             (record { member = way.member; within = way.within; may = way.may; state = way.state; opens = way.opens; tells = way.tells })

@@ -49,9 +49,9 @@ module _ {H T : Type 0} (Run : H → List ℕ → List T → H → Type 0) (star
       subst (λ l. ArePrintedBy Run start l told) (sym (r.is ∙ ap (λ l. r.text ++ l) (append-nil (feeds r.count))))
       (subst (λ l. ArePrintedBy Run start (r.text ++ feeds r.count) l) (append-nil told) (led_on r.text told held r.led (feeds r.count) [] (only_feeds r.count)))
     where
-    only_feeds : (n : ℕ) → ArePrintedBy Run held (feeds n) []
-    only_feeds zero = NoMore
-    only_feeds (suc n) = AtOnce (only_feeds n)
+      only_feeds : (n : ℕ) → ArePrintedBy Run held (feeds n) []
+      only_feeds zero = NoMore
+      only_feeds (suc n) = AtOnce (only_feeds n)
 
   -- the text in front of the next run
   pub record Before (whole more : List ℕ) (told : List T) (held : H) : Type 0 where
@@ -67,15 +67,15 @@ module _ {H T : Type 0} (Run : H → List ℕ → List T → H → Type 0) (star
   pub before_next : (whole : List ℕ) (c : ℕ) (others : List ℕ) (told : List T) (held : H) → Reached whole (c ∷ others) told held → Before whole (c ∷ others) told held
   before_next whole c others told held r = of r.enough
     where
-    of : (c ∷ others ≡ []) ⊎ (2 ≤ r.count) → Before whole (c ∷ others) told held
-    of (inl none) = some_is_none c others none
-    of (inr two) =
-        let n = two_more r.count two in
-        record {
-          text = r.text ++ feeds n.0;
-          is = r.is ∙ ap (λ k. r.text ++ (feeds k ++ c ∷ others)) n.1 ∙ ap (λ l. r.text ++ l) (ap (λ l. l ++ c ∷ others) (sym (one_behind (suc n.0) ) ∙ ap (λ l. l ++ 10 ∷ []) (sym (one_behind n.0))) ∙ append_assoc (feeds n.0 ++ 10 ∷ []) (10 ∷ []) (c ∷ others) ∙ append_assoc (feeds n.0) (10 ∷ []) (10 ∷ c ∷ others)) ∙ sym (append_assoc r.text (feeds n.0) (10 ∷ 10 ∷ c ∷ others));
-          led = feeds_led r.text told held n.0 r.led;
-        }
+      of : (c ∷ others ≡ []) ⊎ (2 ≤ r.count) → Before whole (c ∷ others) told held
+      of (inl none) = some_is_none c others none
+      of (inr two) =
+          let n = two_more r.count two in
+          record {
+            text = r.text ++ feeds n.0;
+            is = r.is ∙ ap (λ k. r.text ++ (feeds k ++ c ∷ others)) n.1 ∙ ap (λ l. r.text ++ l) (ap (λ l. l ++ c ∷ others) (sym (one_behind (suc n.0)) ∙ ap (λ l. l ++ 10 ∷ []) (sym (one_behind n.0))) ∙ append_assoc (feeds n.0 ++ 10 ∷ []) (10 ∷ []) (c ∷ others) ∙ append_assoc (feeds n.0) (10 ∷ []) (10 ∷ c ∷ others)) ∙ sym (append_assoc r.text (feeds n.0) (10 ∷ 10 ∷ c ∷ others));
+            led = feeds_led r.text told held n.0 r.led;
+          }
 
   -- one run more
   pub one_more : (whole run more : List ℕ) (told said : List T) (held left : H) (n : ℕ) → (b : Before whole (run ++ (feeds n ++ more)) told held) → Run held run said left → HasNoEmptyLine run

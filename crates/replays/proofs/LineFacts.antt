@@ -7,6 +7,8 @@ use Rattle.node_runs.specs.DoneLines.{all_line, fault_line, idle_line, known_lin
 use Rattle.node_runs.specs.LineAnswers as answer
 use Rattle.node_runs.specs.LineAnswers.{Answers, PlacedTurn, step_line}
 use Rattle.node_steps.specs.declared.fault.NodeFault.{NodeFault}
+use Rattle.node_steps.specs.declared.fault.NodeFault.TheVariants.{NumbersUsedUp}
+use Rattle.ocpi_text.specs.Whole.{max_whole}
 use Rattle.ocpi_types.specs.declared.field.Field.{Field}
 use Rattle.ocpi_types.specs.declared.packet.Packet.{Packet}
 use Rattle.ocpi_types.specs.declared.rows.Change.{Change}
@@ -55,11 +57,11 @@ refused_closed n place fault =
 malformed_closed : (n : ℕ) (place : Option ℕ) (fault : JsonFault) → IsClosed (malformed_line n place fault)
 malformed_closed n place fault = of (fault_field fault)
   where
-  of : (field : Option Field) → IsClosed (fault_line n place fault field)
-  of None =
-      closed_behind (codes "{\"done\":\"malformed\"") _ (closed_behind (place_member place) _ (closed_behind (codes ",\"line\":") _ (closed_behind (decimal n) _ (closed_behind (codes ",\"name\":\"") _ (closed_behind _ _ (numbered (codes "\",\"number\":") _))))))
-  of (Some field) =
-      closed_behind (codes "{\"done\":\"malformed\"") _ (closed_behind (place_member place) _ (closed_behind (codes ",\"field\":\"") _ (closed_behind _ _ (closed_behind (codes "\",\"line\":") _ (closed_behind (decimal n) _ (closed_behind (codes ",\"name\":\"") _ (closed_behind _ _ (numbered (codes "\",\"number\":") _))))))))
+    of : (field : Option Field) → IsClosed (fault_line n place fault field)
+    of None =
+        closed_behind (codes "{\"done\":\"malformed\"") _ (closed_behind (place_member place) _ (closed_behind (codes ",\"line\":") _ (closed_behind (decimal n) _ (closed_behind (codes ",\"name\":\"") _ (closed_behind _ _ (numbered (codes "\",\"number\":") _))))))
+    of (Some field) =
+        closed_behind (codes "{\"done\":\"malformed\"") _ (closed_behind (place_member place) _ (closed_behind (codes ",\"field\":\"") _ (closed_behind _ _ (closed_behind (codes "\",\"line\":") _ (closed_behind (decimal n) _ (closed_behind (codes ",\"name\":\"") _ (closed_behind _ _ (numbered (codes "\",\"number\":") _))))))))
 
 step_closed : (n : ℕ) (place : Option ℕ) (packets : List Packet) (changed : Bool) → IsClosed (step_line n place packets changed)
 step_closed n place [] false = idle_closed n place
@@ -83,7 +85,7 @@ answers_closed {number = n} (answer.SeveralEvents events is carries) = subst IsC
 
 pub line_closed : (now : Running) (line out : List ℕ) (entered : List Placed) (did : List Deed) (next : Running) → LineGives now line out entered did next → IsClosed out
 line_closed now line out entered did next (WasKnown known written none nothing is) = subst IsClosed (sym written) (known_closed (suc now.number))
-line_closed now line out entered did next (WasBeyond new at written none nothing is) = subst IsClosed (sym written) (refused_closed _ None _)
+line_closed now line out entered did next (WasBeyond new at written none nothing is) = subst IsClosed (sym written) (refused_closed max_whole None NumbersUsedUp)
 line_closed now line out entered did next (WasRead new within turn after answers entered_so is) = answers_closed answers
 
 -- ---- the numbers
@@ -99,15 +101,15 @@ last_within now (inr within) new = within
 pub stays_counted : (now : Running) (line out : List ℕ) (entered : List Placed) (did : List Deed) (next : Running) → IsCounted now → LineGives now line out entered did next → IsCounted next
 stays_counted now line out entered did next counted (WasKnown known written none nothing is) = subst IsCounted (sym is) (of counted)
   where
-  of : IsCounted now → (now.last ≡ now.known) ⊎ (now.last ≤ suc now.number)
-  of (inl same) = inl same
-  of (inr within) = inr (omega (arith, within))
+    of : IsCounted now → (now.last ≡ now.known) ⊎ (now.last ≤ suc now.number)
+    of (inl same) = inl same
+    of (inr within) = inr (omega (arith, within))
 stays_counted now line out entered did next counted (WasBeyond new at written none nothing is) = subst IsCounted (sym is) counted
 stays_counted now line out entered did next counted (WasRead new within turn after answers entered_so is) = subst IsCounted (sym is) (inr (of (changes_of_each did)))
   where
-  of : (cs : List Change) → last_behind cs now.last (suc now.number) ≤ suc now.number
-  of [] = let low = last_within now counted new in omega (arith, low)
-  of (c ∷ cs) = omega arith
+    of : (cs : List Change) → last_behind cs now.last (suc now.number) ≤ suc now.number
+    of [] = let low = last_within now counted new in omega (arith, low)
+    of (c ∷ cs) = omega arith
 
 pub effect_of : (now : Running) (line out : List ℕ) (entered : List Placed) (did : List Deed) (next : Running) → IsCounted now → LineGives now line out entered did next
     → (changes_of_each did ≢ []) ↔ (next.last ≢ now.last)
@@ -117,11 +119,11 @@ effect_of now line out entered did next counted (WasBeyond new at written none n
     ((λ some. absurd (some (ap changes_of_each nothing))), (λ moved. absurd (moved (ap (λ (n : Running). n.last) is))))
 effect_of now line out entered did next counted (WasRead new within turn after answers entered_so is) = of (changes_of_each did) (ap (λ (n : Running). n.last) is)
   where
-  of : (cs : List Change) → next.last ≡ last_behind cs now.last (suc now.number) → (cs ≢ []) ↔ (next.last ≢ now.last)
-  of [] same = ((λ some. absurd (some refl)), (λ moved. absurd (moved same)))
-  of (c ∷ cs) same =
-      let low = last_within now counted new in
-      ((λ some back. let bad = sym same ∙ back in absurd (omega (arith, bad, low))), (λ moved none. let size = ap length none in omega (arith, size)))
+    of : (cs : List Change) → next.last ≡ last_behind cs now.last (suc now.number) → (cs ≢ []) ↔ (next.last ≢ now.last)
+    of [] same = ((λ some. absurd (some refl)), (λ moved. absurd (moved same)))
+    of (c ∷ cs) same =
+        let low = last_within now counted new in
+        ((λ some back. let bad = sym same ∙ back in absurd (omega (arith, bad, low))), (λ moved none. let size = ap length none in omega (arith, size)))
 
 pub lines_count : Counting IsCounted
 lines_count = record { fed = line_closed; stays = stays_counted; effect = effect_of }

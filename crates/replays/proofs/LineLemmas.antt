@@ -67,15 +67,15 @@ module _ (before after : Running) (line text : List ℕ) (first last : Happened)
       → LineDone before after line text first last
   line_read known within number is = λ r. subst (λ n. IsLineRead (at_number before n) after n line text first last → LineDone before after line text first last) (sym is) of r
     where
-    of : IsLineRead (at_number before (suc before.number)) after (suc before.number) line text first last → LineDone before after line text first last
-    of r = record {
-      entered = entries_of_line r.answers;
-      did = r.did;
-      gives = subst (λ l. LineGives (shown before) line l (entries_of_line r.answers) r.did (shown after)) (sym r.written)
-        (WasRead known within r.turn after.node r.answers refl (shown_is r.did (suc before.number) r.same.party r.same.known r.last r.same.number));
-      enters = r.enters;
-      opening = r.same.opening;
-    }
+      of : IsLineRead (at_number before (suc before.number)) after (suc before.number) line text first last → LineDone before after line text first last
+      of r = record {
+        entered = entries_of_line r.answers;
+        did = r.did;
+        gives = subst (λ l. LineGives (shown before) line l (entries_of_line r.answers) r.did (shown after)) (sym r.written)
+            (WasRead known within r.turn after.node r.answers refl (shown_is r.did (suc before.number) r.same.party r.same.known r.last r.same.number));
+        enters = r.enters;
+        opening = r.same.opening;
+      }
 
   -- one that had taken hold before the run
   pub line_known : (number : ℕ) → number ≡ suc before.number → number ≤ before.known → text ≡ known_line number → after ≡ at_number before number → last ≡ first → LineDone before after line text first last

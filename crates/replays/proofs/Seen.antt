@@ -32,9 +32,9 @@ module _ (wanted : List ℕ) (found : Held) where
   seen run said left (printed.NotBegun other is front more cut) line behind plain some same =
       absurd (some (nothing behind more (sym (same_line other line [] (behind ++ more) is.plain plain (cut ∙ ap (λ l. l ++ more) same ∙ append_assoc line (10 ∷ behind) more)).1)))
     where
-    nothing : (xs ys : List ℕ) → xs ++ ys ≡ [] → xs ≡ []
-    nothing [] ys none = refl
-    nothing (x ∷ xs) ys none = some_is_none x (xs ++ ys) none
+      nothing : (xs ys : List ℕ) → xs ++ ys ≡ [] → xs ≡ []
+      nothing [] ys none = refl
+      nothing (x ∷ xs) ys none = some_is_none x (xs ++ ys) none
   seen run said left (printed.NoSetup other is fault fails real front more cut has) line behind plain some same =
       let lines = same_line other line front behind is.plain plain (sym (append_assoc other (10 ∷ []) front) ∙ same) in
       of_line other line behind [] found lines.0 (of_behind other front behind [] found lines.1 (Fault fault fails real more cut refl refl))

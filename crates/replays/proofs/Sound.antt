@@ -35,9 +35,9 @@ pub record IsText (bytes : List ℕ) : Type 0 where
 pub first_is_line : (bytes line behind : List ℕ) → IsText bytes → IsFirstLine bytes line behind → IsLine line
 first_is_line bytes line behind t f = record { some = has line f.is; plain = f.plain }
   where
-  has : (l : List ℕ) → bytes ≡ l ++ 10 ∷ behind → 0 < length l
-  has [] is = absurd (t.begins (heads t.first 10 t.others behind (sym t.some ∙ is)))
-  has (c ∷ l) is = zero-lt-suc (length l)
+    has : (l : List ℕ) → bytes ≡ l ++ 10 ∷ behind → 0 < length l
+    has [] is = absurd (t.begins (heads t.first 10 t.others behind (sym t.some ∙ is)))
+    has (c ∷ l) is = zero-lt-suc (length l)
 
 pub some_behind : (bytes line behind : List ℕ) → IsText bytes → IsFirstLine bytes line behind → behind ≢ []
 some_behind bytes line behind t f none = t.ends line (f.is ∙ ap (λ l. line ++ 10 ∷ l) none)
@@ -50,21 +50,21 @@ has_text (c ∷ text) some = zero-lt-suc (length text)
 pub plain_with_feed : (bytes : List ℕ) → IsText bytes → HasNoEmptyLine (bytes ++ 10 ∷ [])
 plain_with_feed bytes t before after is = of (cuts bytes (10 ∷ []) before (10 ∷ 10 ∷ after) is)
   where
-  of : Cuts bytes (10 ∷ []) before (10 ∷ 10 ∷ after) → ⊥
-  of (First m a b) = short m b
-    where
-    short : (m : List ℕ) → 10 ∷ [] ≡ m ++ 10 ∷ 10 ∷ after → ⊥
-    short [] is = some_is_none 10 after (sym (tails 10 10 [] (10 ∷ after) is))
-    short (c ∷ m) is = joined_is_none m 10 (10 ∷ after) (sym (tails 10 c [] (m ++ 10 ∷ 10 ∷ after) is))
-  of (Second m a b) = long m a b
-    where
-    long : (m : List ℕ) → bytes ≡ before ++ m → 10 ∷ 10 ∷ after ≡ m ++ 10 ∷ [] → ⊥
-    long [] a b = some_is_none 10 after (tails 10 10 (10 ∷ after) [] b)
-    long (c ∷ []) a b = t.ends before (a ∙ ap (λ x. before ++ x ∷ []) (sym (heads 10 c (10 ∷ after) (10 ∷ []) b)))
-    long (c ∷ d ∷ m) a b =
-        let first : c ≡ 10 = sym (heads 10 c (10 ∷ after) (d ∷ (m ++ 10 ∷ [])) b) in
-        let second : d ≡ 10 = sym (heads 10 d after (m ++ 10 ∷ []) (tails 10 c (10 ∷ after) (d ∷ (m ++ 10 ∷ [])) b)) in
-        t.plain before m (a ∙ ap (λ x. before ++ x ∷ d ∷ m) first ∙ ap (λ x. before ++ 10 ∷ x ∷ m) second)
+    of : Cuts bytes (10 ∷ []) before (10 ∷ 10 ∷ after) → ⊥
+    of (First m a b) = short m b
+      where
+        short : (m : List ℕ) → 10 ∷ [] ≡ m ++ 10 ∷ 10 ∷ after → ⊥
+        short [] is = some_is_none 10 after (sym (tails 10 10 [] (10 ∷ after) is))
+        short (c ∷ m) is = joined_is_none m 10 (10 ∷ after) (sym (tails 10 c [] (m ++ 10 ∷ 10 ∷ after) is))
+    of (Second m a b) = long m a b
+      where
+        long : (m : List ℕ) → bytes ≡ before ++ m → 10 ∷ 10 ∷ after ≡ m ++ 10 ∷ [] → ⊥
+        long [] a b = some_is_none 10 after (tails 10 10 (10 ∷ after) [] b)
+        long (c ∷ []) a b = t.ends before (a ∙ ap (λ x. before ++ x ∷ []) (sym (heads 10 c (10 ∷ after) (10 ∷ []) b)))
+        long (c ∷ d ∷ m) a b =
+            let first : c ≡ 10 = sym (heads 10 c (10 ∷ after) (d ∷ (m ++ 10 ∷ [])) b) in
+            let second : d ≡ 10 = sym (heads 10 d after (m ++ 10 ∷ []) (tails 10 c (10 ∷ after) (d ∷ (m ++ 10 ∷ [])) b)) in
+            t.plain before m (a ∙ ap (λ x. before ++ x ∷ d ∷ m) first ∙ ap (λ x. before ++ 10 ∷ x ∷ m) second)
 
 -- ---- an opening
 
@@ -92,15 +92,17 @@ pub cut_prints : (r : Reader) (bytes line behind piece rest : List ℕ) (setup :
     → Prints wanted held bytes [] held
 cut_prints r bytes line behind piece rest setup base closed t h held party wanted m same = of closed rest h.is m.cut
   where
-  fed : IsLine line
-  fed = first_is_line bytes line behind t h.first
-  o : Opens wanted held line
-  o = opens_so wanted setup base line h.reads held m.member m.within (ap key m.is ∙ same) m.state m.opens
-  of : (c : Bool) (after : List ℕ) → IsBehind behind piece c after → IsFalse c → Prints wanted held bytes [] held
-  of c after (read.Line more is) cut = no_truth true refl cut
-  of c after (read.Beginning is) cut =
-      subst (λ l. Prints wanted held l [] held) (append_assoc line (10 ∷ []) behind ∙ sym h.first.is)
-      (printed.CutOpening line fed o behind m.missing (m.tells ∙ ap (λ l. l ++ m.missing) (sym is)) (has_text behind (some_behind bytes line behind t h.first)) m.long)
+    fed : IsLine line
+    fed = first_is_line bytes line behind t h.first
+
+    o : Opens wanted held line
+    o = opens_so wanted setup base line h.reads held m.member m.within (ap key m.is ∙ same) m.state m.opens
+
+    of : (c : Bool) (after : List ℕ) → IsBehind behind piece c after → IsFalse c → Prints wanted held bytes [] held
+    of c after (read.Line more is) cut = no_truth true refl cut
+    of c after (read.Beginning is) cut =
+        subst (λ l. Prints wanted held l [] held) (append_assoc line (10 ∷ []) behind ∙ sym h.first.is)
+        (printed.CutOpening line fed o behind m.missing (m.tells ∙ ap (λ l. l ++ m.missing) (sym is)) (has_text behind (some_behind bytes line behind t h.first)) m.long)
 
 -- what was said of a first line that is no setup
 pub fault_prints : (bytes line behind : List ℕ) → IsText bytes → IsFirstLine bytes line behind → (fault : JsonFault) → FailsToRead fault (numbered_setup_in line) → fault ≢ Memory
@@ -146,22 +148,24 @@ pub opened_prints : (bytes line behind piece rest : List ℕ) (setup : List Node
     → (told : List Happening) (left : Held) → GoesOn (begun_over held member state base) rest told left → Prints wanted held bytes (Opened (run_over line setup over.rows member state) ∷ told) left
 opened_prints bytes line behind piece rest setup base closed t h held member within state over tells wanted same told left on = of closed rest h.is on
   where
-  fed : IsLine line
-  fed = first_is_line bytes line behind t h.first
-  o : Opens wanted held line
-  o = opens_so wanted setup base line h.reads held member within same state over
-  of : (c : Bool) (after : List ℕ) → IsBehind behind piece c after → GoesOn (begun_over held member state base) after told left → Prints wanted held bytes (Opened (run_over line setup over.rows member state) ∷ told) left
-  of c after (read.Line more is) on =
-      subst (λ l. Prints wanted held l (Opened (run_over line setup over.rows member state) ∷ told) left)
-      (append_assoc line (10 ∷ []) (opening_of o ++ more) ∙ ap (λ l. line ++ 10 ∷ l) (ap (λ l. l ++ more) tells ∙ append_assoc piece (10 ∷ []) more ∙ sym is) ∙ sym h.first.is)
-      (printed.Begun line fed o more told left on)
-  of c after (read.Beginning is) on =
-      subst (λ l. Prints wanted held bytes (Opened (run_over line setup over.rows member state) ∷ l) left) (sym (nothing_told (begun_over held member state base) [] told left on refl))
-      (subst (λ l. Prints wanted held l (Opened (run_over line setup over.rows member state) ∷ []) left) (append_assoc line (10 ∷ []) behind ∙ sym h.first.is)
-      (printed.BareOpening line fed o behind (tells ∙ ap (λ l. l ++ 10 ∷ []) (sym is)) left (at_end (begun_over held member state base) [] told left none_plain on)))
-    where
-    none_plain : IsPlain []
-    none_plain = All-nil (λ b. b ≢ 10)
+    fed : IsLine line
+    fed = first_is_line bytes line behind t h.first
+
+    o : Opens wanted held line
+    o = opens_so wanted setup base line h.reads held member within same state over
+
+    of : (c : Bool) (after : List ℕ) → IsBehind behind piece c after → GoesOn (begun_over held member state base) after told left → Prints wanted held bytes (Opened (run_over line setup over.rows member state) ∷ told) left
+    of c after (read.Line more is) on =
+        subst (λ l. Prints wanted held l (Opened (run_over line setup over.rows member state) ∷ told) left)
+        (append_assoc line (10 ∷ []) (opening_of o ++ more) ∙ ap (λ l. line ++ 10 ∷ l) (ap (λ l. l ++ more) tells ∙ append_assoc piece (10 ∷ []) more ∙ sym is) ∙ sym h.first.is)
+        (printed.Begun line fed o more told left on)
+    of c after (read.Beginning is) on =
+        subst (λ l. Prints wanted held bytes (Opened (run_over line setup over.rows member state) ∷ l) left) (sym (nothing_told (begun_over held member state base) [] told left on refl))
+        (subst (λ l. Prints wanted held l (Opened (run_over line setup over.rows member state) ∷ []) left) (append_assoc line (10 ∷ []) behind ∙ sym h.first.is)
+        (printed.BareOpening line fed o behind (tells ∙ ap (λ l. l ++ 10 ∷ []) (sym is)) left (at_end (begun_over held member state base) [] told left none_plain on)))
+      where
+        none_plain : IsPlain []
+        none_plain = All-nil (λ b. b ≢ 10)
 
 -- the same with a line feed more
 pub opened_with_feed : (bytes line behind piece rest : List ℕ) (setup : List Node) (base : Option ℕ) (closed : Bool) → IsText bytes
@@ -171,14 +175,16 @@ pub opened_with_feed : (bytes line behind piece rest : List ℕ) (setup : List N
     → Prints wanted held (bytes ++ 10 ∷ []) (Opened (run_over line setup over.rows member state) ∷ told) left
 opened_with_feed bytes line behind piece rest setup base closed t h held member within state over tells wanted same told left on = of closed rest h.is on
   where
-  fed : IsLine line
-  fed = first_is_line bytes line behind t h.first
-  o : Opens wanted held line
-  o = opens_so wanted setup base line h.reads held member within same state over
-  of : (c : Bool) (after : List ℕ) → IsBehind behind piece c after → GoesOn (begun_over held member state base) (after ++ 10 ∷ []) told left
-      → Prints wanted held (bytes ++ 10 ∷ []) (Opened (run_over line setup over.rows member state) ∷ told) left
-  of c after (read.Line more is) on =
-      subst (λ l. Prints wanted held l (Opened (run_over line setup over.rows member state) ∷ told) left)
-      (append_assoc line (10 ∷ []) (opening_of o ++ (more ++ 10 ∷ [])) ∙ ap (λ l. line ++ 10 ∷ l) (ap (λ l. l ++ (more ++ 10 ∷ [])) tells ∙ append_assoc piece (10 ∷ []) (more ++ 10 ∷ []) ∙ sym (append_assoc piece (10 ∷ more) (10 ∷ [])) ∙ ap (λ l. l ++ 10 ∷ []) (sym is)) ∙ sym (append_assoc line (10 ∷ behind) (10 ∷ [])) ∙ ap (λ l. l ++ 10 ∷ []) (sym h.first.is))
-      (printed.Begun line fed o (more ++ 10 ∷ []) told left on)
-  of c after (read.Beginning is) on = absurd (no_feed_first (begun_over held member state base) (10 ∷ []) [] told left on refl)
+    fed : IsLine line
+    fed = first_is_line bytes line behind t h.first
+
+    o : Opens wanted held line
+    o = opens_so wanted setup base line h.reads held member within same state over
+
+    of : (c : Bool) (after : List ℕ) → IsBehind behind piece c after → GoesOn (begun_over held member state base) (after ++ 10 ∷ []) told left
+        → Prints wanted held (bytes ++ 10 ∷ []) (Opened (run_over line setup over.rows member state) ∷ told) left
+    of c after (read.Line more is) on =
+        subst (λ l. Prints wanted held l (Opened (run_over line setup over.rows member state) ∷ told) left)
+        (append_assoc line (10 ∷ []) (opening_of o ++ (more ++ 10 ∷ [])) ∙ ap (λ l. line ++ 10 ∷ l) (ap (λ l. l ++ (more ++ 10 ∷ [])) tells ∙ append_assoc piece (10 ∷ []) (more ++ 10 ∷ []) ∙ sym (append_assoc piece (10 ∷ more) (10 ∷ [])) ∙ ap (λ l. l ++ 10 ∷ []) (sym is)) ∙ sym (append_assoc line (10 ∷ behind) (10 ∷ [])) ∙ ap (λ l. l ++ 10 ∷ []) (sym h.first.is))
+        (printed.Begun line fed o (more ++ 10 ∷ []) told left on)
+    of c after (read.Beginning is) on = absurd (no_feed_first (begun_over held member state base) (10 ∷ []) [] told left on refl)

@@ -73,8 +73,8 @@ nothing_before (Opened o ∷ told) entries sources tells = absurd tells.opened
 nothing_before (Came line x ∷ told) entries [] tells = absurd tells.from
 nothing_before (Came line x ∷ told) entries (Echoed at text ∷ sources) tells = absurd (none_there at tells.from.0)
   where
-  none_there : (at : ℕ) → suc at ≡ 0 → ⊥
-  none_there at is = omega (arith, is)
+    none_there : (at : ℕ) → suc at ≡ 0 → ⊥
+    none_there at is = omega (arith, is)
 nothing_before (Came line x ∷ told) entries (Restarted at ∷ sources) tells = absurd tells.from
 
 -- the first run
@@ -82,12 +82,12 @@ pub first_told : (told : List Happening) (entries : List Entry) (sources : List 
     → (o : OpenedRun) (x : Opening) → IsRunOf o x → Tells (told ++ Opened o ∷ []) (x ∷ []) entries sources
 first_told told entries sources tells o x is = of (nothing_before told entries sources tells) sources tells.from
   where
-  of : told ≡ [] → (sources : List Source) → AreSourcesOf 0 told sources → Tells (told ++ Opened o ∷ []) (x ∷ []) entries sources
-  of none sources from = record {
-    opened = subst (λ l. AreRunsOf (openings_in (l ++ Opened o ∷ [])) (x ∷ [])) (sym none) (is, tt);
-    entered = tells.entered ∙ ap entries_in none ∙ ap (λ l. entries_in (l ++ Opened o ∷ [])) (sym none);
-    from = subst (λ l. AreSourcesOf 0 (l ++ Opened o ∷ []) sources) (sym none) (subst (λ l. AreSourcesOf 0 l sources) none from);
-  }
+    of : told ≡ [] → (sources : List Source) → AreSourcesOf 0 told sources → Tells (told ++ Opened o ∷ []) (x ∷ []) entries sources
+    of none sources from = record {
+      opened = subst (λ l. AreRunsOf (openings_in (l ++ Opened o ∷ [])) (x ∷ [])) (sym none) (is, tt);
+      entered = tells.entered ∙ ap entries_in none ∙ ap (λ l. entries_in (l ++ Opened o ∷ [])) (sym none);
+      from = subst (λ l. AreSourcesOf 0 (l ++ Opened o ∷ []) sources) (sym none) (subst (λ l. AreSourcesOf 0 l sources) none from);
+    }
 
 -- a later one is a restart
 pub next_told : (told : List Happening) (openings : List Opening) (entries : List Entry) (sources : List Source) → Tells told openings entries sources → openings ≢ []
@@ -99,11 +99,12 @@ next_told told openings entries sources tells some o x is = record {
   from = sources_join 0 (length openings) told (Opened o ∷ []) sources (Restarted (length openings) ∷ []) tells.from (count (as_many (openings_in told) openings tells.opened)) (restarts openings some);
 }
   where
-  count : length (openings_in told) ≡ length openings → 0 + length (openings_in told) ≡ length openings
-  count same = omega (arith, same)
-  restarts : (os : List Opening) → os ≢ [] → AreSourcesOf (length os) (Opened o ∷ []) (Restarted (length os) ∷ [])
-  restarts [] some = absurd (some refl)
-  restarts (x ∷ os) some = (refl, tt)
+    count : length (openings_in told) ≡ length openings → 0 + length (openings_in told) ≡ length openings
+    count same = omega (arith, same)
+
+    restarts : (os : List Opening) → os ≢ [] → AreSourcesOf (length os) (Opened o ∷ []) (Restarted (length os) ∷ [])
+    restarts [] some = absurd (some refl)
+    restarts (x ∷ os) some = (refl, tt)
 
 -- what came
 pub came_told : (told more : List Happening) (openings : List Opening) (entries : List Entry) (sources added : List Source) → Tells told openings entries sources → openings ≢ []
@@ -114,5 +115,5 @@ came_told told more openings entries sources added tells some quiet from = recor
   from = sources_join 0 (length openings) told more sources added tells.from (count (as_many (openings_in told) openings tells.opened)) from;
 }
   where
-  count : length (openings_in told) ≡ length openings → 0 + length (openings_in told) ≡ length openings
-  count same = omega (arith, same)
+    count : length (openings_in told) ≡ length openings → 0 + length (openings_in told) ≡ length openings
+    count same = omega (arith, same)

@@ -28,7 +28,6 @@ pub data BeginsAnew : List ℕ → Type 0 where
   Empty : BeginsAnew []
   Other : (c : ℕ) (text : List ℕ) → c ≢ 10 → BeginsAnew (c ∷ text)
 
-
 -- so far neither an empty line nor the end of the text came
 pub record GoesFurther (front rest : List ℕ) : Type 0 where
   pub plain : HasNoEmptyLine front

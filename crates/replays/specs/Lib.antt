@@ -13,3 +13,4 @@ pub mod Answering
 pub mod Transcripts
 pub mod RunParts
 pub mod Laws
+pub mod Outputs

@@ -1,9 +1,11 @@
 -- What a node prints for a line behind the setup, by the number of the line, and what that makes of it. Nothing here is
 -- of its keeper.
-use Rattle.std.specs.Prelude.{◌≡◌, ◌≢◌, ◌≤◌, ◌<◌, ℕ, suc, List, [], ◌∷◌, ◌++◌, All, None, length}
+use Rattle.std.specs.Prelude.{◌≡◌, ◌≢◌, ◌≤◌, ◌<◌, ℕ, suc, List, [], ◌∷◌, ◌++◌, All, Contains, None, length}
 use Rattle.ocpi_text.specs.Whole.{max_whole}
 use Rattle.ocpi_types.specs.declared.rows.Change.{Change}
 use Rattle.ocpi_types.specs.declared.rows.Row.{Row}
+use Rattle.ocpi_types.specs.declared.rows.Row.TheVariants as row
+use Rattle.ocpi_types.specs.declared.stored.SentCommand.{SentCommand}
 use Rattle.line_runs.specs.declared.run.Turn.{Turn}
 use Rattle.node_runs.specs.DoneLines.{known_line, refused_line}
 use Rattle.node_runs.specs.LineAnswers.{Answers}
@@ -40,6 +42,11 @@ pub record Held : Type 0 where
 pub record Store : Type 0 where
   pub rows : List Row
   pub line : ℕ
+
+-- Its numbers are such as lines and requests may have, which their types keep.
+pub record IsNumbered (s : Store) : Type 0 where
+  pub line : s.line ≤ max_whole
+  pub requests : (n : ℕ) (c : SentCommand) → Contains s.rows (row.Command n c) → n ≤ max_whole
 
 abbrev pub held_in : Store → Held
 held_in s = record { kept = Listed s.rows; line = s.line }

@@ -13,7 +13,7 @@ use Rattle.replays.specs.Happenings.{Came, Happening, IsTextAt, Opened, OpenedRu
 use Rattle.replays.specs.LineTurns.{Store, held_in}
 use Rattle.replays.specs.Fronts.{lines_front}
 use Rattle.replays.specs.Printed.{ArePrinted}
-use Rattle.replays.specs.Reading.{IsOther}
+use Rattle.replays.specs.Reading.{IsOther, Story}
 use Rattle.replays.specs.Telling.{Tells}
 use Rattle.replays.specs.declared.fault.ReplayFault.{ReplayFault}
 use Rattle.replays.specs.declared.fault.ReplayFault.TheVariants as fault
@@ -69,6 +69,13 @@ pub record IsTranscript (t : Transcript) : Type 0 where
 pub record TellsOf (t : Transcript) (told : List Happening) : Type 0 where
   pub tells : Tells told t.openings t.entries t.sources
   pub some : openings_in told ≢ []
+
+-- what was read of runs, of which some was opened, is told
+pub record IsToldBy (s : Story) (t : Transcript) : Type 0 where
+  pub openings : t.openings ≡ s.openings
+  pub entries : t.entries ≡ s.entries
+  pub sources : t.sources ≡ s.sources
+  pub some : s.openings ≢ []
 
 -- the text tells it
 abbrev pub IsTranscriptOf : List (List ℕ) → Store → List ℕ → Transcript → Type 0

@@ -1,5 +1,5 @@
 -- In which ways a node may have been opened, by what stands behind its setup line.
-use Rattle.std.specs.Prelude.{◌≡◌, ◌<◌, ℕ, List, [], ◌∷◌, ◌++◌, Some, Bool, IsFalse, length, slice_get}
+use Rattle.std.specs.Prelude.{◌≡◌, ◌≢◌, ◌<◌, ℕ, List, [], ◌∷◌, ◌++◌, Some, Bool, IsFalse, length, slice_get}
 use Rattle.ocpi_types.specs.declared.rows.Row.{Row}
 use Rattle.ocpi_types.specs.declared.setup.Node.{Node}
 use Rattle.ocpi_types.specs.Setups.{party_of}
@@ -10,6 +10,7 @@ use Rattle.replays.specs.Reading.{AreCut, Fits, MayBe, OpensOver, Reader, WasOpe
 use Rattle.replays.specs.declared.opening.Fit.{Fit}
 use Rattle.replays.specs.declared.opening.Fit.TheVariants as fit
 use Rattle.replays.specs.declared.opening.Opened.{Opened}
+use Rattle.replays.specs.declared.opening.Piece.{Piece}
 use Rattle.replays.specs.declared.opening.Tried.{Tried}
 use Rattle.replays.specs.declared.opening.Tried.TheVariants as tried
 use Rattle.replays.specs.declared.opening.Ways.{Ways}
@@ -38,7 +39,9 @@ pub record IsOpened (setup : List Node) (member : Node) (held : Held) (piece : L
 -- whether the node of a member was
 abbrev pub IsTried : List Node → Node → Held → Bool → List ℕ → Tried → Type 0
 IsTried setup member held closed piece tried.No = (state : NodeState) (over : OpensOver setup member held state) → Fits closed piece (told_line held over.rows member state) → ⊥
-IsTried setup member held closed piece tried.May = (state : NodeState) × ((over : OpensOver setup member held state) × IsBegun closed piece (told_line held over.rows member state))
+IsTried setup member held closed piece tried.May =
+    ((state : NodeState) × ((over : OpensOver setup member held state) × IsBegun closed piece (told_line held over.rows member state)))
+    × ((state : NodeState) (over : OpensOver setup member held state) → told_line held over.rows member state ≢ piece ++ 10 ∷ [])
 IsTried setup member held closed piece (tried.Was o) = IsOpened setup member held piece o
 
 -- one that was is at its place in the setup
@@ -76,3 +79,6 @@ pub data IsPassed (r : Reader) (setup : List Node) (closed : Bool) (piece : List
   Not : (member : Node) → slice_get setup place ≡ Some member → IsTried setup member held closed piece tried.No → after ≡ before → IsPassed r setup closed piece held place before after
   May : (member : Node) → slice_get setup place ≡ Some member → MayBe r (party_of member) → IsTried setup member held closed piece tried.May → after ≡ before ++ party_of member ∷ []
       → IsPassed r setup closed piece held place before after
+
+abbrev pub IsPassedBy : Reader → List Node → Piece → Held → ℕ → List (List ℕ) → List (List ℕ) → Type 0
+IsPassedBy r setup p held place before after = IsPassed r setup p.is_closed p.bytes.now held place before after

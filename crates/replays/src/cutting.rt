@@ -148,6 +148,12 @@ impl<'a> Runs<'a> {
         }
     }
 
+    /// A whole file has no more lines than can be numbered. It does nothing.
+    pub(crate) fn is_numbered(self)
+        requires { self.number ≡ 1 }
+        ensures { HasNumbers self.entry.number self.entry.rest.now }
+    {}
+
     /// The text of the next run that has some.
     pub(crate) fn next(&mut self) -> Option<RunText<'a>>
         requires { HasNumbers self.old.number self.old.rest.now }

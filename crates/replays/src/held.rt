@@ -1,7 +1,10 @@
 //! What a store has: the rows of a node, and the number of the last line that took hold.
 
-ghost use Rattle.std.specs.Prelude.{◌≡◌, ◌++◌, ◌∷◌, [], IfOk, OnOk, false, true};
-ghost use Rattle.replays.specs.LineTurns.{nothing_held};
+ghost use Rattle.std.specs.Prelude.{◌≡◌, ◌≤◌, ◌++◌, ◌∷◌, ℕ, [], Contains, IfOk, OnOk, false, true};
+ghost use Rattle.ocpi_text.specs.Whole.{max_whole};
+ghost use Rattle.ocpi_types.specs.declared.rows.Row.TheVariants.{Command};
+ghost use Rattle.ocpi_types.specs.declared.stored.SentCommand.{SentCommand};
+ghost use Rattle.replays.specs.LineTurns.{IsNumbered, nothing_held};
 
 use ocpi_text::Whole;
 use ocpi_types::Row;
@@ -45,6 +48,15 @@ impl Start {
     }
 }
 
+impl Start {
+    /// Lines and requests can have its numbers, which their types keep. It does nothing.
+    pub(crate) fn is_numbered(&self)
+        ensures { IsNumbered self.now.held }
+    {
+        self.held.is_numbered();
+    }
+}
+
 /// The number where no line took hold.
 fn first_number() -> Whole
     ensures { result ≡ 1 }
@@ -74,6 +86,24 @@ fn copies(alloc: Global, rows: &[Row]) -> Result<Vec<Row>, AllocError>
     Ok(copies)
 }
 
+/// Where the row is a request, it can have its number. It does nothing.
+fn request_fits(row: &Row)
+    ensures { (n : ℕ) (c : SentCommand) → row.now ≡ Command n c → n ≤ max_whole }
+{
+    if let Row::Command { number, .. } = row {
+        let _number = number.value();
+    }
+}
+
+/// So it is of each of these rows.
+fn requests_fit(rows: &[Row])
+    ensures { (n : ℕ) (c : SentCommand) → Contains rows.now (Command n c) → n ≤ max_whole }
+{
+    for row in rows {
+        request_fits(row);
+    }
+}
+
 /// What a store has.
 #[derive(Drop)]
 pub(crate) struct Held {
@@ -100,6 +130,14 @@ impl Held {
         ensures { result ≡ self.now.line }
     {
         self.line
+    }
+
+    /// Lines and requests can have its numbers, which their types keep. It does nothing.
+    fn is_numbered(&self)
+        ensures { IsNumbered self.now }
+    {
+        requests_fit(self.rows.as_slice());
+        let _number = self.line.value();
     }
 
     /// Equal rows. An error is want of memory.

@@ -1,12 +1,13 @@
 //! What the runs of a file so far tell, and what they left in the store. Of one line at most, the last of a run, nothing
 //! tells yet whether it took hold.
 
-ghost use Rattle.std.specs.Prelude.{◌≡◌, ◌↔◌, [], IfNone, IfOk, IfSome, IsTrue, None, OnOk, Some, length, string_bytes};
+ghost use Rattle.std.specs.Prelude.{◌≡◌, ◌↔◌, [], IfErr, IfNone, IfOk, IfSome, IsTrue, List, None, OnOk, Some, length, string_bytes};
 ghost use Rattle.replays.specs.Answering.{IsDoubtOf, IsEntered, IsOtherwise, MayHaveTaken, shown};
-ghost use Rattle.replays.specs.Happenings.{OpenedRun};
+ghost use Rattle.replays.specs.Happenings.{Happening, OpenedRun};
 ghost use Rattle.replays.specs.LineTurns.{IsLeftBy, held_in};
 ghost use Rattle.replays.specs.Reading.{Doubt as DoubtOf, IsOpenedIn, left_out, taken_in};
-ghost use Rattle.replays.specs.Telling.{IsRunOf};
+ghost use Rattle.replays.specs.Telling.{IsRunOf, Tells};
+ghost use Rattle.replays.specs.Transcripts.{IsToldBy};
 
 use crate::answering::{Happened, Running};
 use crate::cutting::EchoedLine;
@@ -126,7 +127,11 @@ impl<'a> History<'a> {
     }
 
     /// What is told in all. A line in doubt is left out.
-    pub(crate) fn into_transcript(self) -> Result<Transcript<'a>, ReplayFault> {
+    pub(crate) fn into_transcript(self) -> Result<Transcript<'a>, ReplayFault>
+        requires { (told : List Happening) × Tells told self.openings self.entries self.sources }
+        ensures ok { IfOk result (IsToldBy self.entry) }
+        ensures none { IfErr result (λ f. (f ≡ ReplayFault.Wrong 0) × (self.entry.openings ≡ [])) }
+    {
         let History {
             alloc: _,
             held,

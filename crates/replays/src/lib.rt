@@ -15,6 +15,9 @@
 //!   that each request has a url of its own. By `read_transcript`: `none` (`AccusesRightly`).
 //! - Some runs print all in front of the line that is named. By `read_transcript`: `line` (`BlamesNoLineBefore`).
 //! - What a node prints for an event is one value, and so is the node behind it. By law `events_give_one_value`.
+//! - Runs of the program `node` with an echo are such runs, each over what its keeper had, wherever it was stopped. By law
+//!   `outputs_are_printed` (`specs/Outputs`). Two facts about a line are asked beside its contract (`Gives`).
+//! - Runs over one store, one behind the other, print what such runs print. By law `runs_are_printed`.
 //! - Which refusal it is, and what is said beside it. No clause says so (tested by the examples).
 #![tactic(auto)]
 
@@ -25,6 +28,7 @@ mod fault;
 mod held;
 mod history;
 pub mod laws;
+mod members;
 mod opening;
 mod reading;
 mod transcript;

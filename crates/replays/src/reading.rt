@@ -1,31 +1,28 @@
 //! The reading of a file, run by run.
 
-ghost use Rattle.std.specs.Prelude.{◌≡◌, ◌≢◌, ◌↔◌, ◌⊎◌, ◌<◌, ◌≤◌, ◌+◌, ◌++◌, ◌∷◌, All, IfErr, IfNone, IfOk, IfSome, IsTrue, List, None, OnOk, Ok, Some, [], drop, length, string_bytes, suc, take, ℕ};
+ghost use Rattle.std.specs.Prelude.{◌≡◌, ◌≢◌, ◌≤◌, ◌+◌, ◌++◌, ◌∷◌, All, IfErr, IfNone, IfOk, IfSome, IsTrue, List, None, OnOk, Some, [], drop, false, length, suc, true, ℕ};
 ghost use Rattle.json_text.specs.Fault.{Fails as FailsToRead};
-ghost use Rattle.node_runs.specs.DoneLines.{malformed_line};
 ghost use Rattle.node_runs.specs.SetupLines.{numbered_setup_in};
 ghost use Rattle.ocpi_text.specs.Text.{key};
 ghost use Rattle.ocpi_types.specs.Setups.{party_of};
-ghost use Rattle.replays.specs.Answering.{shown};
+ghost use Rattle.replays.specs.Answering.{IsOtherwise, shown};
 ghost use Rattle.replays.specs.CutRuns.{HasNumbers};
 ghost use Rattle.replays.specs.Happenings.{Happening};
-ghost use Rattle.replays.specs.Reading.{AreCut, Doubt as DoubtOf, IsAmong, LinesTaken, MayBe, RunRefused, RunTaken, Tail};
+ghost use Rattle.replays.specs.Reading.{AreCut, Doubts, RunRefused, RunTaken};
 ghost use Rattle.replays.specs.LineTurns.{IsLeftBy, held_in};
-ghost use Rattle.replays.specs.RunParts.{AreCutBehind, DiffersAt, IsBegun, IsNotSaid, IsRestOfRun, IsRunText, IsSettled};
+ghost use Rattle.replays.specs.RunParts.{AreCutBehind, AreLinesTaken, BeginsBehind, BegunBehind, DiffersAt, IsNoWay, IsNotSaid, IsRestOfRun, IsRunText, IsSaid, IsSameNode, IsSettled, NamesOpening, RefusedBehind, TakenBehind};
 ghost use Rattle.replays.specs.Telling.{Tells};
-ghost use Rattle.replays.specs.Transcripts.{AccusesRightly, BlamesNoLineBefore, IsTranscriptOf, line_of};
-ghost use Rattle.replays.specs.Ways.{AreNoWays, AreWays, IsPassed, IsWay};
-ghost use Rattle.world_laws.specs.Laws.{IsSetup};
+ghost use Rattle.replays.specs.Transcripts.{AccusesRightly, BlamesNoLineBefore, IsToldBy, IsTranscriptOf, line_of};
+ghost use Rattle.replays.specs.Ways.{IsWay};
 
 use crate::answering::Running;
 use crate::cutting::{EchoedLine, RunText, Runs, feeds_in, split_feed};
 use crate::explaining::{ToldOpening, tell_difference, tell_earlier, tell_older, told_opening};
 use crate::fault::ReplayFault;
-use crate::held::{Held, Start};
+use crate::held::Start;
 use crate::history::History;
-use crate::opening::{Behind, Opened, Piece, Tried, Ways, behind_setup, try_member};
+use crate::opening::{Behind, Opened, Piece, Ways, behind_setup};
 use crate::transcript::{Opening, Transcript};
-use node_core::nodes_of;
 use node_runs::{read_numbered_setup, write_malformed};
 use ocpi_json::{JsonFault, Scratch};
 use ocpi_text::{Party, Whole};
@@ -36,16 +33,16 @@ use tables::HashSeed;
 
 /// What the runs so far tell, and what they left.
 #[derive(Drop)]
-struct Reading<'a, 'b> {
-    alloc: Global,
-    seed: HashSeed,
+pub(crate) struct Reading<'a, 'b> {
+    pub alloc: Global,
+    pub seed: HashSeed,
     /// Whether the rows were given over which the first run was opened.
-    is_given: bool,
+    pub is_given: bool,
     /// The parties of other files.
-    earlier: &'b [Party],
+    pub earlier: &'b [Party],
     /// The parties of which the node may be, where anything tells.
-    parties: Vec<Party>,
-    history: History<'a>,
+    pub parties: Vec<Party>,
+    pub history: History<'a>,
 }
 
 impl<'a, 'b> Model for Reading<'a, 'b> {
@@ -91,7 +88,7 @@ impl<'a, 'b> Reading<'a, 'b> {
     /// What was read of the whole file.
     fn finish(self) -> Result<Transcript<'a>, ReplayFault>
         requires { (told : List Happening) × Tells told self.story.openings self.story.entries self.story.sources }
-        ensures ok { IfOk result (λ t. (t.openings ≡ self.entry.story.openings) × (t.entries ≡ self.entry.story.entries) × (t.sources ≡ self.entry.story.sources)) }
+        ensures ok { IfOk result (IsToldBy self.entry.story) }
         ensures none { IfErr result (λ f. (f ≡ ReplayFault.Wrong 0) × (self.entry.story.openings ≡ [])) }
     {
         let Reading {
@@ -131,7 +128,6 @@ impl<'a, 'b> Reading<'a, 'b> {
                 let behind = behind_setup(line, rest, run.is_ended);
                 self.take_setup(setup, base, behind, scratch, text, words)
             }
-            Err(JsonFault::Memory) => Err(ReplayFault::Memory),
             Err(fault) => self.take_malformed(fault, line, rest, text, words),
         }
     }
@@ -146,9 +142,12 @@ impl<'a, 'b> Reading<'a, 'b> {
         words: &mut String,
     ) -> Result<(), ReplayFault>
         requires { line.number + 2 ≤ 9223372036854775808 }
-        ensures ok { OnOk result ((missing : List ℕ) × (malformed_line 1 None fault ≡ rest.entry.now ++ missing)) }
+        ensures ok { OnOk result (IsSaid fault rest.entry.now) }
         ensures err { IfErr result (λ f. f ≢ ReplayFault.Memory → IsNotSaid fault rest.entry.now line.entry.number f) }
     {
+        if let JsonFault::Memory = fault {
+            return Err(ReplayFault::Memory);
+        }
         text.clear();
         if write_malformed(1, None, fault, text).is_err() {
             return Err(ReplayFault::Memory);
@@ -174,22 +173,18 @@ impl<'a, 'b> Reading<'a, 'b> {
         scratch: &mut Scratch,
         text: &mut String,
         words: &mut String,
-    ) -> Result<(), ReplayFault> {
+    ) -> Result<(), ReplayFault>
+        requires piece { All (λ b. b ≢ 10) behind.piece.bytes.now }
+        requires rest { IsRestOfRun behind.rest.now }
+        requires numbers { HasNumbers (behind.line.number + 2) behind.rest.now }
+        ensures ok { OnOk result (TakenBehind self.old self.new setup base behind.entry) }
+        ensures err { IfErr result (λ f. f ≢ ReplayFault.Memory → RefusedBehind self.old setup base behind.entry f) }
+    {
         match self.open(setup, base, behind, text, words) {
             Ok(Some(running)) => self.take_lines(running, behind, scratch, text, words),
             Ok(None) => Ok(()),
             Err(fault) => Err(fault),
         }
-    }
-
-    /// Whether the node may be of that party.
-    fn may_be(&self, party: &Party) -> bool
-        ensures { IsTrue result ↔ MayBe self.now party.now }
-    {
-        if is_among(self.earlier, party) {
-            return false;
-        }
-        self.parties.is_empty() || is_among(self.parties.as_slice(), party)
     }
 
     /// Begins with the node that was opened, if one was.
@@ -200,14 +195,21 @@ impl<'a, 'b> Reading<'a, 'b> {
         behind: Behind<'a>,
         text: &mut String,
         words: &mut String,
-    ) -> Result<Option<Running>, ReplayFault> {
-        match self.ways_over(&setup, self.history.held(), behind.piece, text)? {
-            Ways::Was(member, opened) => {
+    ) -> Result<Option<Running>, ReplayFault>
+        requires piece { All (λ b. b ≢ 10) behind.piece.bytes.now }
+        requires numbers { behind.line.number + 2 ≤ 9223372036854775808 }
+        ensures some { IfOk result (λ o. IfSome o (BegunBehind self.old self.new setup base behind.entry)) }
+        ensures none { IfOk result (λ o. IfNone o (TakenBehind self.old self.new setup base behind.entry)) }
+        ensures err { IfErr result (λ f. f ≢ ReplayFault.Memory → RefusedBehind self.old setup base behind.entry f) }
+    {
+        match self.ways_over(&setup, self.history.held(), behind.piece, text) {
+            Ok(Ways::Was(member, opened)) => {
                 self.history.leave_out();
                 let running = self.begin(setup, member, opened, base, behind)?;
                 Ok(Some(running))
             }
-            Ways::May(parties) => self.open_behind(setup, parties, base, behind, text, words),
+            Ok(Ways::May(parties)) => self.open_behind(setup, parties, base, behind, text, words),
+            Err(_) => Err(ReplayFault::Memory),
         }
     }
 
@@ -220,7 +222,14 @@ impl<'a, 'b> Reading<'a, 'b> {
         behind: Behind<'a>,
         text: &mut String,
         words: &mut String,
-    ) -> Result<Option<Running>, ReplayFault> {
+    ) -> Result<Option<Running>, ReplayFault>
+        requires piece { All (λ b. b ≢ 10) behind.piece.bytes.now }
+        requires before { AreCut self.old setup behind.piece.is_closed behind.piece.bytes.now self.old.story.held before.items }
+        requires numbers { behind.line.number + 2 ≤ 9223372036854775808 }
+        ensures some { IfOk result (λ o. IfSome o (BegunBehind self.old self.new setup base behind.entry)) }
+        ensures none { IfOk result (λ o. IfNone o (TakenBehind self.old self.new setup base behind.entry)) }
+        ensures err { IfErr result (λ f. f ≢ ReplayFault.Memory → RefusedBehind self.old setup base behind.entry f) }
+    {
         match self.ways_behind(&setup, behind.piece, text) {
             Ok(Ways::Was(member, opened)) => {
                 drop(before);
@@ -229,92 +238,15 @@ impl<'a, 'b> Reading<'a, 'b> {
                 Ok(Some(running))
             }
             Ok(Ways::May(after)) => {
-                self.settle(&setup, before, after, behind, words)?;
-                Ok(None)
+                match self.settle(&setup, before, after, behind, words) {
+                    Ok(()) => Ok(None),
+                    Err(fault) => Err(fault),
+                }
             }
             Err(_) => {
                 drop(before);
                 Err(ReplayFault::Memory)
             }
-        }
-    }
-
-    /// Finds in which ways the node may have been opened over what the line in doubt left.
-    fn ways_behind(
-        &self,
-        setup: &Setup,
-        piece: Piece<'_>,
-        text: &mut String,
-    ) -> Result<Ways, AllocError>
-        requires setup { IsSetup setup.now }
-        requires piece { All (λ b. b ≢ 10) piece.bytes.now }
-        ensures some { (d : DoubtOf) → self.now.story.doubt ≡ Some d → IfOk result (AreWays self.now setup.now piece.entry.is_closed piece.entry.bytes.now d.held) }
-        ensures none { self.now.story.doubt ≡ None → IfOk result AreNoWays }
-    {
-        match self.history.behind() {
-            Some(held) => self.ways_over(setup, held, piece, text),
-            None => Ok(Ways::May(Vec::new(self.alloc))),
-        }
-    }
-
-    /// Finds in which ways the node may have been opened over what a store has.
-    fn ways_over(
-        &self,
-        setup: &Setup,
-        held: &Held,
-        piece: Piece<'_>,
-        text: &mut String,
-    ) -> Result<Ways, AllocError>
-        requires setup { IsSetup setup.now }
-        requires piece { All (λ b. b ≢ 10) piece.bytes.now }
-        ensures { IfOk result (AreWays self.now setup.now piece.entry.is_closed piece.entry.bytes.now (held_in held.now)) }
-    {
-        let mut parties = Vec::new(self.alloc);
-        for place in 0..setup.as_slice().len() {
-            match self.try_at(setup, place, held, piece, text, &mut parties) {
-                Ok(None) => {}
-                Ok(Some(opened)) => {
-                    drop(parties);
-                    return Ok(Ways::Was(place, opened));
-                }
-                Err(_) => {
-                    drop(parties);
-                    return Err(AllocError);
-                }
-            }
-        }
-        Ok(Ways::May(parties))
-    }
-
-    /// Whether the node at a place in a setup was opened over what a store has. Where it may have been, its party is
-    /// added to those. An error is want of memory.
-    fn try_at(
-        &self,
-        setup: &Setup,
-        place: usize,
-        held: &Held,
-        piece: Piece<'_>,
-        text: &mut String,
-        parties: &mut Vec<Party>,
-    ) -> Result<Option<Opened>, AllocError>
-        requires setup { IsSetup setup.now }
-        requires place { place < length setup.now }
-        requires piece { All (λ b. b ≢ 10) piece.bytes.now }
-        ensures some { IfOk result (λ opened. IfSome opened (IsWay self.now setup.now piece.entry.bytes.now (held_in held.now) place)) }
-        ensures none { IfOk result (λ opened. IfNone opened (IsPassed self.now setup.now piece.entry.is_closed piece.entry.bytes.now (held_in held.now) place parties.old.items parties.new.items)) }
-    {
-        let nodes = nodes_of(setup);
-        let member = &nodes[place];
-        if !self.may_be(member.party()) {
-            return Ok(None);
-        }
-        match try_member(self.alloc, self.seed, nodes, member, held, piece, text)? {
-            Tried::No => Ok(None),
-            Tried::May => {
-                parties.push(*member.party())?;
-                Ok(None)
-            }
-            Tried::Was(opened) => Ok(Some(opened)),
         }
     }
 
@@ -326,7 +258,12 @@ impl<'a, 'b> Reading<'a, 'b> {
         after: Vec<Party>,
         behind: Behind<'a>,
         words: &mut String,
-    ) -> Result<(), ReplayFault> {
+    ) -> Result<(), ReplayFault>
+        requires doubt { self.old.story.doubt ≡ None → after.items ≡ [] }
+        requires numbers { behind.line.number + 2 ≤ 9223372036854775808 }
+        ensures ok { OnOk result (IsSettled self.old self.new before.items after.items) }
+        ensures err { IfErr result (λ f. f ≢ ReplayFault.Memory → IsNoWay before.items after.items behind.entry.line.number (line_of f)) }
+    {
         if after.is_empty() {
             drop(after);
             if before.is_empty() {
@@ -356,7 +293,11 @@ impl<'a, 'b> Reading<'a, 'b> {
         opened: Opened,
         base: Option<Whole>,
         behind: Behind<'a>,
-    ) -> Result<Running, AllocError> {
+    ) -> Result<Running, AllocError>
+        requires way { IsWay self.old setup behind.piece.bytes.now self.old.story.held member opened }
+        requires doubt { self.old.story.doubt ≡ None }
+        ensures { IfOk result (BeginsBehind self.old self.new setup base behind.entry) }
+    {
         let party = *setup.as_slice()[member].party();
         self.parties = only(self.alloc, party)?;
         let Opened { node, serial } = opened;
@@ -397,12 +338,10 @@ impl<'a, 'b> Reading<'a, 'b> {
     }
 
     /// Why no node was opened so.
-    fn explain_opening(
-        &self,
-        setup: &Setup,
-        behind: Behind<'a>,
-        words: &mut String,
-    ) -> ReplayFault {
+    fn explain_opening(&self, setup: &Setup, behind: Behind<'a>, words: &mut String) -> ReplayFault
+        requires { behind.line.number + 2 ≤ 9223372036854775808 }
+        ensures { result ≢ ReplayFault.Memory → NamesOpening behind.entry.line.number (line_of result) }
+    {
         let line = behind.line.number;
         let told = match self.told_by(setup, behind.piece) {
             Ok(told) => told,
@@ -440,7 +379,14 @@ impl<'a, 'b> Reading<'a, 'b> {
         scratch: &mut Scratch,
         text: &mut String,
         words: &mut String,
-    ) -> Result<(), ReplayFault> {
+    ) -> Result<(), ReplayFault>
+        requires place { suc running.opening ≡ length self.old.story.openings }
+        requires doubt { self.old.story.doubt ≡ None }
+        requires rest { IsRestOfRun behind.rest.now }
+        requires numbers { HasNumbers (behind.line.number + 2) behind.rest.now }
+        ensures ok { OnOk result (AreLinesTaken (shown running) behind.entry.rest.now behind.entry.is_ended self.old self.new) }
+        ensures err { IfErr result (λ f. f ≢ ReplayFault.Memory → DiffersAt (shown running) behind.entry.rest.now (suc (suc behind.entry.line.number)) (line_of f)) }
+    {
         let mut running = running;
         let mut rest = behind.rest;
         let mut number = behind.line.number + 2;
@@ -478,7 +424,14 @@ impl<'a, 'b> Reading<'a, 'b> {
         is_in_doubt: bool,
         scratch: &mut Scratch,
         text: &mut String,
-    ) -> Result<(), ReplayFault> {
+    ) -> Result<(), ReplayFault>
+        ensures left { OnOk result (IsLeftBy (shown running) self.new.story.held) }
+        ensures same { OnOk result (IsOtherwise self.old.story self.new.story) }
+        ensures certain { is_in_doubt ≡ false → OnOk result (self.new.story.doubt ≡ self.old.story.doubt) }
+        ensures doubts { is_in_doubt ≡ true → OnOk result (Doubts (shown running) line.entry.bytes.now (suc running.opening) self.new.story.doubt) }
+        ensures node { OnOk result (IsSameNode self.old self.new) }
+        ensures err { IfErr result (λ f. f ≡ ReplayFault.Memory) }
+    {
         let mut running = running;
         self.history.leave(&running)?;
         if is_in_doubt {
@@ -498,18 +451,6 @@ fn only(alloc: Global, party: Party) -> Result<Vec<Party>, AllocError>
     Ok(parties)
 }
 
-/// Whether a party is one of these.
-fn is_among(parties: &[Party], party: &Party) -> bool
-    ensures { IsTrue result ↔ IsAmong parties.now party.now }
-{
-    for other in parties {
-        if other.is_same(party) {
-            return true;
-        }
-    }
-    false
-}
-
 /// Reads what a node printed with an echo, run behind run, over one store, from where that had what `start` says. The
 /// node is none of the parties of `earlier`. Where the file is refused for what the node would have printed,
 /// `words` gets that. `scratch` is memory for reading, whatever it holds.
@@ -526,9 +467,11 @@ pub fn read_transcript<'a>(
     ensures none { IfErr result (AccusesRightly earlier.now start.held text.now) }
     ensures line { IfErr result (BlamesNoLineBefore earlier.now start.held text.now) }
 {
+    start.is_numbered();
     let mut reading = Reading::new(alloc, seed, start, earlier);
     let mut printed = String::new(alloc);
     let mut runs = Runs::new(text);
+    runs.is_numbered();
     while let Some(run) = runs.next() {
         match reading.take_run(run, scratch, &mut printed, words) {
             Ok(()) => {}

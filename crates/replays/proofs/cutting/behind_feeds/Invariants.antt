@@ -1,4 +1,3 @@
-
 use Rattle.std.proofs.Common.{◌≡◌, ◌+◌, ◌++◌, length}
 use Rattle.replays.proofs.cutting.behind_feeds.Given as goal
 use Rattle.replays.specs.Cutting.{feeds}

@@ -1,4 +1,3 @@
-
 use Rattle.replays.proofs.CutLemmas.{feed_ends}
 use Rattle.replays.proofs.cutting.ends_there.Goals as goal
 

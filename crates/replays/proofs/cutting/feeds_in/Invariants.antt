@@ -1,4 +1,3 @@
-
 use Rattle.std.proofs.Common.{◌≡◌, ◌+◌, ◌≤◌, length}
 use Rattle.replays.proofs.cutting.feeds_in.Given as goal
 use Rattle.replays.specs.Fronts.{feeds_of}

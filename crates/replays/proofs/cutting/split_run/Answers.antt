@@ -1,4 +1,3 @@
-
 use Rattle.std.proofs.Common.{◌≡◌, ◌+◌, ◌++◌, ◌∷◌, length, [], refl, sym, ap, ◌∙◌, take, arith, append_assoc}
 use Rattle.replays.proofs.CutLemmas.{further, not_far, one_longer}
 use Rattle.replays.proofs.cutting.split_run.Goals as goal
@@ -17,6 +16,8 @@ loop-behind-preserved c =
     let cut : rest ≡ first ∷ behind = c.in-Some.ensures.cases.0 in
     let size : length rest ≡ length (first ∷ behind) = ap length cut in
     let whole : text ≡ take n text ++ first ∷ behind = so.0 ∙ ap (λ l. take n text ++ l) cut in
-    let one = one_longer text n first behind whole (omega (arith, so.1, size)) in
-    (whole ∙ sym (append_assoc (take n text) (first ∷ []) behind) ∙ ap (λ l. l ++ behind) (sym one), omega (arith, so.1, size),
-    further text n first behind rest so.2 so.0 cut (c.ends_run.ensures.not c.if-ends_run.false) one)
+    let one = one_longer text n first behind whole (omega (arith, so.1, size)) in (
+      whole ∙ sym (append_assoc (take n text) (first ∷ []) behind) ∙ ap (λ l. l ++ behind) (sym one),
+      omega (arith, so.1, size),
+      further text n first behind rest so.2 so.0 cut (c.ends_run.ensures.not c.if-ends_run.false) one,
+    )

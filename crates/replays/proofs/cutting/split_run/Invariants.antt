@@ -1,4 +1,3 @@
-
 use Rattle.std.proofs.Common.{◌≡◌, ◌+◌, ◌++◌, take, length}
 use Rattle.replays.proofs.cutting.split_run.Given as goal
 use Rattle.replays.specs.Cutting.{GoesFurther}

@@ -1,4 +1,3 @@
-
 use Rattle.std.proofs.Common.{◌+◌, refl, ap}
 use Rattle.replays.proofs.RunLemmas.{next_run, not_empty}
 use Rattle.replays.proofs.cutting.Runs.next.Goals as goal
