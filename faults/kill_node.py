@@ -2,7 +2,7 @@
 """Kills `node --store`, or what feeds it, at moments drawn by chance, and feeds it on to the last line.
 
     faults/kill_node.py PROGRAM [--runs 50] [--stops 20] [--events 2000] [--most 1] [--seed 1] [--folder FOLDER]
-                        [--old-rule]
+                        [--transcript] [--old-rule]
 
 PROGRAM is `ocpi_nodes`. For each run the events of two operators and two providers are drawn beside `play`. Those of
 one of them become the lines of `node`, in which a delivery has the packet that its sender wrote in `play`. With --most
@@ -28,13 +28,19 @@ whose `done` was seen. Then
   fed again is no packet, and no `stepped`;
 - the rows at the end are those of that run, and the number is that of its last line that changed rows.
 
+With --transcript the node keeps a transcript in a file (`node --transcript`). At each stop the file is cut, where the
+last sync of it ended well or somewhere behind that, as a power cut may leave it, and the store is not: so the store may
+have all that the file lost. Then `weave` must read the file, at each stop and at the end, where the run that it makes
+has each event that did something, in its order.
+
 With --old-rule the node is fed ahead all the same, but after a stop by the rule that was right while lines had no
 numbers: of the lines without `done` only the first can have been applied, and it was where it sent something. Then
 only those lines are counted that were seen to send packets in more than one run, and the status is 0 where there are
 some. (PROGRAM may be one from before the numbers: no setup line has one.)
 
 A try of a minute: `--runs 4 --stops 5 --events 200`. Standard error has a line for each run. The last three lines of
-the output tell the stops that passed, how they came, and what they cost. The status is 0 where all passed.
+the output, or four with --transcript, tell the stops that passed, how they came, and what they cost. The status is 0
+where all passed.
 """
 
 import argparse
@@ -52,7 +58,8 @@ import tempfile
 import threading
 import time
 
-from drawn_lines import draw_lines, in_groups, wide_setup
+from drawn_lines import OTHER_OPERATOR, OTHER_PROVIDER, draw_lines, in_groups, wide_setup
+from kept_transcripts import Transcript, told_of
 from stop_in_store import OPERATOR, PROVIDER, line_of
 
 # Where the stores lie that nobody kills.
@@ -148,9 +155,11 @@ class Printed:
 class Node:
     """A run of `node` over a store, of a file or of a pipe."""
 
-    def __init__(self, given, party, store, source=subprocess.PIPE):
-        words = [given.program, "node", party, "--store", store]
-        self.program = subprocess.Popen(words, stdin=source, stdout=subprocess.PIPE, stderr=subprocess.DEVNULL)
+    def __init__(self, given, party, store, source=subprocess.PIPE, transcript=None):
+        words, how = [given.program, "node", party, "--store", store], {"stderr": subprocess.DEVNULL}
+        if transcript:
+            words, how["env"] = words + transcript.words(), transcript.environment()
+        self.program = subprocess.Popen(words, stdin=source, stdout=subprocess.PIPE, **how)
         self.feeding, self.stopped = None, threading.Event()
 
     def give(self, line):
@@ -241,8 +250,9 @@ class Stop:
 class Feeder:
     """Feeds lines by the five sentences. Line n is `lines[n - 2]`."""
 
-    def __init__(self, given, draw, party, store, by_file):
+    def __init__(self, given, draw, party, store, by_file, transcript=None):
         self.given, self.draw, self.party, self.store, self.by_file = given, draw, party, store, by_file
+        self.transcript = transcript
         lines = draw_lines(given.program, party, given.events, draw)
         if given.most > 1:
             lines = in_groups(lines, party, given.most, draw)
@@ -272,8 +282,8 @@ class Feeder:
         self.runs.append(printed)
         if self.by_file:
             with file_with([setup_from(self.seen), *self.lines[self.seen - 1:last - 1]]) as source:
-                return Node(self.given, self.party, self.store, source), printed
-        node = Node(self.given, self.party, self.store)
+                return Node(self.given, self.party, self.store, source, self.transcript), printed
+        node = Node(self.given, self.party, self.store, transcript=self.transcript)
         node.give(self.setup_line())
         return node, printed
 
@@ -301,6 +311,8 @@ class Feeder:
 
     def note_stop(self, way, printed):
         self.stops.append(Stop(way, self.store, printed, self.seen))
+        if self.transcript:
+            self.transcript.cut()
 
     def feed_all(self):
         """Feeds all lines, and stops the run behind each of the targets."""
@@ -446,11 +458,24 @@ def look_at_answers(feeder, whole):
     return wrong, known, packets
 
 
+def events_that_did(feeder, whole):
+    """The events that changed something or sent packets, in their order."""
+    events = []
+    for number, gave in whole.items():
+        read = json.loads(feeder.lines[number - 2]) if any(map(did_something, gave)) else None
+        events += [read[said["event"]] if "event" in said else read
+                   for said in gave if isinstance(said, dict) and said["done"] == "stepped"]
+    return events
+
+
 def look_at(given, party, feeder, room):
     """What is wrong with a run, and what it cost."""
     whole, rows = run_whole(given, party, feeder, room)
     differs, known, packets = look_at_answers(feeder, whole)
     wrong = feeder.wrong + look_at_stops(given, party, feeder, room) + differs
+    if feeder.transcript:
+        feeder.transcript.end(events_that_did(feeder, whole))
+        wrong += feeder.transcript.wrong
     found, said = rows_of(feeder.store)
     if of_the_node(found) != of_the_node(rows) or said:
         wrong.append(f"{said}the rows at the end are not those of the run that nobody stopped")
@@ -476,6 +501,7 @@ def options():
     words.add_argument("--most", type=int, default=1, help="how many events a line has at most")
     words.add_argument("--seed", type=int, default=1)
     words.add_argument("--folder", help="where the stores lie that are killed (its disk is the one that is tried)")
+    words.add_argument("--transcript", action="store_true", help="keep transcripts in files, and cut them at each stop")
     words.add_argument("--old-rule", action="store_true", help="feed on by the rule for lines without numbers")
     given = words.parse_args()
     given.program = os.path.abspath(given.program)
@@ -501,18 +527,21 @@ def main():
     draw = random.Random(given.seed)
     if given.old_rule:
         return try_old_rule(given, draw)
-    stops, passed, known, lost = [], 0, 0, 0
+    stops, passed, known, lost, transcripts = [], 0, 0, 0, []
     for number in range(given.runs):
         party, by_file = (OPERATOR, PROVIDER)[number % 2], number % 4 >= 2
         name = f"run {number + 1}, {party}, {'from a file' if by_file else 'by a pipe'}"
         with tempfile.TemporaryDirectory(dir=given.folder) as killed, tempfile.TemporaryDirectory(dir=QUICK) as room:
-            feeder = Feeder(given, draw, party, os.path.join(killed, "node.db"), by_file)
+            others = [it for it in (OPERATOR, PROVIDER, OTHER_OPERATOR, OTHER_PROVIDER) if it != party]
+            kept = Transcript(given.program, killed, others, given.seed + number) if given.transcript else None
+            feeder = Feeder(given, draw, party, os.path.join(killed, "node.db"), by_file, kept)
             feeder.feed_all()
             wrong, known_here, lost_here = look_at(given, party, feeder, room)
         for it in wrong[:5]:
             print(f"{name}: {it[:600]}", flush=True)
         print(f"{name}: {len(feeder.stops)} stops, {len(wrong)} wrong", file=sys.stderr, flush=True)
         stops, known, lost = stops + feeder.stops, known + known_here, lost + lost_here
+        transcripts += [kept] if kept else []
         passed += 0 if wrong else len(feeder.stops)
     ways = collections.Counter(stop.way for stop in stops)
     unseen = [stop.number - stop.seen for stop in stops if stop.number > stop.seen]
@@ -522,6 +551,8 @@ def main():
           + f"; {sum(stop.open_frames for stop in stops)} fell in a commit")
     print(f"{sum(unseen)} lines took hold unseen, in {len(unseen)} stops; {known} were fed again as `known`, "
           f"and {lost} packets never seen")
+    if given.transcript:
+        print(told_of(transcripts))
     return 0 if passed == len(stops) == given.runs * given.stops else 1
 
 

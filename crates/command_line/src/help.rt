@@ -117,6 +117,11 @@ Output, on standard output:
   that a line returns is printed before the next line is applied. With --echo two empty lines are
   printed first, and each line before what it returns.
 
+Transcript: with --transcript FILE what --echo would print is added to that file, which is created
+  where it is missing, for its owner alone (mode 0600); standard output has what it has without
+  --echo. All up to a line is on the disk before that line is committed, so `weave` reads the file
+  whatever stopped the run. Give each node a file of its own.
+
 Explanations, on standard error: with --explain, for each line, or event of one, that was malformed
   or refused: its number, the refusal, the path of the member or the column, what was found, and
   what is wanted there; and for each that was skipped, and each report of a charge point that was
@@ -137,10 +142,12 @@ Exit status:
   3  the store refused, or no such node has just the rows: standard error has `store: N Name`, and
      then which file or row, why, and what to do. Or memory ran out: `memory: 4 Memory`. That ends
      the run, and nothing of that line is printed but its echo; where the store could not be closed
-     at the end, all is printed
+     at the end, all is printed. Or the transcript was not opened: `transcript: 1 Refused`, and
+     nothing is read
 
-Example, in the folder of the repository:
-  ./ocpi_nodes node BE/BEC --store be.db < examples/node/operators_day/in.jsonl"#;
+Examples, in the folder of the repository:
+  ./ocpi_nodes node BE/BEC --store be.db < examples/node/operators_day/in.jsonl
+  ./ocpi_nodes node NL/TNM --transcript nl.transcript < examples/node/with_echo/in.jsonl"#;
 
 /// After the help of `settle`.
 pub const SETTLE: &str =
@@ -161,10 +168,11 @@ Example, after `ocpi_nodes play --store stores`:
 
 /// After the help of `weave`.
 pub const WEAVE: &str =
-    r#"Input: each FILE is a transcript, all that `node PARTY --echo` read and printed for one node.
-  Several runs over one store stand in it one behind the other, wherever they were stopped. The first
-  is over a store without rows; or, behind --store STORE, over STORE, a copy of it that was made
-  before, while no program had it open. The parties differ. Standard input is not read.
+    r#"Input: each FILE is a transcript, all that a node read and printed: `node PARTY --transcript FILE`
+  wrote it, or `node PARTY --echo` printed it. Several runs over one store stand in it one behind the
+  other, wherever they were stopped. The first is over a store without rows; or, behind --store STORE,
+  over STORE, a copy of it that was made before, while no program had it open. The parties differ.
+  Standard input is not read.
   What a party sent that --given names is taken as it was received; it has no FILE. PARTY is one of
   the setups, in any case. Give --given once for each such party.
 

@@ -46,6 +46,8 @@ pub struct NodeWords<'a> {
     pub existing: bool,
     /// Whether each line of the input is written before what it gives.
     pub echo: bool,
+    /// The file to which each line and what it gives is added, where there is one.
+    pub transcript: Option<&'a str>,
     /// What is told of the lines.
     pub telling: Telling,
 }
@@ -68,9 +70,10 @@ pub struct FileWords<'a> {
     pub store: Option<&'a str>,
 }
 
-/// Takes the command line `ocpi_nodes [answer | play [--store DIR] | node PARTY [--store FILE [--existing]] [--echo] |
-/// settle FILE | weave [--given PARTY].. [[--store STORE] FILE].. | help [COMMAND]]`, the first three also with `--explain` and
-/// `--strict`, or gives clap's text: the help or the version that was asked for, or what is wrong.
+/// Takes the command line `ocpi_nodes [answer | play [--store DIR] | node PARTY [--store FILE [--existing]]
+/// [--echo | --transcript FILE] | settle FILE | weave [--given PARTY].. [[--store STORE] FILE].. | help [COMMAND]]`,
+/// the first three also with `--explain` and `--strict`, or gives clap's text: the help or the version that was asked
+/// for, or what is wrong.
 pub fn take_words<'a>(alloc: Global, words: &'a [String]) -> Result<Word<'a>, Error> {
     let command = program(alloc)?;
     let matches = command.try_get_matches_from(words)?;
@@ -183,6 +186,7 @@ fn word_of<'a>(matches: &ArgMatches<'a>) -> Word<'a> {
             store: given.get_str("store"),
             existing: given.get_flag("existing"),
             echo: given.get_flag("echo"),
+            transcript: given.get_str("transcript"),
             telling: telling_of(given),
         });
     }
