@@ -119,9 +119,9 @@ class FilesOfBefore(unittest.TestCase):
 
     def test_a_file_of_a_later_bridge_is_refused(self) -> None:
         state = self.opened("new.db")
-        state.query("PRAGMA user_version = 2")
+        state.query("PRAGMA user_version = 3")
         state.close()
-        with self.assertRaisesRegex(WrongState, "a later bridge made this file: its version is 2"):
+        with self.assertRaisesRegex(WrongState, "a later bridge made this file: its version is 3"):
             State(self.folder / "new.db")
 
     def test_what_is_settled_for_30_days_goes(self) -> None:

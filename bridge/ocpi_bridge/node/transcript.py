@@ -1,20 +1,17 @@
 """The record of all that went into a node and came out of it, as the program's own option `--echo` would write it."""
-import mmap
 import os
 from functools import partial
 from pathlib import Path
 
 
 class Transcript:
-    """The file, made for its owner alone. A last line that a stop cut is left out when it is opened."""
+    """The file, made for its owner alone, and the text of one run behind what is there."""
 
     def __init__(self, path: Path) -> None:
         # Without a buffer: what finds no room is not written later, behind what another run wrote.
-        self._file = open(path, "a+b", buffering=0, opener=partial(os.open, mode=0o600))
-        if path.stat().st_size > 0:
-            with mmap.mmap(self._file.fileno(), 0, access=mmap.ACCESS_READ) as written:
-                end = written.rfind(b"\n") + 1
-            self._file.truncate(end)
+        self._file = open(path, "ab", buffering=0, opener=partial(os.open, mode=0o600))
+        # So an empty line stands between two runs, also where a stop cut the last line of the one before.
+        self.append(b"\n\n")
 
     def echo(self, line: bytes) -> None:
         """Writes a line that is about to be fed. It is on the disk when this returns."""
