@@ -27,7 +27,9 @@ class CopiesTest(AheadCase):
         return copy
 
     async def refused(self, running: Running, fault: str) -> None:
-        """Sees that a bridge does not begin, and why."""
+        """Sees that a bridge does not begin, and why. The transcript is as it was."""
+        transcript = running.folder / "node.transcript"
+        written = transcript.read_bytes()
         with self.assertLogs("node", "ERROR") as logged:
             running.begin()
             self.assertEqual(3, await within(running.task))
@@ -35,6 +37,7 @@ class CopiesTest(AheadCase):
         self.assertRegex(logged.output[0], fault)
         with self.assertRaises(NodeEnded):
             await running.feeder.feed(service(True))
+        self.assertEqual(written, transcript.read_bytes())
 
     async def test_an_older_store_is_known_by_a_line_that_sent_nothing(self) -> None:
         running = await self.begin()

@@ -63,14 +63,12 @@ def tokens(*uids: str) -> list[Event]:
 class Running:
     """A feeder over a folder, which can be begun again there, as a bridge that starts anew."""
 
-    def __init__(self, folder: Path, program: Path | str, party: str = "BE/BEC", factor: float = 1.0,
-                 has_transcript: bool = True) -> None:
+    def __init__(self, folder: Path, program: Path | str, party: str = "BE/BEC", factor: float = 1.0) -> None:
         if isinstance(program, str):
             text, program = program, folder / "program"
             program.write_text(text)
             program.chmod(0o755)
-        transcript = folder / "node.transcript" if has_transcript else None
-        self.settings = NodeSettings(program, party, SETUP, folder / "node.db", transcript)
+        self.settings = NodeSettings(program, party, SETUP, folder / "node.db", folder / "node.transcript")
         self.folder, self.factor, self.is_restored = folder, factor, False
         self.noted: list[Outcome] = []
         self.metrics = Metrics()

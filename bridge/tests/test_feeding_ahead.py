@@ -5,11 +5,11 @@ from pathlib import Path
 
 from ocpi_bridge.events import Outcome
 from ocpi_bridge.json_text import write_json
-from ocpi_bridge.node.child import MOST_LINES
+from ocpi_bridge.node.feeder import MOST_LINES
 from ocpi_bridge.records import Event
 
 from .running import Members
-from .test_feeder import STOPPING, FeederCase, Running, charge_of_a_car, settled, tokens, within
+from .test_feeder import STOPPING, FeederCase, Running, charge_of_a_car, settled, tokens, within, woven
 
 # Ticks are so rare that none comes between the lines of a test.
 SLOWLY = 0.001
@@ -25,10 +25,10 @@ def tick() -> Event:
 
 
 class AheadCase(FeederCase):
-    """A feeder without a transcript, whose program takes no line while it is held."""
+    """A feeder whose program takes no line while it is held."""
 
-    async def begin(self, has_transcript: bool = False) -> Running:
-        running = Running(self.folder(), STOPPING, factor=SLOWLY, has_transcript=has_transcript)
+    async def begin(self) -> Running:
+        running = Running(self.folder(), STOPPING, factor=SLOWLY)
         self.addCleanup(self.file(running, "hold").unlink, missing_ok=True)
         await within(running.opened.wait())
         return running
@@ -46,10 +46,9 @@ class AheadCase(FeederCase):
 
     async def feed_at_once(self, running: Running, events: list[Event]) -> "list[asyncio.Task[Outcome]]":
         """Feeds events, in one line where they may not wait."""
-        most = 1 if running.settings.transcript is not None else MOST_LINES
         feeding = [asyncio.create_task(running.feeder.feed(event)) for event in events]
         await asyncio.sleep(0)
-        while running.feeder._queue and len(running.feeder._kept.lines) < most:
+        while running.feeder._queue and len(running.feeder._kept.lines) < MOST_LINES:
             await asyncio.sleep(0.01)
         return feeding
 
@@ -114,6 +113,7 @@ class StopAheadTest(AheadCase):
         noted = [write_json(outcome.event) for outcome in running.noted if outcome.event["event"] != "tick"]
         self.assertEqual([write_json(event) for number, event in enumerate(events) if number not in lost], noted, told)
         self.assertEqual("owed BE/BEC EUR 0.6250\n", settled(running), told)
+        self.assertEqual(0, woven(running), told)
 
     async def test_no_stop_of_the_node_loses_a_line_or_has_it_done_twice(self) -> None:
         for point in ("before", "silent", "begun", "cut", "after"):
@@ -127,15 +127,14 @@ class StopAheadTest(AheadCase):
 class NumbersTest(AheadCase):
     """Which numbers lines have, and what the state has of them."""
 
-    async def test_four_lines_are_under_way_and_one_where_there_is_a_transcript(self) -> None:
-        for has_transcript, most in ((False, 4), (True, 1)):
-            running = await self.begin(has_transcript)
-            feeding = await self.feed_held(running, [service(bool(number % 2)) for number in range(6)])
-            self.assertEqual([(number, "service") for number in range(3, 3 + most)], self.kept(running))
-            self.go_on(running)
-            self.assertEqual(["stepped"] * 6, await words(feeding))
-            self.assertEqual([], self.kept(running))
-            await running.end()
+    async def test_four_lines_are_under_way(self) -> None:
+        running = await self.begin()
+        feeding = await self.feed_held(running, [service(bool(number % 2)) for number in range(6)])
+        self.assertEqual([(number, "service") for number in range(3, 7)], self.kept(running))
+        self.go_on(running)
+        self.assertEqual(["stepped"] * 6, await words(feeding))
+        self.assertEqual([], self.kept(running))
+        await running.end()
 
     async def test_a_run_begins_behind_the_last_line_whose_done_was_seen(self) -> None:
         running = await self.begin()

@@ -175,8 +175,7 @@ class SlowDisk(unittest.IsolatedAsyncioTestCase):
         with mock.patch.object(os, "fdatasync", sync_slowly):
             began = time.monotonic()
             self.assertEqual("stepped", (await within(feeder.feed(charge_of_a_car()[0]))).word)
-            # The state and the transcript.
-            self.assertGreater(time.monotonic() - began, 5.9)
+            self.assertGreater(time.monotonic() - began, 2.9)
         watching.cancel()
         self.assertLess(longest, 1.5)
         await feeder.stop()

@@ -20,7 +20,7 @@ from ..json_text import write_json
 from ..metrics import Metrics
 from ..records import Event
 from ..state import State
-from .child import Child, ChildEnded
+from .child import Child, ChildEnded, TranscriptLocked
 from .kept import Kept
 from .lines import Line, Waiting, next_line
 
@@ -30,6 +30,8 @@ Listener = Callable[[Outcome], None]
 # How long a store is waited for that the node of a killed bridge still has: seconds of real time, until each new try.
 LOCKED_DELAYS = (0.1, 0.2, 0.4, 0.8, 1.5, 2.0, 2.0, 3.0)
 LONGEST_DELAY = 30.0
+# How many lines may be under way. The more there are the fewer events share a line, which is one commit.
+MOST_LINES = 4
 
 
 class OutcomeLost(Exception):
@@ -68,7 +70,9 @@ class Feeder:
         self._woken, self._stopping = asyncio.Event(), asyncio.Event()
         # Held while the node runs, and how many wait until it does not.
         self._running, self._closing = asyncio.Lock(), 0
-        self._has_ended = False
+        self._has_ended = self._found_lock = False
+        # The file that the node could not write for want of room.
+        self._lacks: str | None = None
         self._delay = 0.0
         self.is_open = False
         # When a tick was answered last, as time.monotonic tells it.
@@ -136,9 +140,8 @@ class Feeder:
             if not self._kept.next_number:
                 # Another bridge may have been ending until the node could be opened.
                 self._kept = Kept(self._state)
-            child = await Child.start(self._settings, self._kept.was_opened, self._state)
-            status = await self._run_once(child)
-            if status == 3 and child.found_lock and (delay := next(locked_delays, None)):
+            status = await self._run_once()
+            if status == 3 and self._found_lock and (delay := next(locked_delays, None)):
                 await asyncio.sleep(delay)
             elif status in (2, 3) or (self._closing and status in (0, 1)):
                 break
@@ -151,8 +154,14 @@ class Feeder:
                 self._delay = min(max(1.0, 2 * self._delay), LONGEST_DELAY)
         return status
 
-    async def _run_once(self, child: Child) -> int:
-        """Opens the node, and feeds it until it ends or has to. Gives its status."""
+    async def _run_once(self) -> int:
+        """Starts the node, and feeds it until it ends or has to. Gives its status."""
+        try:
+            child = await Child.start(self._settings, self._kept.was_opened, self._state)
+        except TranscriptLocked:
+            LOG.warning("node.transcript: another program has it")
+            self._found_lock = True
+            return 3
         try:
             await self._open(child)
             await self._feed_and_read(child)
@@ -161,6 +170,7 @@ class Feeder:
         finally:
             self.is_open = False
             status = await child.end()
+            self._found_lock, self._lacks = child.found_lock, child.lacks_room()
         return status
 
     def _has_to_end(self) -> bool:
@@ -198,7 +208,7 @@ class Feeder:
         """Feeds what waits, until the node has to end, and then ends its input. Raises NoRoom."""
         try:
             while not self._has_to_end():
-                if self._queue and len(self._kept.lines) < child.most_lines:
+                if self._queue and len(self._kept.lines) < MOST_LINES:
                     await self._feed_next(child)
                 else:
                     self._woken.clear()

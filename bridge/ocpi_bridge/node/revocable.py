@@ -60,16 +60,16 @@ class RevocableFeeder(Feeder):
         status = await super().run()
         return 1 if status == WITHOUT_ROOM else status
 
-    async def _run_once(self, child: Child) -> int:
+    async def _run_once(self) -> int:
         """Feeds the node as a feeder does. Where a disk is full it ends, and is started again when there is room."""
-        room = self._state.room
+        room, self._lacks = self._state.room, None
         try:
-            status = await super()._run_once(child)
+            status = await super()._run_once()
         except NoRoom:
             status = WITHOUT_ROOM
-        if status == 3 and child.found_no_room:
+        if self._lacks is not None:
             status = WITHOUT_ROOM
-            room.lacks("store", self._settings.store)
+            room.lacks(self._lacks, getattr(self._settings, self._lacks))
         if not room.is_there:
             waits = [asyncio.create_task(room.wait()), asyncio.create_task(self._stopping.wait())]
             await asyncio.wait(waits, return_when=asyncio.FIRST_COMPLETED)
