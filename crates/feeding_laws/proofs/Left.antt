@@ -196,24 +196,24 @@ module _ (held : ChangesAreHeld) (start : NodesCanStartAgain) (keeps : NodesKeep
           (subst (λ (n : ℕ). Answers now.party now.node.state n (lines at) m.turn m.out m.did m.after) (ap suc counted) m.is) in
           elim (below number known) [
             | inl low ↦ Known_again (omega (arith, low, counted, h.knows, last_is))
-              (record { now = now.node.state; after = m.after; turn = m.turn; out = m.out; did = m.did; answers = is; some = m.some; holds = rows_of })
+                (record { now = now.node.state; after = m.after; turn = m.turn; out = m.out; did = m.did; answers = is; some = m.some; holds = rows_of })
             | inr high ↦ As_fed (h.changed ++ at ∷ []) (record { state = m.after; line = suc number })
-              (record {
-                kept = record {
-                  starts = starts_by_events start now.node.state m.after m.did run stored.starts;
-                  of_member = of_run keeps (opening_of setup h.member) now.node.state m.after m.did of_now run;
-                  holds = rows_of;
-                  numbered = subst IsSome (sym line_is) refl;
-                };
-                line = line_is;
-              })
-              (record {
-                are = r.are;
-                did = r.did;
-                now = now.node.state;
-                carries = carried;
-                leaves = One_more h.changed h.last_change changed_so (omega (arith, high, counted, h.knows, last_is)) m.turn m.out m.did m.after is m.some refl (ap suc counted);
-              })
+                (record {
+                  kept = record {
+                    starts = starts_by_events start now.node.state m.after m.did run stored.starts;
+                    of_member = of_run keeps (opening_of setup h.member) now.node.state m.after m.did of_now run;
+                    holds = rows_of;
+                    numbered = subst IsSome (sym line_is) refl;
+                  };
+                  line = line_is;
+                })
+                (record {
+                  are = r.are;
+                  did = r.did;
+                  now = now.node.state;
+                  carries = carried;
+                  leaves = One_more h.changed h.last_change changed_so (omega (arith, high, counted, h.knows, last_is)) m.turn m.out m.did m.after is m.some refl (ap suc counted);
+                })
           ]
 
       left_so : {Made : Content → Type 0} → ((c : Content) → Made c → MadeNext c) → (c : Content) → (c ≡ keeper.content now.node.keep) ⊎ Made c → IsLeft setup h.member lines found base r.read c
