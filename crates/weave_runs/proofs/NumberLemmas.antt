@@ -14,7 +14,6 @@ use Rattle.histories.specs.declared.entry.Entry.{Entry}
 use Rattle.history_laws.proofs.Replaying.{own_party, party_stays}
 use Rattle.history_laws.specs.Replays.{Does, EntryStep, Idle}
 use Rattle.node_core.specs.Members.{IsMadeOfRows}
-use Rattle.node_rows.specs.Holds.{HasRow}
 use Rattle.operator_laws.proofs.events.Doing.{does as operator_does}
 use Rattle.operator_laws.proofs.nodes.NodeSteps.{counts as operator_counts}
 use Rattle.operator_rows.specs.State as operator
@@ -25,7 +24,6 @@ use Rattle.provider_steps.specs.Events as provider_events
 use Rattle.replays.specs.Happenings.{Came, Happening, Opened, OpenedRun, entries_behind}
 use Rattle.stored_laws.specs.Nodes.{AreNodeRows, CanStartAgain, last_serial}
 use Rattle.stored_laws.proofs.Starting.{nodes_can_start_again}
-use Rattle.tables.proofs.Elements.{in_none}
 use Rattle.world_steps.specs.Steps as steps
 use Rattle.world_steps.specs.Steps.{AtOperator, AtProvider, NodeEvent, NodeStep, OperatorDoes, ProviderDoes, packets_of}
 use Rattle.world_steps.specs.World.{NodeState, Operates, Provides}
@@ -105,21 +103,13 @@ party_made setup (node.Operator party site) rows (Provides s) made = absurd made
 party_made setup (node.Provider party) rows (Operates s) made = absurd made
 party_made setup (node.Provider party) rows (Provides s) made = ap (λ (z : provider.State). z.party) made.with_peers
 
-pub row_stands : (rows : List Row) (n : NodeState) (r : Row) → AreNodeRows rows n → Contains rows r → HasRow n r
-row_stands rows (Operates s) r are within = (are.exact r).0 within
-row_stands rows (Provides s) r are within = (are.exact r).0 within
+serial_listed : (rows : List Row) (n : NodeState) (k : ℕ) → AreNodeRows rows n → last_serial n ≡ suc k → Contains rows (row.Count counter.Serial (suc k))
+serial_listed rows (Operates s) k are is = (are.exact (row.Count counter.Serial (suc k))).1 (is, λ none. omega (arith, none))
+serial_listed rows (Provides s) k are is = (are.exact (row.Count counter.Serial (suc k))).1 (is, λ none. omega (arith, none))
 
-row_listed : (rows : List Row) (n : NodeState) (r : Row) → AreNodeRows rows n → HasRow n r → Contains rows r
-row_listed rows (Operates s) r are has = (are.exact r).1 has
-row_listed rows (Provides s) r are has = (are.exact r).1 has
-
-serial_row : (n : NodeState) (k : ℕ) → last_serial n ≡ suc k → HasRow n (row.Count counter.Serial (suc k))
-serial_row (Operates s) k is = (is, λ none. omega (arith, none))
-serial_row (Provides s) k is = (is, λ none. omega (arith, none))
-
-serial_told : (n : NodeState) (k : ℕ) → HasRow n (row.Count counter.Serial k) → last_serial n ≡ k
-serial_told (Operates s) k has = has.0
-serial_told (Provides s) k has = has.0
+serial_told : (rows : List Row) (n : NodeState) (k : ℕ) → AreNodeRows rows n → Contains rows (row.Count counter.Serial k) → last_serial n ≡ k
+serial_told rows (Operates s) k are within = ((are.exact (row.Count counter.Serial k)).0 within).0
+serial_told rows (Provides s) k are within = ((are.exact (row.Count counter.Serial k)).0 within).0
 
 -- rows tell the serial, whichever role their node has
 pub one_serial : (rows : List Row) (n m : NodeState) → AreNodeRows rows n → AreNodeRows rows m → last_serial n ≡ last_serial m
@@ -127,8 +117,8 @@ one_serial rows n m first second = of (last_serial n) (last_serial m) refl refl
   where
     of : (a b : ℕ) → last_serial n ≡ a → last_serial m ≡ b → last_serial n ≡ last_serial m
     of zero zero is also = is ∙ sym also
-    of (suc a) b is also = is ∙ sym (serial_told m (suc a) (row_stands rows m (row.Count counter.Serial (suc a)) second (row_listed rows n (row.Count counter.Serial (suc a)) first (serial_row n a is))))
-    of zero (suc b) is also = serial_told n (suc b) (row_stands rows n (row.Count counter.Serial (suc b)) first (row_listed rows m (row.Count counter.Serial (suc b)) second (serial_row m b also))) ∙ sym also
+    of (suc a) b is also = is ∙ sym (serial_told rows m (suc a) second (serial_listed rows n a first is))
+    of zero (suc b) is also = serial_told rows n (suc b) first (serial_listed rows m b second also) ∙ sym also
 
 pub opens_party : (w : List ℕ) (Had : List Row → Type 0) (o : OpenedRun) (s : NodeState) → OpensSo w Had o s → key (own_party s) ≡ key w
 opens_party w Had o s opens = ap key (party_made o.setup o.member opens.rows s opens.made) ∙ opens.same

@@ -75,9 +75,9 @@ by_life w held t told tells (Living o hs s u is opens leads) =
 -- ---- whose it is
 
 party_is : (o : OpenedRun) (x : Opening) → IsRunOf o x → party_opened x ≡ party_of o.member
-party_is o x is = ap party_at is.2.0
+party_is o x is = ap party_at is.2
 
-teller_is : (w : List ℕ) (held : Held) (t : Transcript) (l : IsLifeOf w held t) → teller t ≡ party_of l.run.member
+pub teller_is : (w : List ℕ) (held : Held) (t : Transcript) (l : IsLifeOf w held t) → teller t ≡ party_of l.run.member
 teller_is w held t l = ap first_party l.openings ∙ party_is l.run l.opening l.is
 
 pub teller_wanted : (w : List ℕ) (held : Held) (t : Transcript) → IsLifeOf w held t → key (teller t) ≡ key w

@@ -12,12 +12,15 @@ use Rattle.history_laws.specs.Replays.{Does, EntryStep, Idle, Replays}
 use Rattle.node_core.specs.Members.{IsMadeOfRows, StartsAgainFrom, line_of, peers_of}
 use Rattle.node_core.proofs.MadeAgain.{same_operator, same_provider}
 use Rattle.node_replay.specs.Replayed.{restart_entry}
-use Rattle.node_rows.proofs.Telling.{empty_is_held}
+use Rattle.operator_rows.specs.State as operator
 use Rattle.operator_rows.specs.Steps as operator_steps
 use Rattle.operator_steps.specs.Events as operator_events
 use Rattle.operator_stored.proofs.BadRows.{make_again as operator_again}
+use Rattle.operator_stored.proofs.Putting.{none_put}
+use Rattle.provider_rows.specs.State as provider
 use Rattle.provider_rows.specs.Steps as provider_steps
 use Rattle.provider_steps.specs.Events as provider_events
+use Rattle.provider_stored.proofs.Made.{made_of_none}
 use Rattle.provider_stored.proofs.Told.{make_again as provider_again}
 use Rattle.replays.specs.Happenings.{Came, Happening, Opened, OpenedRun, entries_behind, openings_in}
 use Rattle.stored_laws.specs.Nodes.{AreNodeRows, CanStartAgain, IsOfOpening, restarted}
@@ -30,7 +33,7 @@ use Rattle.world_steps.specs.Steps as steps
 use Rattle.world_steps.specs.Steps.{AtOperator, AtProvider}
 use Rattle.world_steps.specs.World.{NodeState, Operates, Provides, opening_of}
 use Rattle.weave_runs.proofs.LifeLemmas.{Leads, OpensSo}
-use Rattle.weave_runs.proofs.NumberLemmas.{entry_can, row_stands, rows_made}
+use Rattle.weave_runs.proofs.NumberLemmas.{entry_can}
 
 -- ---- a node that is made of rows
 
@@ -54,15 +57,9 @@ again setup (node.Provider party) rows (Provides s) made can n can_start from =
 
 -- ---- the first run
 
-nothing_listed : (rows : List Row) → ((r : Row) → Contains rows r → ⊥) → rows ≡ []
-nothing_listed [] none = refl
-nothing_listed (r ∷ rows) none = absurd (none r (in_front r rows))
-
 no_rows_first : (setup : List Node) (m : Node) → AreNodeRows [] (opening_of setup m)
-no_rows_first setup m =
-    let (rows, is, are) = empty_is_held.openings setup m in
-    subst (λ (l : List Row). AreNodeRows l (opening_of setup m))
-    (nothing_listed rows (λ r within. empty_is_held.only (opening_of setup m) (empty_is_held.openings setup m) r (row_stands rows (opening_of setup m) r are within))) are
+no_rows_first setup (node.Operator party site) = (none_put (line_of setup party site) (operator.opening (line_of setup party site)) refl).has_rows
+no_rows_first setup (node.Provider party) = (made_of_none (peers_of setup party) (provider.opening (peers_of setup party)) refl).has_rows
 
 first_again : (setup : List Node) (m : Node) → restarted (opening_of setup m) ≡ opening_of setup m
 first_again setup (node.Operator party site) = refl
@@ -105,7 +102,7 @@ module _ (setup : List Node) (is_setup : IsSetup setup) (w : List ℕ) (m : Node
 
   pub replays_on : (p : List ℕ) (s t : NodeState) (hs : List Happening) → CanStartAgain s → IsOfOpening (opening_of setup m) s → ((o : OpenedRun) → Contains (openings_in hs) o → o.setup ≡ setup)
       → Leads w p s hs t → Replays s (entries_behind hs) t
-  replays_on p s t [] can of one leads = leads
+  replays_on p s t [] can of one leads = sym leads
   replays_on p s t (Came text x ∷ hs) can of one (u, step, reads, rest) =
       (u, step, replays_on p u t hs (entry_can s u x.entry can step) (entry_keeps (opening_of setup m) s u x.entry of step) one rest)
   replays_on p s t (Opened o ∷ hs) can of one (u, opens, rest) =

@@ -196,6 +196,11 @@ abbrev pub AddsSetups : List Transcript → Turn → List ℕ → List ℕ → T
 AddsSetups told t before after = (w : Woven) (names : Names told t w) → (first : List (List ℕ)) × HasFirstSetup names.teller_of.openings t.entry first
     × ((later : List (List ℕ)) × HasNewSetup names.teller_of.openings names.source later × (after ≡ before ++ lines_text (first ++ later)))
 
+-- that of a run at that place, where its setup is another than the one before
+abbrev pub AddsOtherSetup : List Opening → ℕ → List ℕ → List ℕ → Type 0
+AddsOtherSetup openings place before after = (n : ℕ) (x y : Opening) → place ≡ suc n → slice_get openings n ≡ Some x → slice_get openings (suc n) ≡ Some y
+    → ((x.setup ≡ y.setup) × (after ≡ before)) ⊎ ((x.setup ≢ y.setup) × AddsLine y.line.bytes.now before after)
+
 -- behind that text stand the steps of the entries that turns name; or these behind their setup lines
 abbrev pub HasSteps : List (List ℕ) → List NodeHistory → List Transcript → List Turn → List ℕ → List ℕ → Type 0
 HasSteps given hs told turns front text = (steps : List Step) × AreStepsOf given hs told turns steps × (text ≡ front ++ steps_text steps)
