@@ -145,12 +145,6 @@ IsWrittenWith given files told (Run text) = IsWoven given told text.items
 IsWrittenWith given files told (Refused refusal) = HasNone given files told (string_bytes refusal.line) ⊎ (string_bytes refusal.line ≡ memory_line)
 IsWrittenWith given files told (Wrong fault) = ⊥
 
--- it is this line
-abbrev pub IsLine : List ℕ → Written → Type 0
-IsLine line (Refused refusal) = string_bytes refusal.line ≡ line
-IsLine line (Run text) = ⊥
-IsLine line (Wrong fault) = ⊥
-
 -- the lines of turns behind the setup line, as input of `play`; or behind what each transcript begins with
 abbrev pub IsPlayedText : List (List ℕ) → List NodeHistory → List Transcript → List Turn → List ℕ → Type 0
 IsPlayedText given hs told turns text = (line : List ℕ) × IsSetupLine told line × HasSteps given hs told turns (ended line) text
