@@ -1,5 +1,5 @@
 -- What is written of transcripts.
-use Rattle.std.proofs.Common.{◌≡◌, ◌⊎◌, ◌∙◌, ℕ, List, [], ◌∷◌, Option, Result, IfErr, IfOk, ap, map, sym, subst, take, arith, refl, inl, inr, Ok, Err, string_bytes}
+use Rattle.std.proofs.Common.{◌≡◌, ◌⊎◌, ◌∙◌, ℕ, ◌+◌, List, [], ◌∷◌, ◌++◌, append-nil, Option, Result, IfErr, IfOk, ap, map, sym, subst, take, arith, refl, inl, inr, Ok, Err, string_bytes}
 use Rattle.std.proofs.lemmas.Option.{slice_get_within}
 use Rattle.std.specs.Borrow.{Bor}
 use Rattle.std.specs.Io.KnownBytes.{Appends}
@@ -11,7 +11,7 @@ use Rattle.histories.specs.declared.entry.Entry.{Entry}
 use Rattle.histories.specs.declared.history.NodeHistory.{NodeHistory}
 use Rattle.histories.specs.Entries.{Delivers, packets_of}
 use Rattle.histories.specs.Weaving.{Woven, event_of}
-use Rattle.histories.proofs.Lists.{is_in, stands}
+use Rattle.histories.proofs.Lists.{is_in, stands, take_one}
 use Rattle.history_laws.specs.Laws.{InterleavingsAreRuns}
 use Rattle.line_runs.specs.declared.outcome.Ran.{Ran}
 use Rattle.line_runs.specs.declared.outcome.RunFault.TheVariants.{WriteFailed}
@@ -35,12 +35,12 @@ use Rattle.weave_runs.specs.declared.told.TranscriptFile.{TranscriptFile}
 use Rattle.weave_runs.specs.declared.weaving.Written.{Written}
 use Rattle.weave_runs.specs.declared.weaving.Written.TheVariants as written
 use Rattle.weave_runs.specs.Histories.{AreHistories, AreTold, AreTranscripts}
-use Rattle.weave_runs.specs.Outputs.{EndsBefore, HasNone, IsOfOneWorld, IsTextOf, IsWoven, IsWritten, IsWrittenWith, OfHistories, OfMemory, Read, Weaves}
+use Rattle.weave_runs.specs.Outputs.{EndsBefore, AreOpeningLines, AsPlayed, HasNone, IsOfOneWorld, IsOtherText, IsPlayedText, IsTextOf, IsWoven, IsWritten, IsWrittenWith, OfHistories, OfMemory, Otherwise, Read, Weaves}
 use Rattle.weave_runs.specs.Refusals.{CameAsLine, CanTell, ComesBy, TellsFault, memory_line, number_of}
-use Rattle.weave_runs.specs.Steps.{IsSourceIn, Names, entry_of}
+use Rattle.weave_runs.specs.Steps.{AddsLine, IsSourceIn, Names, ended, entry_of, lines_text}
 use Rattle.weave_runs.proofs.RunLemmas.{run_as_told}
 use Rattle.weave_runs.proofs.SourceLemmas.{all_sourced}
-use Rattle.weave_runs.proofs.StepLemmas.{each_own, steps_interleave, turn_names}
+use Rattle.weave_runs.proofs.StepLemmas.{each_own, one_behind, steps_interleave, turn_names}
 use Rattle.weave_runs.proofs.ToldLemmas.{replayed, sizes}
 
 -- ---- an entry that is no start between runs came as a line
@@ -150,6 +150,48 @@ module _ (files : List TranscriptFile) (told : List Transcript) (hs : List NodeH
     refusal (weave.Differs t by) cause none line is = inl (refused (weave.Differs t by) (λ e. cc) cause none line is)
     refusal (weave.NoOrder places) cause none line is = inl (refused (weave.NoOrder places) (λ e. cc) cause none line is)
     refusal weave.Memory cause none line is = inr is
+
+-- ---- the text
+
+-- how one transcript more begins
+opening_push : (ts : List Transcript) (lines : List (List ℕ)) (t : Transcript) (x : Opening) (later : List Opening) → t.openings ≡ x ∷ later → AreOpeningLines ts lines
+    → AreOpeningLines (ts ++ t ∷ []) (lines ++ x.told.now ∷ [])
+opening_push [] [] t x later is are = ((x, later, is, refl), tt)
+opening_push [] (l ∷ lines) t x later is are = absurd are
+opening_push (u ∷ ts) [] t x later is are = absurd are
+opening_push (u ∷ ts) (l ∷ lines) t x later is (first, are) = (first, opening_push ts lines t x later is are)
+
+abbrev pub HasBegun : List Transcript → ℕ → List ℕ → List ℕ → Type 0
+HasBegun told i before text = (lines : List (List ℕ)) × AreOpeningLines (take i told) lines × (text ≡ before ++ lines_text lines)
+
+pub none_begun : (told : List Transcript) (before text : List ℕ) → text ≡ before → HasBegun told 0 before text
+none_begun told before text is = ([], tt, is ∙ sym (append-nil before))
+
+pub one_begun : (told : List Transcript) (i : ℕ) (t : Transcript) (x : Opening) (later : List Opening) (first before after : List ℕ) → slice_get told i ≡ Some t → t.openings ≡ x ∷ later
+    → HasBegun told i first before → AddsLine x.told.now before after → HasBegun told (i + 1) first after
+one_begun told i t x later first before after at is (lines, are, text) added = (
+  lines ++ x.told.now ∷ [],
+  subst (λ (ts : List Transcript). AreOpeningLines ts (lines ++ x.told.now ∷ [])) (sym (take_one told i t at)) (opening_push (take i told) lines t x later is are),
+  one_behind ended lines x.told.now first before after text added,
+)
+
+pub played : (given : List (List ℕ)) (hs : List NodeHistory) (told : List Transcript) (turns : List Turn) (text : List ℕ) (setup : List Node) → IsOfOneWorld setup told
+    → IsPlayedText given hs told turns text → IsTextOf given hs told turns text
+played given hs told turns text setup one (line, is_line, (steps, are, is)) = (steps, are, AsPlayed setup one line is_line is)
+
+pub otherwise : (given : List (List ℕ)) (hs : List NodeHistory) (told : List Transcript) (turns : List Turn) (text : List ℕ) → ((setup : List Node) → IsOfOneWorld setup told → ⊥)
+    → IsOtherText given hs told turns text → IsTextOf given hs told turns text
+otherwise given hs told turns text none (lines, are_lines, (steps, are, is)) = (steps, are, Otherwise none lines are_lines is)
+
+-- ---- one world
+
+-- a transcript of runs of that setup, which begins without rows
+pub record IsAlike (setup : List Node) (t : Transcript) : Type 0 where
+  pub setups : (x : Opening) → Contains t.openings x → x.setup ≡ setup
+  pub empty : (x : Opening) (xs : List Opening) → t.openings ≡ x ∷ xs → x.rows ≡ 0
+
+pub all_alike : (setup : List Node) (told : List Transcript) → ((t : Transcript) → Contains told t → IsAlike setup t) → IsOfOneWorld setup told
+all_alike setup told all = record { setups = λ t within. (all t within).setups; empty = λ t within. (all t within).empty }
 
 -- a beginning of what may be written
 pub begun : {T : Type 0} (words : List (Bor (List ℕ))) (files : List TranscriptFile) (r : Result T WeaveRunFault) (old new : Option (List ℕ)) (ran : Ran) (bytes : List ℕ) → Weaves words files ran bytes

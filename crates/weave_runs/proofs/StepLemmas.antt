@@ -1,5 +1,5 @@
 -- The lines of entries, and those of the entries that turns name.
-use Rattle.std.proofs.Common.{◌≡◌, ◌≢◌, ◌∙◌, zero, suc, ℕ, ◌+◌, List, [], ◌∷◌, ◌++◌, length, take, map, sym, ap, subst, option_map, arith, refl, Ok, Err, OnOk, Result, ◌⊎◌, inl, inr}
+use Rattle.std.proofs.Common.{◌≡◌, ◌≢◌, ◌∙◌, zero, suc, ℕ, ◌+◌, ◌<◌, List, [], ◌∷◌, ◌++◌, length, take, map, sym, ap, subst, option_map, arith, refl, Ok, Err, OnOk, Result, ◌⊎◌, inl, inr}
 use Rattle.std.proofs.lemmas.List.{append-nil, append_assoc, length-map}
 use Rattle.std.proofs.lemmas.List.Concat.{flat_map-append}
 use Rattle.std.proofs.lemmas.Option.{slice_get-map, slice_get_within}
@@ -30,7 +30,7 @@ use Rattle.weave.specs.Turns.{AreTurns, IsOrderWith, IsTurn}
 use Rattle.weave.proofs.Turning.{one_entry, turn_at}
 use Rattle.weave_runs.specs.Histories.{AreHistories, AreTold, Lived, lived, lived_told}
 use Rattle.weave_runs.specs.Refusals.{spelled}
-use Rattle.weave_runs.specs.Steps.{AddsDelivery, AddsLine, AddsRestart, AddsSetups, AddsStep, AddsTurn, AreNamed, AreSourced, AreStepsOf, Came, Delivered, Given, HasFirstSetup, HasNewSetup, HasSteps, HasStepsAndSetups, IsEventLine, IsFirst, IsLater, IsNone, IsSame, IsSourceIn, IsStep, IsStepIn, IsStepOf, IsTakenAsItCame, Names, Restarted, Step, ended, entry_of, lines_text, step_text, step_with_setups, steps_text, steps_with_setups}
+use Rattle.weave_runs.specs.Steps.{AddsDelivery, AddsLine, AddsOtherSetup, AddsRestart, AddsSetups, AddsStep, AddsTurn, AreNamed, AreSourced, AreStepsOf, Came, Delivered, Given, HasFirstSetup, HasNewSetup, HasSteps, HasStepsAndSetups, IsEventLine, IsFirst, IsLater, IsNew, IsNone, IsSame, IsSourceIn, IsStep, IsStepIn, IsStepOf, IsTakenAsItCame, Names, Restarted, Step, ended, entry_of, lines_text, step_text, step_with_setups, steps_text, steps_with_setups}
 use Rattle.weave_runs.proofs.RunLemmas.{IsOwn}
 
 pub on_ok : {T E P Q : Type 0} (r : Result T E) → (P → Q) → OnOk r P → OnOk r Q
@@ -123,7 +123,27 @@ same_setup t setup (origin.Restarted (suc n)) all (inl later) y here =
     let before = stands t.openings n (omega (arith, within)) in
     IsSame n before.0 y refl before.1 here (all before.0 (is_in t.openings n before.0 before.1) ∙ sym (all y (is_in t.openings (suc n) y here)))
 
+-- where they differ from those before, they stand there
+pub new_setup : (openings : List Opening) (s : Source) (at : ℕ) (before after : List ℕ) → s ≡ origin.Restarted at → at ≢ 0 → at < length openings → AddsOtherSetup openings at before after
+    → (later : List (List ℕ)) × HasNewSetup openings s later × (after ≡ before ++ lines_text later)
+new_setup openings s zero before after is later within adds = absurd (later refl)
+new_setup openings s (suc n) before after is later within adds =
+    let x = stands openings n (omega (arith, within)) in
+    let y = stands openings (suc n) within in
+    of x.0 x.1 y.0 y.1 (adds n x.0 y.0 refl x.1 y.1)
+  where
+    of : (x : Opening) → slice_get openings n ≡ Some x → (y : Opening) → slice_get openings (suc n) ≡ Some y
+        → ((x.setup ≡ y.setup) × (after ≡ before)) ⊎ ((x.setup ≢ y.setup) × AddsLine y.line.bytes.now before after)
+        → (later : List (List ℕ)) × HasNewSetup openings s later × (after ≡ before ++ lines_text later)
+    of x here y there (inl (same, nothing)) = ([], IsSame n x y is here there same, nothing ∙ sym (append-nil before))
+    of x here y there (inr (apart, added)) = (y.line.bytes.now ∷ [], IsNew n x y is here there apart, added ∙ ap (λ l. before ++ l) (sym (append-nil (ended y.line.bytes.now))))
+
 -- ---- the lines of turns
+
+pub one_behind : {X : Type 0} (f : X → List ℕ) (xs : List X) (x : X) (front before after : List ℕ) → before ≡ front ++ flat_map f xs → after ≡ before ++ f x → after ≡ front ++ flat_map f (xs ++ x ∷ [])
+one_behind f xs x front before after is added =
+    added ∙ ap (λ l. l ++ f x) is ∙ append_assoc front (flat_map f xs) (f x)
+    ∙ ap (λ l. front ++ l) (ap (λ l. flat_map f xs ++ l) (sym (append-nil (f x))) ∙ sym (flat_map-append f xs (x ∷ [])))
 
 module _ (given : List (List ℕ)) (hs : List NodeHistory) (told : List Transcript) where
   pub steps_push : (ts : List Turn) (steps : List Step) (t : Turn) (s : Step) → AreStepsOf given hs told ts steps → IsStepOf given hs told t s → AreStepsOf given hs told (ts ++ t ∷ []) (steps ++ s ∷ [])
@@ -179,12 +199,6 @@ module _ (given : List (List ℕ)) (hs : List NodeHistory) (told : List Transcri
 
   pub steps_and_setups_none : (front text : List ℕ) → text ≡ front → HasStepsAndSetups given hs told [] front text
   steps_and_setups_none front text is = ([], tt, is ∙ sym (append-nil front))
-
-  one_behind : {X : Type 0} (f : X → List ℕ) (xs : List X) (x : X) (front before after : List ℕ) → before ≡ front ++ flat_map f xs → after ≡ before ++ f x
-      → after ≡ front ++ flat_map f (xs ++ x ∷ [])
-  one_behind f xs x front before after is added =
-      added ∙ ap (λ l. l ++ f x) is ∙ append_assoc front (flat_map f xs) (f x)
-      ∙ ap (λ l. front ++ l) (ap (λ l. flat_map f xs ++ l) (sym (append-nil (f x))) ∙ sym (flat_map-append f xs (x ∷ [])))
 
   -- one line more, where all runs have one setup
   pub steps_more : (turns : List Turn) (i : ℕ) (t : Turn) (front before after : List ℕ) → slice_get turns i ≡ Some t → HasSteps given hs told (take i turns) front before
