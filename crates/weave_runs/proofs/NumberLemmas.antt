@@ -11,7 +11,6 @@ use Rattle.ocpi_types.specs.declared.setup.Node.{Node}
 use Rattle.ocpi_types.specs.declared.setup.Node.TheVariants as node
 use Rattle.histories.specs.Entries.{IsNumbered, sent}
 use Rattle.histories.specs.declared.entry.Entry.{Entry}
-use Rattle.history_laws.proofs.Replaying.{own_party, party_stays}
 use Rattle.history_laws.specs.Replays.{Does, EntryStep, Idle}
 use Rattle.node_core.specs.Members.{IsMadeOfRows}
 use Rattle.operator_laws.proofs.events.Doing.{does as operator_does}
@@ -31,8 +30,14 @@ use Rattle.weave_runs.proofs.LifeLemmas.{Leads, OpensSo}
 
 -- ---- one step
 
+-- whose node it is
+abbrev pub own_party : NodeState → List ℕ
+own_party (Operates s) = s.party
+own_party (Provides s) = s.party
+
 -- the packets of a step follow the last one, and are of its node
 record Follows (n m : NodeState) (packets : List Packet) : Type 0 where
+  party : own_party m ≡ own_party n
   last : last_serial m ≡ last_serial n + length packets
   each : (k : ℕ) (q : Packet) → slice_get packets k ≡ Some q → (q.from ≡ own_party n) × (q.serial ≡ last_serial n + (k + 1))
 
@@ -45,13 +50,12 @@ provider_happens s e t (steps.Done by) = provider_events.Done by
 provider_happens s e t (steps.Restarted now is) = provider_events.Restarted now is
 
 follow : (n m : NodeState) (x : NodeEvent) → CanStartAgain n → NodeStep n x m → Follows n m (packets_of x)
-unfolding own_party
 follow (Operates s) (Operates t) (AtOperator e) can step =
     let counts = operator_counts s t e (operator_does s t e (operator_happens s e t step)) in
-    record { last = counts.serial; each = λ k q at. let is = counts.each k q at in (is.from, is.serial) }
+    record { party = counts.party; last = counts.serial; each = λ k q at. let is = counts.each k q at in (is.from, is.serial) }
 follow (Provides s) (Provides t) (AtProvider e) can step =
     let counts = (steps_are_node_steps s t e can.sound.0 (provider_happens s e t step)).counts in
-    record { last = counts.serial; each = λ k q at. let is = counts.each k q at in (is.from, is.serial) }
+    record { party = counts.party; last = counts.serial; each = λ k q at. let is = counts.each k q at in (is.from, is.serial) }
 follow (Operates s) (Operates t) (AtProvider e) can step = absurd step
 follow (Operates s) (Provides t) (AtOperator e) can step = absurd step
 follow (Operates s) (Provides t) (AtProvider e) can step = absurd step
@@ -63,11 +67,10 @@ follow (Provides s) (Provides t) (AtOperator e) can step = absurd step
 
 record Enters (n m : NodeState) (e : Entry) : Type 0 where
   follows : Follows n m e.packets
-  party : own_party m ≡ own_party n
   can : CanStartAgain m
 
 none_follow : (n m : NodeState) → m ≡ n → Follows n m []
-none_follow n m same = record { last = ap last_serial same ∙ none (last_serial n); each = λ k q at. cc }
+none_follow n m same = record { party = ap own_party same; last = ap last_serial same ∙ none (last_serial n); each = λ k q at. cc }
   where
     none : (a : ℕ) → a ≡ a + 0
     none a = omega arith
@@ -79,12 +82,10 @@ entry_can n m e can (Idle idle) = subst CanStartAgain (sym idle.same) can
 enters : (n m : NodeState) (e : Entry) → CanStartAgain n → EntryStep n e m → Enters n m e
 enters n m e can (Does x did) = record {
   follows = subst (Follows n m) (sym did.sends) (follow n m x can did.step);
-  party = party_stays n x m did.step;
   can = nodes_can_start_again n m x can did.step;
 }
 enters n m e can (Idle idle) = record {
   follows = subst (Follows n m) (sym idle.sends) (none_follow n m idle.same);
-  party = ap own_party idle.same;
   can = subst CanStartAgain (sym idle.same) can;
 }
 
@@ -97,7 +98,6 @@ rows_made setup (node.Provider party) rows (Operates s) made = absurd made
 rows_made setup (node.Provider party) rows (Provides s) made = made.has_rows
 
 party_made : (setup : List Node) (m : Node) (rows : List Row) (n : NodeState) → IsMadeOfRows setup m rows n → own_party n ≡ party_of m
-unfolding own_party
 party_made setup (node.Operator party site) rows (Operates s) made = ap (λ (z : operator.State). z.party) made.of_site
 party_made setup (node.Operator party site) rows (Provides s) made = absurd made
 party_made setup (node.Provider party) rows (Operates s) made = absurd made
@@ -143,7 +143,7 @@ numbered w p s t [] can party leads k q at = cc
 numbered w p s t (Came text x ∷ hs) can party (u, step, reads, rest) =
     let one = enters s u x.entry can step in
     number_join w (last_serial s) x.entry.packets (sent (entries_behind hs)) (numbered_by w s u x.entry.packets party one.follows)
-    (subst (λ (n : ℕ). IsNumbered w n (sent (entries_behind hs))) one.follows.last (numbered w p u t hs one.can (ap key one.party ∙ party) rest))
+    (subst (λ (n : ℕ). IsNumbered w n (sent (entries_behind hs))) one.follows.last (numbered w p u t hs one.can (ap key one.follows.party ∙ party) rest))
 numbered w p s t (Opened o ∷ hs) can party (u, opens, rest) =
     subst (λ (n : ℕ). IsNumbered w n (sent (entries_behind hs))) (sym (one_serial opens.rows s u opens.had (rows_made o.setup o.member opens.rows u opens.made)))
     (numbered w (party_of o.member) u t hs opens.starts (opens_party w (λ rows. AreNodeRows rows s) o u opens) rest)

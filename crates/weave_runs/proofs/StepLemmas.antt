@@ -113,12 +113,11 @@ first_setup (x ∷ openings) zero some = (x.line.bytes.now ∷ [], IsFirst x ref
 first_setup (x ∷ openings) (suc k) some = ([], IsLater (λ none. omega (arith, none)))
 
 -- where all runs have one setup, none stands before a restart
-pub same_setup : (t : Transcript) (setup : List Node) (s : Source) → ((x : Opening) → Contains t.openings x → x.setup ≡ setup) → opening_of s ≢ 0 ⊎ ((at : ℕ) → s ≢ origin.Restarted at)
+pub same_setup : (t : Transcript) (setup : List Node) (s : Source) → ((x : Opening) → Contains t.openings x → x.setup ≡ setup) → ((at : ℕ) → s ≡ origin.Restarted at → at ≢ 0)
     → (y : Opening) → slice_get t.openings (opening_of s) ≡ Some y → HasNewSetup t.openings s []
 same_setup t setup (origin.Echoed at line) all later y here = IsNone (λ place e. cc)
-same_setup t setup (origin.Restarted zero) all (inl later) y here = absurd (later refl)
-same_setup t setup (origin.Restarted at) all (inr none) y here = absurd (none at refl)
-same_setup t setup (origin.Restarted (suc n)) all (inl later) y here =
+same_setup t setup (origin.Restarted zero) all later y here = absurd (later zero refl refl)
+same_setup t setup (origin.Restarted (suc n)) all later y here =
     let within = slice_get_within t.openings (suc n) y here in
     let before = stands t.openings n (omega (arith, within)) in
     IsSame n before.0 y refl before.1 here (all before.0 (is_in t.openings n before.0 before.1) ∙ sym (all y (is_in t.openings (suc n) y here)))

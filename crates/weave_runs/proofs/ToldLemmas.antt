@@ -195,7 +195,7 @@ module _ (told : List Transcript) (hs : List NodeHistory) (same : AreHistories h
           subst (λ (rs : List Row). IsMadeOfRows setup l.run.member rs l.first) rows (subst (λ (ns : List Node). IsMadeOfRows ns l.run.member l.opens.rows l.first) run_setup l.opens.made) in
           let first : l.first ≡ opening_of setup l.run.member = opened_first setup is_setup l.run.member member l.first made l.opens.starts in
           let replays = replays_on setup is_setup f.wanted l.run.member member l.opens.same (party_of l.run.member) l.first l.last l.told l.opens.starts
-            (subst (IsOfFirst l.run.member) (sym first) (nodes_keep_openings.at_first setup l.run.member))
+            (subst (λ (s : NodeState). IsOfOpening (opening_of setup l.run.member) s) (sym first) (nodes_keep_openings.at_first setup l.run.member))
             (runs_have (openings_in l.told) l.later l.are (λ x inside. setups x (in_later l.opening l.later x inside))) l.leads in (
             l.last,
             record {
@@ -206,9 +206,6 @@ module _ (told : List Transcript) (hs : List NodeHistory) (same : AreHistories h
                   (subst (λ (es : List Entry). Replays l.first es l.last) (sym (ap (λ (x : Lived). x.entries) is ∙ l.entries)) replays);
             },
           )
-        where
-          IsOfFirst : Node → NodeState → Type 0
-          IsOfFirst m = IsOfOpening (opening_of setup m)
 
       -- a state for each of them
       states_of : (gs : List NodeHistory) → ((h : NodeHistory) → Contains gs h → (u : NodeState) × IsReplayed setup h u)
