@@ -37,10 +37,10 @@ use Rattle.weave_runs.specs.declared.weaving.Written.TheVariants as written
 use Rattle.weave_runs.specs.Histories.{AreHistories, AreTold, AreTranscripts}
 use Rattle.weave_runs.specs.Outputs.{EndsBefore, AreOpeningLines, AsPlayed, HasNone, IsOfOneWorld, IsOtherText, IsPlayedText, IsTextOf, IsWoven, IsWritten, IsWrittenWith, OfHistories, OfMemory, Otherwise, Read, Weaves}
 use Rattle.weave_runs.specs.Refusals.{CameAsLine, CanTell, ComesBy, TellsFault, memory_line, number_of}
-use Rattle.weave_runs.specs.Steps.{AddsLine, IsSourceIn, Names, ended, entry_of, lines_text}
+use Rattle.weave_runs.specs.Steps.{AddsLine, AddsSetups, AddsTurn, AreNamed, AreSourced, HasSteps, HasStepsAndSetups, IsSourceIn, Names, ended, entry_of, lines_text}
 use Rattle.weave_runs.proofs.RunLemmas.{run_as_told}
 use Rattle.weave_runs.proofs.SourceLemmas.{all_sourced}
-use Rattle.weave_runs.proofs.StepLemmas.{each_own, one_behind, steps_interleave, turn_names}
+use Rattle.weave_runs.proofs.StepLemmas.{each_own, one_behind, same_setup, steps_and_setups_more, steps_interleave, steps_more, turn_names}
 use Rattle.weave_runs.proofs.ToldLemmas.{replayed, sizes}
 
 -- ---- an entry that is no start between runs came as a line
@@ -182,6 +182,24 @@ played given hs told turns text setup one (line, is_line, (steps, are, is)) = (s
 pub otherwise : (given : List (List ℕ)) (hs : List NodeHistory) (told : List Transcript) (turns : List Turn) (text : List ℕ) → ((setup : List Node) → IsOfOneWorld setup told → ⊥)
     → IsOtherText given hs told turns text → IsTextOf given hs told turns text
 otherwise given hs told turns text none (lines, are_lines, (steps, are, is)) = (steps, are, Otherwise none lines are_lines is)
+
+-- one turn more
+module _ (given : List (List ℕ)) (hs : List NodeHistory) (told : List Transcript) (turns : List Turn) (named : AreNamed told turns) where
+  pub played_more : AreTold told → AreSourced told → ((setup : List Node) × IsOfOneWorld setup told) → (i : ℕ) (t : Turn) (front before after : List ℕ) → slice_get turns i ≡ Some t
+      → HasSteps given hs told (take i turns) front before → AddsTurn given hs told t before after → HasSteps given hs told (take (i + 1) turns) front after
+  played_more are sourced (setup, one) i t front before after at so_far adds =
+      let (w, names) = named i t at in
+      let u = names.teller_of in
+      let inside = is_in told t.history u names.here in
+      let new = same_setup u setup names.source (one.setups u inside)
+        (λ place is. (sourced u inside).later place (subst (Contains u.sources) is (is_in u.sources t.entry names.source names.comes_from))) names.opening names.of_run in
+      steps_more given hs told turns i t front before after at so_far w names ([], new) (are.each u inside).some adds
+
+  pub other_more : (i : ℕ) (t : Turn) (front before between after : List ℕ) → slice_get turns i ≡ Some t → HasStepsAndSetups given hs told (take i turns) front before
+      → AddsSetups told t before between → AddsTurn given hs told t between after → HasStepsAndSetups given hs told (take (i + 1) turns) front after
+  other_more i t front before between after at so_far setups adds =
+      let (w, names) = named i t at in
+      steps_and_setups_more given hs told turns i t front before between after at so_far w names setups adds
 
 -- ---- one world
 

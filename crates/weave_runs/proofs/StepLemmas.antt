@@ -30,7 +30,7 @@ use Rattle.weave.specs.Turns.{AreTurns, IsOrderWith, IsTurn}
 use Rattle.weave.proofs.Turning.{one_entry, turn_at}
 use Rattle.weave_runs.specs.Histories.{AreHistories, AreTold, Lived, lived, lived_told}
 use Rattle.weave_runs.specs.Refusals.{spelled}
-use Rattle.weave_runs.specs.Steps.{AddsDelivery, AddsLine, AddsOtherSetup, AddsRestart, AddsSetups, AddsStep, AddsTurn, AreNamed, AreSourced, AreStepsOf, Came, Delivered, Given, HasFirstSetup, HasNewSetup, HasSteps, HasStepsAndSetups, IsEventLine, IsFirst, IsLater, IsNew, IsNone, IsSame, IsSourceIn, IsStep, IsStepIn, IsStepOf, IsTakenAsItCame, Names, Restarted, Step, ended, entry_of, lines_text, step_text, step_with_setups, steps_text, steps_with_setups}
+use Rattle.weave_runs.specs.Steps.{AddsDelivery, AddsFirst, AddsLine, AddsNew, AddsOtherSetup, AddsRestart, AddsSetups, AddsStep, AddsTurn, AreNamed, AreSourced, AreStepsOf, Came, Delivered, Given, HasFirstSetup, HasNewSetup, HasSources, HasSteps, HasStepsAndSetups, IsEventLine, IsFirst, IsLater, IsNew, IsNone, IsOfRuns, IsSame, IsSourceIn, IsStep, IsStepIn, IsStepOf, IsTakenAsItCame, Names, Restarted, Step, ended, entry_of, lines_text, step_text, step_with_setups, steps_text, steps_with_setups}
 use Rattle.weave_runs.proofs.RunLemmas.{IsOwn}
 
 pub on_ok : {T E P Q : Type 0} (r : Result T E) → (P → Q) → OnOk r P → OnOk r Q
@@ -123,19 +123,81 @@ same_setup t setup (origin.Restarted (suc n)) all later y here =
     IsSame n before.0 y refl before.1 here (all before.0 (is_in t.openings n before.0 before.1) ∙ sym (all y (is_in t.openings (suc n) y here)))
 
 -- where they differ from those before, they stand there
-pub new_setup : (openings : List Opening) (s : Source) (at : ℕ) (before after : List ℕ) → s ≡ origin.Restarted at → at ≢ 0 → at < length openings → AddsOtherSetup openings at before after
-    → (later : List (List ℕ)) × HasNewSetup openings s later × (after ≡ before ++ lines_text later)
-new_setup openings s zero before after is later within adds = absurd (later refl)
-new_setup openings s (suc n) before after is later within adds =
+pub new_setup : (openings : List Opening) (at : ℕ) (before after : List ℕ) → at ≢ 0 → at < length openings → AddsOtherSetup openings at before after
+    → AddsNew openings (origin.Restarted at) before after
+new_setup openings zero before after later within adds = absurd (later refl)
+new_setup openings (suc n) before after later within adds =
     let x = stands openings n (omega (arith, within)) in
     let y = stands openings (suc n) within in
     of x.0 x.1 y.0 y.1 (adds n x.0 y.0 refl x.1 y.1)
   where
     of : (x : Opening) → slice_get openings n ≡ Some x → (y : Opening) → slice_get openings (suc n) ≡ Some y
         → ((x.setup ≡ y.setup) × (after ≡ before)) ⊎ ((x.setup ≢ y.setup) × AddsLine y.line.bytes.now before after)
-        → (later : List (List ℕ)) × HasNewSetup openings s later × (after ≡ before ++ lines_text later)
-    of x here y there (inl (same, nothing)) = ([], IsSame n x y is here there same, nothing ∙ sym (append-nil before))
-    of x here y there (inr (apart, added)) = (y.line.bytes.now ∷ [], IsNew n x y is here there apart, added ∙ ap (λ l. before ++ l) (sym (append-nil (ended y.line.bytes.now))))
+        → AddsNew openings (origin.Restarted (suc n)) before after
+    of x here y there (inl (same, nothing)) = ([], IsSame n x y refl here there same, nothing ∙ sym (append-nil before))
+    of x here y there (inr (apart, added)) = (y.line.bytes.now ∷ [], IsNew n x y refl here there apart, added ∙ ap (λ l. before ++ l) (sym (append-nil (ended y.line.bytes.now))))
+
+pub no_setup : (openings : List Opening) (s : Source) (at : ℕ) (line : EchoedLine) (before after : List ℕ) → s ≡ origin.Echoed at line → after ≡ before → AddsNew openings s before after
+no_setup openings s at line before after is same = ([], IsNone (λ place other. apart place (sym is ∙ other)), same ∙ sym (append-nil before))
+  where
+    apart : (place : ℕ) → origin.Echoed at line ≡ origin.Restarted place → ⊥
+    apart place e = cc
+
+pub first_here : (openings : List Opening) (place : ℕ) (x : Opening) (later : List Opening) (before after : List ℕ) → place ≡ 0 → openings ≡ x ∷ later → AddsLine x.line.bytes.now before after
+    → AddsFirst openings place before after
+first_here openings place x later before after none is added =
+    (x.line.bytes.now ∷ [], IsFirst x none (ap (λ (l : List Opening). slice_get l 0) is), added ∙ ap (λ l. before ++ l) (sym (append-nil (ended x.line.bytes.now))))
+
+pub first_later : (openings : List Opening) (place : ℕ) (before after : List ℕ) → place ≢ 0 → after ≡ before → AddsFirst openings place before after
+first_later openings place before after some same = ([], IsLater some, same ∙ sym (append-nil before))
+
+-- what is known of the entry that a turn names, by its places
+module _ (told : List Transcript) (t : Turn) (u : Transcript) (here : slice_get told t.history ≡ Some u) where
+  same_teller : (w : Woven) (names : Names told t w) → names.teller_of ≡ u
+  same_teller w names = some_same names.teller_of u (sym names.here ∙ here)
+
+  same_source : (w : Woven) (names : Names told t w) (from : Source) → slice_get u.sources t.entry ≡ Some from → names.source ≡ from
+  same_source w names from comes =
+      some_same names.source from (sym names.comes_from ∙ ap (λ (v : Transcript). slice_get v.sources t.entry) (same_teller w names) ∙ comes)
+
+  pub setups_add : (from : Source) → slice_get u.sources t.entry ≡ Some from → (before between after : List ℕ) → AddsFirst u.openings t.entry before between → AddsNew u.openings from between after
+      → AddsSetups told t before after
+  setups_add from comes before between after (first, has_first, put) (later, has_new, added) w names =
+      let teller = sym (same_teller w names) in
+      let source = sym (same_source w names from comes) in (
+        first,
+        subst (λ (v : Transcript). HasFirstSetup v.openings t.entry first) teller has_first,
+        (
+          later,
+          subst (λ (s : Source). HasNewSetup names.teller_of.openings s later) source (subst (λ (v : Transcript). HasNewSetup v.openings from later) teller has_new),
+          added ∙ ap (λ l. l ++ lines_text later) put ∙ append_assoc before (lines_text first) (lines_text later) ∙ ap (λ l. before ++ l) (sym (flat_map-append ended first later)),
+        ),
+      )
+
+  pub turn_adds : (given : List (List ℕ)) (hs : List NodeHistory) (e : Entry) → slice_get u.entries t.entry ≡ Some e → (from : Source) → slice_get u.sources t.entry ≡ Some from
+      → (x : Opening) → slice_get u.openings (opening_of from) ≡ Some x → (before after : List ℕ) → AddsStep given hs x e before after → AddsTurn given hs told t before after
+  turn_adds given hs e stands from comes x of_run before after adds w names setups =
+      let teller = same_teller w names in
+      let entry : w.entry ≡ e = some_same w.entry e (sym names.stands ∙ ap (λ (v : Transcript). slice_get v.entries t.entry) teller ∙ stands) in
+      let opening : names.opening ≡ x = some_same names.opening x (sym names.of_run ∙ ap (λ (v : Transcript). slice_get v.openings (opening_of names.source)) teller
+        ∙ ap (λ (s : Source). slice_get u.openings (opening_of s)) (same_source w names from comes) ∙ of_run) in
+      let (s, is, added) = adds w.party setups in
+      let woven : s.entry ≡ w = is.entry ∙ ap (λ (f : Entry). record { party = w.party; entry = f }) (sym entry) in
+      (s, record {
+        entry = woven;
+        node = is.node ∙ ap party_opened (sym opening);
+        nodes = is.nodes ∙ ap (λ (y : Opening). y.setup) (sym opening);
+        setups_are = is.setups_are;
+        is_step = is.is_step;
+      }, added)
+
+  -- each restart is of a later run
+  pub of_runs : HasSources u → IsTranscript u → (from : Source) → slice_get u.sources t.entry ≡ Some from → IsOfRuns u.openings from
+  of_runs has is from comes = of from (is_in u.sources t.entry from comes)
+    where
+      of : (from : Source) → Contains u.sources from → IsOfRuns u.openings from
+      of (origin.Echoed at line) within = tt
+      of (origin.Restarted at) within = (has.later at within, is.runs (origin.Restarted at) within)
 
 -- ---- the lines of turns
 

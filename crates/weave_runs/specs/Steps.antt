@@ -1,5 +1,5 @@
 -- The lines of a woven run, and what they stand for.
-use Rattle.std.specs.Prelude.{◌≡◌, ◌≢◌, ◌≤◌, ◌⊎◌, ℕ, suc, List, [], ◌∷◌, ◌++◌, Contains, Ok, Some, flat_map, length, slice_get}
+use Rattle.std.specs.Prelude.{◌≡◌, ◌≢◌, ◌≤◌, ◌<◌, ◌⊎◌, ℕ, suc, List, [], ◌∷◌, ◌++◌, Contains, Ok, Some, flat_map, length, slice_get}
 use Rattle.json_text.specs.Line.{max_line}
 use Rattle.ocpi_json.specs.EventForms.{event_in}
 use Rattle.ocpi_json.specs.NodeEventForms.{node_event_in}
@@ -196,10 +196,21 @@ abbrev pub AddsSetups : List Transcript → Turn → List ℕ → List ℕ → T
 AddsSetups told t before after = (w : Woven) (names : Names told t w) → (first : List (List ℕ)) × HasFirstSetup names.teller_of.openings t.entry first
     × ((later : List (List ℕ)) × HasNewSetup names.teller_of.openings names.source later × (after ≡ before ++ lines_text (first ++ later)))
 
--- that of a run at that place, where its setup is another than the one before
+-- those before a first entry; and those before a run, in one case by its place
+abbrev pub AddsFirst : List Opening → ℕ → List ℕ → List ℕ → Type 0
+AddsFirst openings place before after = (first : List (List ℕ)) × HasFirstSetup openings place first × (after ≡ before ++ lines_text first)
+
+abbrev pub AddsNew : List Opening → Source → List ℕ → List ℕ → Type 0
+AddsNew openings s before after = (later : List (List ℕ)) × HasNewSetup openings s later × (after ≡ before ++ lines_text later)
+
 abbrev pub AddsOtherSetup : List Opening → ℕ → List ℕ → List ℕ → Type 0
 AddsOtherSetup openings place before after = (n : ℕ) (x y : Opening) → place ≡ suc n → slice_get openings n ≡ Some x → slice_get openings (suc n) ≡ Some y
     → ((x.setup ≡ y.setup) × (after ≡ before)) ⊎ ((x.setup ≢ y.setup) × AddsLine y.line.bytes.now before after)
+
+-- where the source is the opening of a run, that stands behind another
+abbrev pub IsOfRuns : List Opening → Source → Type 0
+IsOfRuns openings (origin.Echoed at line) = Unit {0}
+IsOfRuns openings (origin.Restarted at) = (at ≢ 0) × (at < length openings)
 
 -- behind that text stand the steps of the entries that turns name; or these behind their setup lines
 abbrev pub HasSteps : List (List ℕ) → List NodeHistory → List Transcript → List Turn → List ℕ → List ℕ → Type 0

@@ -7,7 +7,24 @@ ghost use Rattle.ocpi_types.specs.declared.packet.Packet.{Packet as PacketOf};
 ghost use Rattle.ocpi_types.specs.declared.setup.Node.{Node as NodeOf};
 ghost use Rattle.weave_runs.specs.Histories.{AreTold};
 ghost use Rattle.weave_runs.specs.Outputs.{AreOpeningLines, IsOfOneWorld, IsOtherText, IsPlayedText};
-ghost use Rattle.weave_runs.specs.Steps.{AddsDelivery, AddsLine, AddsOtherSetup, AddsRestart, AddsSetups, AddsStep, AddsTurn, AreNamed, AreSourced, IsNamed, IsSourceIn, IsTakenAsItCame, lines_text};
+ghost use Rattle.weave_runs.specs.Steps.{
+  AddsDelivery,
+  AddsFirst,
+  AddsLine,
+  AddsNew,
+  AddsOtherSetup,
+  AddsRestart,
+  AddsSetups,
+  AddsStep,
+  AddsTurn,
+  AreNamed,
+  AreSourced,
+  IsNamed,
+  IsOfRuns,
+  IsSourceIn,
+  IsTakenAsItCame,
+  lines_text,
+};
 
 use crate::refusal::spelling;
 use histories::{Entry, NodeHistory};
@@ -185,7 +202,22 @@ pub(crate) fn played_text(
     Ok(text)
 }
 
-/// Adds the setup line of a run that is opened behind another, where the setup is another than before.
+/// Adds the setup line of the first run before the first entry.
+fn push_first_setup(
+    transcript: &Transcript<'_>,
+    place: usize,
+    text: &mut Vec<u8>,
+) -> Result<(), AllocError>
+    ensures { OnOk result (AddsFirst transcript.now.openings place text.old.items text.new.items) }
+{
+    if place == 0 {
+        push_line(text, transcript.first().line.bytes)
+    } else {
+        Ok(())
+    }
+}
+
+/// Adds the setup line of a run at a place behind another, where its setup is another than before.
 fn push_other_setup(
     openings: &[Opening<'_>],
     place: usize,
@@ -203,9 +235,23 @@ fn push_other_setup(
     push_line(text, now.line.bytes)
 }
 
-/// Adds the setup line that is to stand before the entry that a turn names, if one is: that of the first run before the
-/// first entry, and that of a later one before the restart, where the setup is another than before.
-fn push_setup(
+/// Adds that of a run whose opening an entry is, where its setup is another than before.
+fn push_new_setup(
+    openings: &[Opening<'_>],
+    source: &Source<'_>,
+    text: &mut Vec<u8>,
+) -> Result<(), AllocError>
+    requires { IsOfRuns openings.now source.now }
+    ensures { OnOk result (AddsNew openings.now source.now text.old.items text.new.items) }
+{
+    match source {
+        Source::Restarted { opening } => push_other_setup(openings, *opening, text),
+        Source::Echoed { .. } => Ok(()),
+    }
+}
+
+/// Adds the setup lines that are to stand before the entry that a turn names.
+fn push_setups(
     transcripts: &[Transcript<'_>],
     turn: Turn,
     text: &mut Vec<u8>,
@@ -215,13 +261,12 @@ fn push_setup(
     ensures { OnOk result (AddsSetups transcripts.now turn text.old.items text.new.items) }
 {
     let transcript = &transcripts[turn.history];
-    if turn.entry == 0 {
-        push_line(text, transcript.first().line.bytes)?;
-    }
-    match &transcript.sources()[turn.entry] {
-        Source::Restarted { opening } => push_other_setup(transcript.openings(), *opening, text),
-        Source::Echoed { .. } => Ok(()),
-    }
+    push_first_setup(transcript, turn.entry, text)?;
+    push_new_setup(
+        transcript.openings(),
+        &transcript.sources()[turn.entry],
+        text,
+    )
 }
 
 /// Adds the line of each transcript that says that its first run was opened.
@@ -251,7 +296,7 @@ pub(crate) fn other_text(
     let mut text = Vec::new(alloc);
     push_openings(transcripts, &mut text)?;
     for turn in turns {
-        push_setup(transcripts, *turn, &mut text)?;
+        push_setups(transcripts, *turn, &mut text)?;
         push_turn(alloc, transcripts, histories, given, *turn, &mut text)?;
     }
     Ok(text)
