@@ -256,6 +256,7 @@ fn push_setups(
     turn: Turn,
     text: &mut Vec<u8>,
 ) -> Result<(), AllocError>
+    requires told { AreTold transcripts.now }
     requires sourced { AreSourced transcripts.now }
     requires named { IsNamed transcripts.now turn }
     ensures { OnOk result (AddsSetups transcripts.now turn text.old.items text.new.items) }
