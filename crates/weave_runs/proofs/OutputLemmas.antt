@@ -1,5 +1,5 @@
 -- What is written of transcripts.
-use Rattle.std.proofs.Common.{◌≡◌, ◌⊎◌, ◌∙◌, ℕ, ◌+◌, List, [], ◌∷◌, ◌++◌, append-nil, Option, Result, IfErr, IfOk, ap, map, sym, subst, take, arith, refl, inl, inr, Ok, Err, string_bytes}
+use Rattle.std.proofs.Common.{◌≡◌, ◌⊎◌, ◌∙◌, ℕ, ◌+◌, List, [], ◌∷◌, ◌++◌, append-nil, drop, Option, Result, IfErr, IfOk, ap, map, sym, subst, take, arith, refl, inl, inr, Ok, Err, string_bytes}
 use Rattle.std.proofs.lemmas.Option.{slice_get_within}
 use Rattle.std.specs.Borrow.{Bor}
 use Rattle.std.specs.Io.KnownBytes.{Appends}
@@ -35,9 +35,10 @@ use Rattle.weave_runs.specs.declared.told.TranscriptFile.{TranscriptFile}
 use Rattle.weave_runs.specs.declared.weaving.Written.{Written}
 use Rattle.weave_runs.specs.declared.weaving.Written.TheVariants as written
 use Rattle.weave_runs.specs.Histories.{AreHistories, AreTold, AreTranscripts}
-use Rattle.weave_runs.specs.Outputs.{EndsBefore, AreOpeningLines, AsPlayed, HasNone, IsOfOneWorld, IsOtherText, IsPlayedText, IsTextOf, IsWoven, IsWritten, IsWrittenWith, OfHistories, OfMemory, Otherwise, Read, Weaves}
+use Rattle.weave_runs.specs.Outputs.{EndsBefore, AreOpeningLines, AsPlayed, HasNone, IsOfOneWorld, IsOtherText, IsPlayedText, IsSetupLine, IsTextOf, IsWoven, IsWritten, IsWrittenWith, OfHistories, OfMemory, Otherwise, Read, Weaves}
 use Rattle.weave_runs.specs.Refusals.{CameAsLine, CanTell, ComesBy, TellsFault, memory_line, number_of}
 use Rattle.weave_runs.specs.Steps.{AddsLine, AddsSetups, AddsTurn, AreNamed, AreSourced, HasSteps, HasStepsAndSetups, IsSourceIn, Names, ended, entry_of, lines_text}
+use Rattle.weave_runs.proofs.RefusalLemmas.{drop_one}
 use Rattle.weave_runs.proofs.RunLemmas.{run_as_told}
 use Rattle.weave_runs.proofs.SourceLemmas.{all_sourced}
 use Rattle.weave_runs.proofs.StepLemmas.{each_own, one_behind, same_setup, steps_and_setups_more, steps_interleave, steps_more, turn_names}
@@ -152,6 +153,10 @@ module _ (files : List TranscriptFile) (told : List Transcript) (hs : List NodeH
     refusal weave.Memory cause none line is = inr is
 
 -- ---- the text
+
+pub setup_line : (told : List Transcript) (t : Transcript) (x : Opening) (later : List Opening) → slice_get told 0 ≡ Some t → t.openings ≡ x ∷ later → IsSetupLine told x.line.bytes.now
+setup_line told t x later here openings =
+    record { first = t; others = drop 1 told; told_are = drop_one told 0 t here; opening = x; later = later; openings_are = openings; is = refl }
 
 -- how one transcript more begins
 opening_push : (ts : List Transcript) (lines : List (List ℕ)) (t : Transcript) (x : Opening) (later : List Opening) → t.openings ≡ x ∷ later → AreOpeningLines ts lines
