@@ -87,7 +87,7 @@ AreRead text events = (k : ℕ) (read : Read NodeEvent) → slice_get events k �
 several_read : (text : List ℕ) (events : List (Read NodeEvent)) → node_line_in text ≡ Ok (Several events) → AreRead text events
 several_read text events is k read at x reads element (texts, are, here) =
     some_same (node_event_in element) read (
-        ap (option_map node_event_in) (sym here) ∙ sym (slice_get-map node_event_in texts k) ∙ ap (λ (l : List (Read NodeEvent)). slice_get l k) (elements_read text texts events are is) ∙ at)
+    ap (option_map node_event_in) (sym here) ∙ sym (slice_get-map node_event_in texts k) ∙ ap (λ (l : List (Read NodeEvent)). slice_get l k) (elements_read text texts events are is) ∙ at)
     ∙ reads
 
 one_read : (text : List ℕ) (read : Read NodeEvent) → node_line_in text ≡ one_of read → IsRead text None read
@@ -98,17 +98,17 @@ module _ (w : List ℕ) where
   turn_leads : {party : List ℕ} {now : NodeState} {number : ℕ} {place : Option ℕ} {read : Read NodeEvent} {turn : Turn} {out : List ℕ} {did : List Deed} {next : NodeState}
       → (turns : PlacedTurn party now number place read turn out did next) → (text : List ℕ) → IsRead text place read → Leads w party now (came_by text (entries_of_turn turns)) next
   turn_leads {next = next} (answer.WasDone x own deed brings step changed tells taken written one) text reads = (
-      next,
-      Does deed (record { brings = brings; step = step; sends = refl }),
-      (λ element at. record { event = x; reads = reads x own.is element at; own = own.same; same = refl }),
-      refl,
-    )
+    next,
+    Does deed (record { brings = brings; step = step; sends = refl }),
+    (λ element at. record { event = x; reads = reads x own.is element at; own = own.same; same = refl }),
+    refl,
+  )
   turn_leads {now = now} (answer.WasUnstored x own unstored taken written none same) text reads = (
-      now,
-      Idle (record { why = inl unstored; sends = refl; same = refl }),
-      (λ element at. record { event = x; reads = reads x own.is element at; own = own.same; same = refl }),
-      sym same,
-    )
+    now,
+    Idle (record { why = inl unstored; sends = refl; same = refl }),
+    (λ element at. record { event = x; reads = reads x own.is element at; own = own.same; same = refl }),
+    sym same,
+  )
   turn_leads (answer.IsElsewhere x is other taken written none same) text reads = sym same
   turn_leads (answer.IsOfOtherRole x own stored nothing taken written none same) text reads = sym same
   turn_leads (answer.IsMalformed fault is other refused written none same) text reads = sym same
@@ -224,7 +224,7 @@ more_lives w held left told later (TellsRun o hs s t is opens leads of) (NoLife 
 more_lives w held left told later (TellsRun o hs s t is opens leads of) (Living p ks u v next opens_next leads_next) =
     Living o (hs ++ later) s v (ap (λ (l : List Happening). l ++ later) is) opens
     (subst (λ (l : List Happening). Leads w (party_of o.member) s (hs ++ l) v) (sym next)
-        (join w (party_of o.member) s t v hs (Opened p ∷ ks) leads (λ q. (u, opens_over w left.kept t p u of opens_next, leads_next))))
+    (join w (party_of o.member) s t v hs (Opened p ∷ ks) leads (λ q. (u, opens_over w left.kept t p u of opens_next, leads_next))))
 
 pub life_of : (w : List ℕ) (held : Held) (text : List ℕ) (told : List Happening) → ArePrinted w held text told → Life w held told
 life_of w held text told cutting.NoMore = NoLife refl

@@ -130,8 +130,8 @@ number_join w n [] qs first later k q at = let is = later k q at in let serial =
 number_join w n (p ∷ ps) qs first later zero q at = first zero q at
 number_join w n (p ∷ ps) qs first later (suc k) q at =
     let is = number_join w (suc n) ps qs
-      (λ j r there. let one = first (suc j) r there in let serial = one.1 in (one.0, omega (arith, serial)))
-      (λ j r there. let one = later j r there in let serial = one.1 in (one.0, omega (arith, serial))) k q at in
+    (λ j r there. let one = first (suc j) r there in let serial = one.1 in (one.0, omega (arith, serial)))
+    (λ j r there. let one = later j r there in let serial = one.1 in (one.0, omega (arith, serial))) k q at in
     let serial = is.1 in
     (is.0, omega (arith, serial))
 

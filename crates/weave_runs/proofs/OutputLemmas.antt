@@ -197,7 +197,7 @@ module _ (given : List (List ℕ)) (hs : List NodeHistory) (told : List Transcri
       let u = names.teller_of in
       let inside = is_in told t.history u names.here in
       let new = same_setup u setup names.source (one.setups u inside)
-        (λ place is. (sourced u inside).later place (subst (Contains u.sources) is (is_in u.sources t.entry names.source names.comes_from))) names.opening names.of_run in
+      (λ place is. (sourced u inside).later place (subst (Contains u.sources) is (is_in u.sources t.entry names.source names.comes_from))) names.opening names.of_run in
       steps_more given hs told turns i t front before after at so_far w names ([], new) (are.each u inside).some adds
 
   pub other_more : (i : ℕ) (t : Turn) (front before between after : List ℕ) → slice_get turns i ≡ Some t → HasStepsAndSetups given hs told (take i turns) front before

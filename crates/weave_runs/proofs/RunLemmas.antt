@@ -14,7 +14,6 @@ use Rattle.histories.specs.declared.history.NodeHistory.{NodeHistory}
 use Rattle.histories.specs.Weaving.{event_of, kind_of}
 use Rattle.histories.proofs.Lists.{in_later}
 use Rattle.history_laws.specs.Laws.{IsRunOf}
-
 use Rattle.tables.proofs.Elements.{in_front}
 use Rattle.world_steps.specs.Network.{Input, MayArrive, OfOperator, OfProvider, Reaches}
 use Rattle.world_steps.specs.Steps.{Does, Gives, IsForNone, Loses, NoNode, NothingReaches, Outcome, Passes, Refuses, WorldRun, WorldStep}

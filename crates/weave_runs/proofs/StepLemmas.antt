@@ -86,9 +86,11 @@ module _ (given : List (List ℕ)) (hs : List NodeHistory) (x : Opening) (e : En
   came_other : NodeLinesAreLines → (line before after : List ℕ) → IsEventLine (party_opened x) e line → ((at : ℕ) (q : Packet) → e.event ≡ event.Deliver at q → ⊥)
       → AddsLine line before after → AddsStep given hs x e before after
   came_other law line before after is none adds party setups =
-      let tells : Event = record { node = is.event.node; kind = kind_of is.event.kind } in
-      (step_of party setups tells line,
-        in_run party setups tells line (Came (law line is.event is.reads (λ at q delivers. none at q (sym is.same ∙ delivers))) is.own (ap kind_of is.same)), adds)
+      let tells : Event = record { node = is.event.node; kind = kind_of is.event.kind } in (
+        step_of party setups tells line,
+        in_run party setups tells line (Came (law line is.event is.reads (λ at q delivers. none at q (sym is.same ∙ delivers))) is.own (ap kind_of is.same)),
+        adds,
+      )
 
   -- what came as it is written: each delivery is taken as it came
   pub came : NodeLinesAreLines → (line before after : List ℕ) → IsEventLine (party_opened x) e line → ((at : ℕ) (q : Packet) → e.event ≡ event.Deliver at q → IsTakenAsItCame given hs q)
@@ -180,16 +182,19 @@ module _ (told : List Transcript) (t : Turn) (u : Transcript) (here : slice_get 
       let teller = same_teller w names in
       let entry : w.entry ≡ e = some_same w.entry e (sym names.stands ∙ ap (λ (v : Transcript). slice_get v.entries t.entry) teller ∙ stands) in
       let opening : names.opening ≡ x = some_same names.opening x (sym names.of_run ∙ ap (λ (v : Transcript). slice_get v.openings (opening_of names.source)) teller
-        ∙ ap (λ (s : Source). slice_get u.openings (opening_of s)) (same_source w names from comes) ∙ of_run) in
+      ∙ ap (λ (s : Source). slice_get u.openings (opening_of s)) (same_source w names from comes) ∙ of_run) in
       let (s, is, added) = adds w.party setups in
-      let woven : s.entry ≡ w = is.entry ∙ ap (λ (f : Entry). record { party = w.party; entry = f }) (sym entry) in
-      (s, record {
-        entry = woven;
-        node = is.node ∙ ap party_opened (sym opening);
-        nodes = is.nodes ∙ ap (λ (y : Opening). y.setup) (sym opening);
-        setups_are = is.setups_are;
-        is_step = is.is_step;
-      }, added)
+      let woven : s.entry ≡ w = is.entry ∙ ap (λ (f : Entry). record { party = w.party; entry = f }) (sym entry) in (
+        s,
+        record {
+          entry = woven;
+          node = is.node ∙ ap party_opened (sym opening);
+          nodes = is.nodes ∙ ap (λ (y : Opening). y.setup) (sym opening);
+          setups_are = is.setups_are;
+          is_step = is.is_step;
+        },
+        added,
+      )
 
   -- each restart is of a later run
   pub of_runs : HasSources u → IsTranscript u → (from : Source) → slice_get u.sources t.entry ≡ Some from → IsOfRuns u.openings from

@@ -159,7 +159,7 @@ module _ (told : List Transcript) (hs : List NodeHistory) (same : AreHistories h
         let before : h.before ≡ last_serial l.first = ap (λ (x : Lived). x.before) is ∙ ap serial_before l.openings ∙ sym l.is.4 ∙ l.opens.serial in
         let party : key h.party ≡ key f.wanted = ap (λ (x : Lived). key x.party) is ∙ teller_wanted f.wanted f.held t l in
         let one = number.numbered f.wanted (party_of l.run.member) l.first l.last l.told l.opens.starts (number.opens_party f.wanted _ l.run l.first l.opens) l.leads k q
-          (ap (λ (es : List Entry). slice_get (sent es) k) (sym entries) ∙ at) in
+        (ap (λ (es : List Entry). slice_get (sent es) k) (sym entries) ∙ at) in
         (one.0 ∙ sym party, one.1 ∙ ap (λ (n : ℕ). n + (k + 1)) (sym before))
 
     pub numbered : AreNumberedBehind hs
@@ -195,8 +195,8 @@ module _ (told : List Transcript) (hs : List NodeHistory) (same : AreHistories h
           subst (λ (rs : List Row). IsMadeOfRows setup l.run.member rs l.first) rows (subst (λ (ns : List Node). IsMadeOfRows ns l.run.member l.opens.rows l.first) run_setup l.opens.made) in
           let first : l.first ≡ opening_of setup l.run.member = opened_first setup is_setup l.run.member member l.first made l.opens.starts in
           let replays = replays_on setup is_setup f.wanted l.run.member member l.opens.same (party_of l.run.member) l.first l.last l.told l.opens.starts
-            (subst (λ (s : NodeState). IsOfOpening (opening_of setup l.run.member) s) (sym first) (nodes_keep_openings.at_first setup l.run.member))
-            (runs_have (openings_in l.told) l.later l.are (λ x inside. setups x (in_later l.opening l.later x inside))) l.leads in (
+          (subst (λ (s : NodeState). IsOfOpening (opening_of setup l.run.member) s) (sym first) (nodes_keep_openings.at_first setup l.run.member))
+          (runs_have (openings_in l.told) l.later l.are (λ x inside. setups x (in_later l.opening l.later x inside))) l.leads in (
             l.last,
             record {
               node = l.run.member;
@@ -225,5 +225,5 @@ module _ (told : List Transcript) (hs : List NodeHistory) (same : AreHistories h
       pub replayed : AreTold told → (states : List NodeState) × AreReplayed setup hs states
       replayed are =
           let all = states_of hs (λ h within. let at = place_in hs h within in let t = told_at at.0 h at.1 in
-            replayed_by h t.0 (is_in told at.0 t.0 t.1) t.2 (life_at files told of at.0 t.0 t.1)) in
+          replayed_by h t.0 (is_in told at.0 t.0 t.1) t.2 (life_at files told of at.0 t.0 t.1)) in
           (all.0, record { is_setup = is_setup; apart = apart are; each = all.1 })

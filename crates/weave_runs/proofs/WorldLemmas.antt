@@ -106,7 +106,9 @@ module _ (setup : List Node) (is_setup : IsSetup setup) (w : List ℕ) (m : Node
   replays_on p s t (Came text x ∷ hs) can of one (u, step, reads, rest) =
       (u, step, replays_on p u t hs (entry_can s u x.entry can step) (entry_keeps (opening_of setup m) s u x.entry of step) one rest)
   replays_on p s t (Opened o ∷ hs) can of one (u, opens, rest) =
-      let is = reopened s o u can of (one o (in_front o (openings_in hs))) opens in
-      (u, subst (EntryStep s restart_entry) (sym is) (restarts s),
+      let is = reopened s o u can of (one o (in_front o (openings_in hs))) opens in (
+        u,
+        subst (EntryStep s restart_entry) (sym is) (restarts s),
         replays_on (party_of o.member) u t hs opens.starts (subst (IsOfOpening (opening_of setup m)) (sym is) (nodes_keep_openings.by_restarts (opening_of setup m) s of))
-        (λ x inside. one x (in_later o (openings_in hs) x inside)) rest)
+            (λ x inside. one x (in_later o (openings_in hs) x inside)) rest,
+      )
