@@ -139,7 +139,7 @@ numbered_by : (w : List ℕ) (n m : NodeState) (packets : List Packet) → key (
 numbered_by w n m packets party follows k q at = let is = follows.each k q at in (ap key is.0 ∙ party, is.1)
 
 pub numbered : (w p : List ℕ) (s t : NodeState) (hs : List Happening) → CanStartAgain s → key (own_party s) ≡ key w → Leads w p s hs t → IsNumbered w (last_serial s) (sent (entries_behind hs))
-numbered w p s t [] can party leads k q at = cc
+numbered w p s t [] can party leads = λ k q at. cc
 numbered w p s t (Came text x ∷ hs) can party (u, step, reads, rest) =
     let one = enters s u x.entry can step in
     number_join w (last_serial s) x.entry.packets (sent (entries_behind hs)) (numbered_by w s u x.entry.packets party one.follows)

@@ -99,11 +99,11 @@ step_respelled w v d e node kinds (o, gives) = (o, gives_respelled w d.node e.no
 -- a party as a setup spells it is the same in another case
 pub spelled_key : (nodes : List Node) (party : List ℕ) → key (spelled nodes party) ≡ key party
 spelled_key [] party = refl
-spelled_key (n ∷ ns) party = of (bytes_eq (node_key n) (key party)) refl
+spelled_key (n ∷ ns) party = of (spelled_key ns party) (bytes_eq (node_key n) (key party)) refl
   where
-    of : (b : Bool) → bytes_eq (node_key n) (key party) ≡ b → key (cond b (party_of n) (spelled ns party)) ≡ key party
-    of true is = (bytes_eq-Decides (node_key n) (key party)).0 is
-    of false is = spelled_key ns party
+    of : key (spelled ns party) ≡ key party → (b : Bool) → bytes_eq (node_key n) (key party) ≡ b → key (cond b (party_of n) (spelled ns party)) ≡ key party
+    of later true is = (bytes_eq-Decides (node_key n) (key party)).0 is
+    of later false is = later
 
 -- its node is that of the entry, in whichever case
 abbrev pub IsOwn : Step → Type 0

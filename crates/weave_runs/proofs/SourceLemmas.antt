@@ -134,8 +134,8 @@ module _ (w : List ℕ) (openings : List Opening) where
   each_source (Opened o ∷ hs) n x later p s t (Restarted place ∷ sources) at party runs are leads zero e from y here there of_run =
       subst (IsSourceIn y e) (some_same (Restarted place) from there) (sym (some_same restart_entry e here))
   each_source (Opened o ∷ hs) n x [] p s t (Restarted place ∷ sources) at party runs are leads (suc i) e from y here there of_run = absurd runs
-  each_source (Opened o ∷ hs) n x (v ∷ later) p s t (Restarted place ∷ sources) at party (is, runs) (number, are) (u, opens, rest) (suc i) e from y here there of_run =
-      each_source hs (suc n) v later (party_of o.member) u t sources (next_behind openings n x v later at) (party_is o v is) runs are rest i e from y here there of_run
+  each_source (Opened o ∷ hs) n x (v ∷ later) p s t (Restarted place ∷ sources) at party runs (number, are) (u, opens, rest) (suc i) e from y here there of_run =
+      each_source hs (suc n) v later (party_of o.member) u t sources (next_behind openings n x v later at) (party_is o v runs.0) runs.1 are rest i e from y here there of_run
 
 -- no restart is the first run
 later_runs : (hs : List Happening) (n : ℕ) (sources : List Source) → AreSourcesOf (suc n) hs sources → (at : ℕ) → Contains sources (Restarted at) → at ≢ 0

@@ -100,12 +100,21 @@ module _ (given : List (List ℕ)) (hs : List NodeHistory) (x : Opening) (e : En
     | inr none ↦ came_other law line before after is none adds
   ]
 
-  pub from_line : (source : Source) (at : ℕ) (line : EchoedLine) → source ≡ origin.Echoed at line → IsSourceIn x e source
-      → IsEventLine (party_opened x) e line.bytes.now
-  from_line source at line same is = subst (IsSourceIn x e) same is
+  -- the same, of what an entry's run is called
+  module _ (nodes : List Node) (party : List ℕ) (nodes_are : nodes ≡ x.setup) (party_is : party ≡ party_opened x) where
+    pub delivered_so : (at : ℕ) (q : Packet) (before after : List ℕ) → e.event ≡ event.Deliver at q → (IsTakenAsItCame given hs q → ⊥) → AddsDelivery nodes party at q before after
+        → AddsStep given hs x e before after
+    delivered_so at q before after is asked adds =
+        delivered at q before after is asked
+        (subst (λ (ns : List Node). AddsDelivery ns (party_opened x) at q before after) nodes_are (subst (λ (p : List ℕ). AddsDelivery nodes p at q before after) party_is adds))
 
-  pub from_restart : (source : Source) (at : ℕ) → source ≡ origin.Restarted at → IsSourceIn x e source → e ≡ restart_entry
-  from_restart source at same is = subst (IsSourceIn x e) same is
+    pub restarted_so : (source : Source) (at : ℕ) (before after : List ℕ) → source ≡ origin.Restarted at → IsSourceIn x e source → AddsRestart party before after → AddsStep given hs x e before after
+    restarted_so source at before after same is adds =
+        restarted before after (subst (IsSourceIn x e) same is) (subst (λ (p : List ℕ). AddsRestart p before after) party_is adds)
+
+  pub came_so : NodeLinesAreLines → (source : Source) (at : ℕ) (line : EchoedLine) (before after : List ℕ) → source ≡ origin.Echoed at line → IsSourceIn x e source
+      → ((at : ℕ) (q : Packet) → e.event ≡ event.Deliver at q → IsTakenAsItCame given hs q) → AddsLine line.bytes.now before after → AddsStep given hs x e before after
+  came_so law source at line before after same is from adds = came law line.bytes.now before after (subst (IsSourceIn x e) same is) from adds
 
 -- ---- the setup lines before an entry
 

@@ -55,7 +55,7 @@ impl<'a> FileFault<'a> {
 fn start_of(alloc: Global, file: &TranscriptFile<'_>) -> Result<Start, AllocError>
     ensures { IfOk result (λ start. start.held ≡ start_of file.now.store) }
 {
-    match file.store {
+    match &file.store {
         Some(store) => Start::of(alloc, store.rows, store.line),
         None => Ok(Start::new(alloc)),
     }

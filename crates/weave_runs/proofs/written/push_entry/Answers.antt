@@ -1,7 +1,13 @@
-use Rattle.std.proofs.Common.{subst}
-use Rattle.weave_runs.proofs.StepLemmas.{came, delivered, from_line, from_restart, on_ok, restarted}
+use Rattle.std.proofs.Common.{refl}
+use Rattle.weave_runs.proofs.StepLemmas.{came_so, delivered_so, on_ok, restarted_so}
 use Rattle.weave_runs.proofs.written.push_entry.Goals as goal
 
 pub returns-in-Some : goal.returns-in-Some
 returns-in-Some c =
-    on_ok c.push_delivery.result (λ adds. delivered c.args.given.now c.args.histories.now c.args.opening.now c.args.entry.now _ _ _ _ c.in-Some.ensures.some c.in-Some.ensures.asked adds) c.push_delivery.ensures
+    on_ok c.push_delivery.result (λ adds. delivered_so c.args.given.now c.args.histories.now c.args.opening.now c.args.entry.now c.nodes.result.now c.party-party.result.now c.nodes.ensures c.party-party.ensures
+    _ _ c.args.text.now.items c.push_delivery.new.text.items c.in-Some.ensures.some c.in-Some.ensures.asked adds) c.push_delivery.ensures
+
+pub returns-in-Some-line : goal.returns-in-Some-line
+returns-in-Some-line c =
+    on_ok c.push_line.result (λ adds. came_so c.args.given.now c.args.histories.now c.args.opening.now c.args.entry.now c.node_lines_are_lines.ensures c.args.source.now _ _ c.args.text.now.items
+    c.push_line.new.text.items c.in-Some-line.ensures.some c.requires.source c.in-None.ensures.none adds) c.push_line.ensures
