@@ -1,6 +1,4 @@
-use Rattle.std.proofs.Common.{ap, map, sym, subst, ◌∙◌, string_bytes, List, ℕ}
-use Rattle.ocpi_types.specs.declared.setup.Node.{Node}
-use Rattle.std.specs.Prelude.{Contains}
+use Rattle.std.proofs.Common.{ap, map, sym, subst, ◌∙◌, string_bytes}
 use Rattle.weave.specs.Turns.{IsOrderWith}
 use Rattle.weave_runs.specs.Histories.{lived}
 use Rattle.weave_runs.proofs.ToldLemmas as told
@@ -16,3 +14,11 @@ weave_turns_with-requires-clause-apart c =
 pub weave_turns_with-requires-clause-numbered : goal.weave_turns_with-requires-clause-numbered
 weave_turns_with-requires-clause-numbered c =
     told.numbered c.args.transcripts.now c.deref.result.now (ap (map lived) c.deref.ensures.value ∙ c.in_ok-histories.ensures) c.args.files.now c.requires.transcripts
+
+pub text_of-requires-clause-sourced : goal.text_of-requires-clause-sourced
+text_of-requires-clause-sourced c = all_sourced c.args.files.now c.args.transcripts.now c.requires.transcripts
+
+pub text_of-requires-clause-named : goal.text_of-requires-clause-named
+text_of-requires-clause-named c =
+    let order = subst (IsOrderWith c.args.given.now c.deref.result.now) (sym c.as_slice.ensures.value) c.in-Ok.ensures.order in
+    step.order_named c.args.transcripts.now c.deref.result.now (ap (map lived) c.deref.ensures.value ∙ c.in_ok-histories.ensures) c.requires.told c.args.given.now c.as_slice.result.now order
