@@ -1,5 +1,5 @@
 -- What is written of transcripts.
-use Rattle.std.proofs.Common.{◌≡◌, ◌⊎◌, ◌∙◌, ℕ, ◌+◌, List, [], ◌∷◌, ◌++◌, append-nil, drop, Option, Result, IfErr, IfOk, ap, map, sym, subst, take, arith, refl, inl, inr, Ok, Err, string_bytes}
+use Rattle.std.proofs.Common.{◌≡◌, ◌⊎◌, ◌∙◌, ℕ, ◌+◌, ◌≤◌, List, [], ◌∷◌, ◌++◌, append-nil, drop, Option, Result, IfErr, IfOk, ap, map, sym, subst, take, arith, refl, inl, inr, Ok, Err, string_bytes}
 use Rattle.std.proofs.lemmas.Option.{slice_get_within}
 use Rattle.std.specs.Borrow.{Bor}
 use Rattle.std.specs.Io.KnownBytes.{Appends}
@@ -11,7 +11,7 @@ use Rattle.histories.specs.declared.entry.Entry.{Entry}
 use Rattle.histories.specs.declared.history.NodeHistory.{NodeHistory}
 use Rattle.histories.specs.Entries.{Delivers, packets_of}
 use Rattle.histories.specs.Weaving.{Woven, event_of}
-use Rattle.histories.proofs.Lists.{is_in, stands, take_one}
+use Rattle.histories.proofs.Lists.{is_in, some_same, stands, take_one}
 use Rattle.history_laws.specs.Laws.{InterleavingsAreRuns}
 use Rattle.line_runs.specs.declared.outcome.Ran.{Ran}
 use Rattle.line_runs.specs.declared.outcome.RunFault.TheVariants.{WriteFailed}
@@ -212,6 +212,16 @@ module _ (given : List (List ℕ)) (hs : List NodeHistory) (told : List Transcri
 pub record IsAlike (setup : List Node) (t : Transcript) : Type 0 where
   pub setups : (x : Opening) → Contains t.openings x → x.setup ≡ setup
   pub empty : (x : Opening) (xs : List Opening) → t.openings ≡ x ∷ xs → x.rows ≡ 0
+
+pub alike_by : (setup : List Node) (t : Transcript) (first : Opening) (later : List Opening) → t.openings ≡ first ∷ later → first.rows ≤ 0 → ((x : Opening) → Contains t.openings x → x.setup ≡ setup)
+    → IsAlike setup t
+alike_by setup t first later is none all = record {
+  setups = all;
+  empty = λ x xs at.
+      let same : x ≡ first = some_same x first (ap (λ (os : List Opening). slice_get os 0) (sym at ∙ is)) in
+      let rows = ap (λ (y : Opening). y.rows) same in
+      omega (arith, rows, none);
+}
 
 pub all_alike : (setup : List Node) (told : List Transcript) → ((t : Transcript) → Contains told t → IsAlike setup t) → IsOfOneWorld setup told
 all_alike setup told all = record { setups = λ t within. (all t within).setups; empty = λ t within. (all t within).empty }

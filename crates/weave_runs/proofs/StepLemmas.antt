@@ -171,6 +171,13 @@ module _ (told : List Transcript) (t : Turn) (u : Transcript) (here : slice_get 
   same_source w names from comes =
       some_same names.source from (sym names.comes_from ∙ ap (λ (v : Transcript). slice_get v.sources t.entry) (same_teller w names) ∙ comes)
 
+  pub sources_within : (w : Woven) → Names told t w → t.entry < length u.sources
+  sources_within w names =
+      slice_get_within u.sources t.entry names.source (subst (λ (v : Transcript). slice_get v.sources t.entry ≡ Some names.source) (same_teller w names) names.comes_from)
+
+  pub entries_within : (w : Woven) → Names told t w → t.entry < length u.entries
+  entries_within w names = slice_get_within u.entries t.entry w.entry (subst (λ (v : Transcript). slice_get v.entries t.entry ≡ Some w.entry) (same_teller w names) names.stands)
+
   pub setups_add : (from : Source) → slice_get u.sources t.entry ≡ Some from → (before between after : List ℕ) → AddsFirst u.openings t.entry before between → AddsNew u.openings from between after
       → AddsSetups told t before after
   setups_add from comes before between after (first, has_first, put) (later, has_new, added) w names =

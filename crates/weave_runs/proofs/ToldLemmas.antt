@@ -21,6 +21,7 @@ use Rattle.replays.specs.Happenings.{OpenedRun, entries_behind, openings_in}
 use Rattle.replays.specs.Telling.{AreRunsOf}
 use Rattle.replays.specs.Transcripts.{AccusesRightly, BlamesNoLineBefore, IsTranscript, IsTranscriptOf, Transcript, teller}
 use Rattle.replays.specs.declared.fault.ReplayFault.{ReplayFault}
+use Rattle.replays.specs.declared.fault.ReplayFault.TheVariants.{Memory}
 use Rattle.replays.specs.declared.transcript.Opening.{Opening}
 use Rattle.stored_laws.specs.Nodes.{IsOfOpening, last_serial}
 use Rattle.stored_laws.proofs.Openings.{nodes_keep_openings}
@@ -126,6 +127,12 @@ refuses_here files told earlier i f name fault of at are is same fault_is rightl
   rightly = subst (AccusesRightly (map teller told) (start_of f.store) f.text.now) fault_is (subst (λ (ps : List (List ℕ)). AccusesRightly ps (start_of f.store) f.text.now fault) same rightly);
   first = subst (BlamesNoLineBefore (map teller told) (start_of f.store) f.text.now) fault_is (subst (λ (ps : List (List ℕ)). BlamesNoLineBefore ps (start_of f.store) f.text.now fault) same first);
 }
+
+-- or for want of memory
+pub memory_here : (files : List TranscriptFile) (told : List Transcript) (i : ℕ) (f : TranscriptFile) (name : List ℕ) (of : ReplayFault) → slice_get files i ≡ Some f → AreTranscripts (take i files) told
+    → f.name.now ≡ name → Memory ≡ of → RefusesFile files name of
+memory_here files told i f name of at are is fault_is =
+    refuses_here files told (map teller told) i f name Memory of at are is refl fault_is (λ other own happened printed. absurd (other refl)) (λ n bad. absurd (omega (arith, bad)))
 
 -- ---- all of them
 

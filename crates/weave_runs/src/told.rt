@@ -102,6 +102,7 @@ pub(crate) fn read_files<'a>(
             Ok(transcript) => transcript,
             Err(fault) => return Err(FileFault::of(file, fault)),
         };
+        transcript.is_transcript();
         if parties.push(*transcript.party()).is_err() {
             drop(transcript);
             return Err(FileFault::of(file, ReplayFault::Memory));

@@ -134,7 +134,7 @@ fn weave_given<'a>(
 {
     interleavings_are_runs();
     none_given();
-    let _nodes = nodes_of(&transcripts[0].first().setup);
+    nodes_of(&transcripts[0].first().setup);
     let histories = histories_of(alloc, transcripts)?;
     match weave_turns_with(alloc, &histories, given) {
         Ok(turns) => Ok(Written::Run(text_of(

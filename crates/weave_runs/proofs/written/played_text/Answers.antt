@@ -1,4 +1,4 @@
-use Rattle.std.proofs.Common.{arith, refl}
+use Rattle.std.proofs.Common.{◌++◌, ◌∙◌, List, ℕ, ap, arith}
 use Rattle.std.proofs.lemmas.Option.{slice_get-get_or}
 use Rattle.weave.proofs.Places.{got_by}
 use Rattle.weave_runs.specs.Steps.{ended}
@@ -10,7 +10,8 @@ pub loop-turn-init : goal.loop-turn-init
 loop-turn-init c = (
   c.first.result.now.line.bytes.now,
   setup_line c.args.transcripts.now c.index-transcripts-0.result c.first.result.now c.first.ensures.0 (got_by c.args.transcripts.now 0 c.index-transcripts-0.result c.requires.some c.index-transcripts-0.is) c.first.ensures.1,
-  steps_none c.args.given.now c.args.histories.now c.args.transcripts.now (ended c.first.result.now.line.bytes.now) c.push_line.new.text.items c.in_ok-push_line.ensures,
+  steps_none c.args.given.now c.args.histories.now c.args.transcripts.now (ended c.first.result.now.line.bytes.now) c.push_line.new.text.items
+      (c.in_ok-push_line.ensures ∙ ap (λ (l : List ℕ). l ++ ended c.first.result.now.line.bytes.now) c.new-text.ensures.items),
 )
 
 pub push_turn-requires-clause-named : goal.push_turn-requires-clause-named

@@ -15,4 +15,4 @@ returns-in-Some-line c =
 pub returns-in-None-line : goal.returns-in-None-line
 returns-in-None-line c =
     on_ok c.push_restart.result (λ adds. restarted_so c.args.given.now c.args.histories.now c.args.opening.now c.args.entry.now c.args.opening.now.setup c.party-party.result.now refl c.party-party.ensures
-      c.args.source.now _ c.args.text.now.items c.push_restart.new.text.items c.in-None-line.ensures.none c.requires.source adds) c.push_restart.ensures
+    c.args.source.now _ c.args.text.now.items c.push_restart.new.text.items c.in-None-line.ensures.none c.requires.source adds) c.push_restart.ensures
