@@ -1,8 +1,8 @@
 -- The lines of entries, and those of the entries that turns name.
-use Rattle.std.proofs.Common.{◌≡◌, ◌≢◌, ◌∙◌, zero, suc, ℕ, ◌+◌, ◌<◌, List, [], ◌∷◌, ◌++◌, length, take, map, sym, ap, subst, option_map, arith, refl, Ok, Err, OnOk, Result, ◌⊎◌, inl, inr}
+use Rattle.std.proofs.Common.{◌≡◌, ◌≢◌, ◌∙◌, zero, suc, ℕ, ◌+◌, ◌<◌, List, [], ◌∷◌, ◌++◌, get_or, length, take, map, sym, ap, subst, option_map, arith, refl, Ok, Err, OnOk, Result, ◌⊎◌, inl, inr}
 use Rattle.std.proofs.lemmas.List.{append-nil, append_assoc, length-map}
 use Rattle.std.proofs.lemmas.List.Concat.{flat_map-append}
-use Rattle.std.proofs.lemmas.Option.{slice_get-map, slice_get_within}
+use Rattle.std.proofs.lemmas.Option.{slice_get-get_or, slice_get-map, slice_get_within}
 use Rattle.std.proofs.lemmas.List.Elements.{Contains-append_cases}
 use Rattle.std.specs.Prelude.{Contains, Some, flat_map, slice_get}
 use Rattle.ocpi_text.specs.Text.{key}
@@ -27,10 +27,11 @@ use Rattle.transcript_lines.specs.EventLines.{NodeLinesAreLines, delivery_text, 
 use Rattle.weave.specs.declared.turn.Turn.{Turn}
 use Rattle.weave.specs.Given.{InterleavesWith}
 use Rattle.weave.specs.Turns.{AreTurns, IsOrderWith, IsTurn}
+use Rattle.weave.proofs.Places.{got_by}
 use Rattle.weave.proofs.Turning.{one_entry, turn_at}
 use Rattle.weave_runs.specs.Histories.{AreHistories, AreTold, Lived, lived, lived_told}
 use Rattle.weave_runs.specs.Refusals.{spelled}
-use Rattle.weave_runs.specs.Steps.{AddsDelivery, AddsFirst, AddsLine, AddsNew, AddsOtherSetup, AddsRestart, AddsSetups, AddsStep, AddsTurn, AreNamed, AreSourced, AreStepsOf, Came, Delivered, Given, HasFirstSetup, HasNewSetup, HasSources, HasSteps, HasStepsAndSetups, IsEventLine, IsFirst, IsLater, IsNew, IsNone, IsOfRuns, IsSame, IsSourceIn, IsStep, IsStepIn, IsStepOf, IsTakenAsItCame, Names, Restarted, Step, ended, entry_of, lines_text, step_text, step_with_setups, steps_text, steps_with_setups}
+use Rattle.weave_runs.specs.Steps.{AddsDelivery, AddsFirst, AddsLine, AddsNew, AddsOtherSetup, AddsRestart, AddsSetups, AddsStep, AddsTurn, AreNamed, AreSourced, AreStepsOf, Came, Delivered, Given, HasFirstSetup, HasNewSetup, HasSources, HasSteps, HasStepsAndSetups, IsEventLine, IsFirst, IsLater, IsNamed, IsNew, IsNone, IsOfRuns, IsSame, IsSourceIn, IsStep, IsStepIn, IsStepOf, IsTakenAsItCame, Names, Restarted, Step, ended, entry_of, lines_text, step_text, step_with_setups, steps_text, steps_with_setups}
 use Rattle.weave_runs.proofs.RunLemmas.{IsOwn}
 
 pub on_ok : {T E P Q : Type 0} (r : Result T E) → (P → Q) → OnOk r P → OnOk r Q
@@ -162,6 +163,15 @@ first_here openings place x later before after none is added =
 pub first_later : (openings : List Opening) (place : ℕ) (before after : List ℕ) → place ≢ 0 → after ≡ before → AddsFirst openings place before after
 first_later openings place before after some same = ([], IsLater some, same ∙ sym (append-nil before))
 
+-- what a turn names, as it was read
+pub record TurnAt (told : List Transcript) (t : Turn) (u : Transcript) (from : Source) (x : Opening) (e : Entry) : Type 0 where
+  pub here : slice_get told t.history ≡ Some u
+  pub inside : Contains told u
+  pub comes : slice_get u.sources t.entry ≡ Some from
+  pub of_run : slice_get u.openings (opening_of from) ≡ Some x
+  pub opened : Contains u.openings x
+  pub stands : slice_get u.entries t.entry ≡ Some e
+
 -- what is known of the entry that a turn names, by its places
 module _ (told : List Transcript) (t : Turn) (u : Transcript) (here : slice_get told t.history ≡ Some u) where
   same_teller : (w : Woven) (names : Names told t w) → names.teller_of ≡ u
@@ -219,6 +229,29 @@ module _ (told : List Transcript) (t : Turn) (u : Transcript) (here : slice_get 
       of : (from : Source) → Contains u.sources from → IsOfRuns u.openings from
       of (origin.Echoed at line) within = tt
       of (origin.Restarted at) within = (has.later at within, is.runs (origin.Restarted at) within)
+
+pub as_read : (told : List Transcript) (t : Turn) (u : Transcript) → IsNamed told t → AreTold told → u ≡ get_or told t.history u → {sources : List Source} → sources ≡ u.sources
+    → {openings : List Opening} → openings ≡ u.openings → {entries : List Entry} → entries ≡ u.entries → (d : Source) → {place : ℕ} → place ≡ opening_of (get_or sources t.entry d)
+    → {x : Opening} → x ≡ get_or openings place x → {e : Entry} → e ≡ get_or entries t.entry e → TurnAt told t u (get_or sources t.entry d) x e
+as_read told t u (w, names) all is {sources = sources} sources_are {openings = openings} openings_are {entries = entries} entries_are d {place = place} place_is {x = x} x_is {e = e} e_is =
+    let here = got_by told t.history u (slice_get_within told t.history names.teller_of names.here) is in
+    let inside = is_in told t.history u here in
+    let from = get_or sources t.entry d in
+    let comes : slice_get u.sources t.entry ≡ Some from = ap (λ (l : List Source). slice_get l t.entry) (sym sources_are)
+    ∙ slice_get-get_or sources t.entry d (subst (λ (l : List Source). t.entry < length l) (sym sources_are) (sources_within told t u here w names)) in
+    let run = (all.each u inside).runs from (is_in u.sources t.entry from comes) in
+    let within : place < length openings = subst (λ (n : ℕ). n < length openings) (sym place_is) (subst (λ (l : List Opening). opening_of from < length l) (sym openings_are) run) in
+    let of_run : slice_get u.openings (opening_of from) ≡ Some x = ap (λ (l : List Opening). slice_get l (opening_of from)) (sym openings_are)
+    ∙ ap (λ (n : ℕ). slice_get openings n) (sym place_is) ∙ got_by openings place x within x_is in
+    record {
+      here = here;
+      inside = inside;
+      comes = comes;
+      of_run = of_run;
+      opened = is_in u.openings (opening_of from) x of_run;
+      stands = ap (λ (l : List Entry). slice_get l t.entry) (sym entries_are)
+          ∙ got_by entries t.entry e (subst (λ (l : List Entry). t.entry < length l) (sym entries_are) (entries_within told t u here w names)) e_is;
+    }
 
 -- ---- the lines of turns
 

@@ -1,4 +1,6 @@
 use Rattle.std.proofs.Common.{ap, map, sym, subst, ◌∙◌, string_bytes}
+use Rattle.histories.proofs.Lists.{is_in}
+use Rattle.weave.proofs.Places.{got_by}
 use Rattle.weave.specs.Turns.{IsOrderWith}
 use Rattle.weave_runs.specs.Histories.{lived}
 use Rattle.weave_runs.proofs.ToldLemmas as told
@@ -22,3 +24,24 @@ pub text_of-requires-clause-named : goal.text_of-requires-clause-named
 text_of-requires-clause-named c =
     let order = subst (IsOrderWith c.args.given.now c.deref.result.now) (sym c.as_slice.ensures.value) c.in-Ok.ensures.order in
     step.order_named c.args.transcripts.now c.deref.result.now (ap (map lived) c.deref.ensures.value ∙ c.in_ok-histories.ensures) c.requires.told c.args.given.now c.as_slice.result.now order
+
+pub returns-in-Ok : goal.returns-in-Ok
+returns-in-Ok c =
+    let told = c.args.transcripts.now in
+    let same = ap (map lived) c.deref.ensures.value ∙ c.in_ok-histories.ensures in
+    let order = subst (IsOrderWith c.args.given.now c.deref.result.now) (sym c.as_slice.ensures.value) c.in-Ok.ensures.order in
+    let within = is_in told 0 c.index-transcripts-0.result (got_by told 0 c.index-transcripts-0.result c.requires.some c.index-transcripts-0.is) in
+    output.woven c.args.files.now told c.deref.result.now c.requires.transcripts same c.requires.told c.args.given.now
+    (output.one_setup told c.index-transcripts-0.result c.first.result.now c.first.ensures.0 within c.first.ensures.1 c.nodes_of.ensures.is_setup) c.interleavings_are_runs.ensures c.none_given.ensures
+    c.as_slice.result.now order _ c.in_ok-text_of-in-Ok.ensures
+
+pub weave_refusal-requires-clause-can : goal.weave_refusal-requires-clause-can
+weave_refusal-requires-clause-can c =
+    let same = ap (map lived) c.deref.ensures.value ∙ c.in_ok-histories.ensures in
+    output.can_tell c.args.files.now c.args.transcripts.now c.deref.result.now c.requires.transcripts same c.requires.told c.args.given.now c.in-Err.fault c.in-Err.ensures.cause
+
+pub returns : goal.returns
+returns c =
+    let same = ap (map lived) c.deref.ensures.value ∙ c.in_ok-histories.ensures in
+    output.refusal c.args.files.now c.args.transcripts.now c.deref.result.now c.requires.transcripts same c.requires.told c.args.given.now c.in-Err.fault c.in-Err.ensures.cause
+    c.in-Err.ensures.complete (string_bytes c.in_ok-line-in-Err.line) c.in_ok-line-in-Err.ensures
