@@ -21,3 +21,4 @@ pub mod LineFacts
 pub mod HistoryLemmas
 pub mod FitLemmas
 pub mod PartyLemmas
+pub mod FirstLemmas

@@ -1,8 +1,10 @@
-use Rattle.std.proofs.Common.{ap, map, sym, subst, ◌∙◌, string_bytes}
+use Rattle.std.proofs.Common.{List, ap, map, sym, subst, ◌∙◌, string_bytes}
 use Rattle.histories.proofs.Lists.{is_in}
+use Rattle.histories.specs.declared.history.NodeHistory.{NodeHistory}
 use Rattle.weave.proofs.Places.{got_by}
 use Rattle.weave.specs.Turns.{IsOrderWith}
 use Rattle.weave_runs.specs.Histories.{lived}
+use Rattle.weave_runs.specs.Outputs.{IsTextOf}
 use Rattle.weave_runs.proofs.ToldLemmas as told
 use Rattle.weave_runs.proofs.SourceLemmas.{all_sourced}
 use Rattle.weave_runs.proofs.StepLemmas as step
@@ -33,7 +35,9 @@ returns-in-Ok c =
     let within = is_in told 0 c.index-transcripts-0.result (got_by told 0 c.index-transcripts-0.result c.requires.some c.index-transcripts-0.is) in
     output.woven c.args.files.now told c.deref.result.now c.requires.transcripts same c.requires.told c.args.given.now
     (output.one_setup told c.index-transcripts-0.result c.first.result.now c.first.ensures.0 within c.first.ensures.1 c.nodes_of.ensures.is_setup) c.interleavings_are_runs.ensures c.none_given.ensures
-    c.as_slice.result.now order _ c.in_ok-text_of-in-Ok.ensures
+    c.as_slice.result.now order c.in_ok-text_of-in-Ok.field-0.items
+    (subst (λ (hs : List NodeHistory). IsTextOf c.args.given.now hs told c.as_slice.result.now c.in_ok-text_of-in-Ok.field-0.items) (c.deref-in-Ok.ensures.value ∙ sym c.deref.ensures.value)
+    c.in_ok-text_of-in-Ok.ensures)
 
 pub weave_refusal-requires-clause-can : goal.weave_refusal-requires-clause-can
 weave_refusal-requires-clause-can c =
