@@ -48,3 +48,4 @@ pub mod SetupRead
 pub mod TranscriptLemmas
 pub mod FileRead
 pub mod TranscriptRead
+pub mod FirstLemmas

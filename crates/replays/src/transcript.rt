@@ -130,6 +130,7 @@ impl<'a> Transcript<'a> {
     pub fn party(&self) -> &Party
         ensures { result.now ≡ teller self.now }
     {
+        self.is_transcript();
         self.first().party()
     }
 

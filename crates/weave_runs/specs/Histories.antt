@@ -3,7 +3,7 @@ use Rattle.std.specs.Prelude.{◌≡◌, ℕ, List, [], ◌∷◌, Option, None,
 use Rattle.ocpi_text.specs.Text.{key}
 use Rattle.histories.specs.declared.entry.Entry.{Entry}
 use Rattle.histories.specs.declared.history.NodeHistory.{NodeHistory}
-use Rattle.replays.specs.LineTurns.{Held, nothing_held}
+use Rattle.replays.specs.LineTurns.{Store, nothing_held}
 use Rattle.replays.specs.Transcripts.{IsTranscript, IsTranscriptOf, Transcript, teller}
 use Rattle.replays.specs.declared.transcript.Opening.{Opening}
 use Rattle.weave_runs.specs.declared.told.StoreRows.{StoreRows}
@@ -15,7 +15,7 @@ pub record AreTold (told : List Transcript) : Type 0 where
   pub apart : (i j : ℕ) (t u : Transcript) → slice_get told i ≡ Some t → slice_get told j ≡ Some u → key (teller t) ≡ key (teller u) → i ≡ j
 
 -- what the store of a file had before it: nothing, where none is named
-abbrev pub start_of : Option StoreRows → Held
+abbrev pub start_of : Option StoreRows → Store
 start_of None = nothing_held
 start_of (Some s) = record { rows = s.rows.now; line = s.line }
 

@@ -20,7 +20,7 @@ use Rattle.weave_runs.specs.Accusations.{RefusesFile}
 use Rattle.weave_runs.specs.Histories.{AreHistories, AreTold, AreTranscripts}
 use Rattle.weave_runs.specs.Parties.{AreGiven, IsWrongAmong}
 use Rattle.weave_runs.specs.Refusals.{TellsFault, memory_line, transcript_line}
-use Rattle.weave_runs.specs.Steps.{AreStepsOf, Step, ended, entry_of, event_told, lines_text, steps_text, steps_with_setups}
+use Rattle.weave_runs.specs.Steps.{AreStepsOf, HasSteps, HasStepsAndSetups, Step, ended, entry_of, event_told, lines_text, steps_text, steps_with_setups}
 use Rattle.weave_runs.specs.declared.fault.GivenFault.{GivenFault}
 use Rattle.weave_runs.specs.declared.fault.WeaveRunFault.{WeaveRunFault}
 use Rattle.weave_runs.specs.declared.fault.WeaveRunFault.TheVariants.{Given, Run as OfRun}
@@ -145,8 +145,13 @@ IsWrittenWith given files told (Run text) = IsWoven given told text.items
 IsWrittenWith given files told (Refused refusal) = HasNone given files told (string_bytes refusal.line) ⊎ (string_bytes refusal.line ≡ memory_line)
 IsWrittenWith given files told (Wrong fault) = ⊥
 
--- it is this line
-abbrev pub IsLine : List ℕ → Written → Type 0
-IsLine line (Refused refusal) = string_bytes refusal.line ≡ line
-IsLine line (Run text) = ⊥
-IsLine line (Wrong fault) = ⊥
+-- the lines of turns behind the setup line, as input of `play`; or behind what each transcript begins with
+abbrev pub IsPlayedText : List (List ℕ) → List NodeHistory → List Transcript → List Turn → List ℕ → Type 0
+IsPlayedText given hs told turns text = (line : List ℕ) × IsSetupLine told line × HasSteps given hs told turns (ended line) text
+
+abbrev pub IsOtherText : List (List ℕ) → List NodeHistory → List Transcript → List Turn → List ℕ → Type 0
+IsOtherText given hs told turns text = (lines : List (List ℕ)) × AreOpeningLines told lines × HasStepsAndSetups given hs told turns (lines_text lines) text
+
+-- either of them, as is due
+abbrev pub IsTextOf : List (List ℕ) → List NodeHistory → List Transcript → List Turn → List ℕ → Type 0
+IsTextOf given hs told turns text = (steps : List Step) × AreStepsOf given hs told turns steps × HasLines told steps text

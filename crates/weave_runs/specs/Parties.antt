@@ -12,6 +12,17 @@ use Rattle.weave_runs.specs.declared.fault.GivenFault.TheVariants as fault
 use Rattle.weave_runs.specs.declared.given.NotGiven.{NotGiven}
 use Rattle.weave_runs.specs.declared.given.NotGiven.TheVariants.{Memory, Wrong}
 
+-- a node of the setup spells the party so
+pub record IsSpelledBy (setup : List Node) (party spelling : List ℕ) : Type 0 where
+  pub node : Node
+  pub within : Contains setup node
+  pub same : key (party_of node) ≡ key party
+  pub is : spelling ≡ party_of node
+
+-- and none is of it
+abbrev pub HasNoNode : List Node → List ℕ → Type 0
+HasNoNode setup party = (n : Node) → Contains setup n → key (party_of n) ≡ key party → ⊥
+
 -- the word is a party, that of the node, in whichever case
 pub record NamesNode (word : List ℕ) (n : Node) : Type 0 where
   pub party : List ℕ

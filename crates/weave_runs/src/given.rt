@@ -1,15 +1,15 @@
 //! The parties whose packets are taken as they came.
 
 ghost use Rattle.std.specs.Prelude.{Contains, IfErr, IfNone, IfOk, IfSome, IsTrue, false, ◌≡◌};
-ghost use Rattle.ocpi_text.specs.Text.{key};
 ghost use Rattle.ocpi_types.specs.Setups.{party_of};
 ghost use Rattle.ocpi_types.specs.declared.setup.Node.{Node as NodeOf};
-ghost use Rattle.weave_runs.specs.Parties.{AreGiven, HasFile, HasNode, IfWrong, IsGiven, IsWrong, NamesNode};
+ghost use Rattle.replays.specs.declared.transcript.Opening.{Opening as OpeningOf};
+ghost use Rattle.weave_runs.specs.Parties.{AreGiven, HasFile, HasNoNode, HasNode, IfWrong, IsGiven, IsSpelledBy, IsWrong, NamesNode};
 
 use crate::fault::GivenFault;
 use ocpi_text::Party;
 use ocpi_types::Node;
-use replays::Transcript;
+use replays::{Opening, Transcript};
 use std::alloc::Global;
 
 /// Why there are no parties.
@@ -19,14 +19,27 @@ pub(crate) enum NotGiven<'a> {
     Memory,
 }
 
-/// The party that a word names, as a setup spells it.
+/// That party, as a setup spells it.
 fn party_named(nodes: &[Node], party: &Party) -> Option<Party>
-    ensures some { IfSome result (λ p. (n : NodeOf) × Contains nodes.now n × (key (party_of n) ≡ key party.now) × (p ≡ party_of n)) }
-    ensures none { IfNone result ((n : NodeOf) → Contains nodes.now n → key (party_of n) ≡ key party.now → ⊥) }
+    ensures some { IfSome result (IsSpelledBy nodes.now party.now) }
+    ensures none { IfNone result (HasNoNode nodes.now party.now) }
 {
     for node in nodes {
         if node.party().is_same(party) {
             return Some(*node.party());
+        }
+    }
+    None
+}
+
+/// That party, as the first of the setups of these runs spells it that has it.
+fn party_opened(openings: &[Opening<'_>], party: &Party) -> Option<Party>
+    ensures some { IfSome result (λ p. (x : OpeningOf) × Contains openings.now x × IsSpelledBy x.setup party.now p) }
+    ensures none { IfNone result ((x : OpeningOf) → Contains openings.now x → HasNoNode x.setup party.now) }
+{
+    for opening in openings {
+        if let Some(spelled) = party_named(opening.nodes(), party) {
+            return Some(spelled);
         }
     }
     None
@@ -41,10 +54,8 @@ fn party_of_word(transcripts: &[Transcript<'_>], word: &str) -> Option<Party>
         return None;
     };
     for transcript in transcripts {
-        for opening in transcript.openings() {
-            if let Some(party) = party_named(opening.nodes(), &party) {
-                return Some(party);
-            }
+        if let Some(spelled) = party_opened(transcript.openings(), &party) {
+            return Some(spelled);
         }
     }
     None

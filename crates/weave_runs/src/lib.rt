@@ -32,8 +32,9 @@
 //! - The lines of `NoOrder` are those at which the order comes to its end, and not another block. By the same
 //!   (`IsEnd`).
 //! - A refusal of a file names one behind transcripts of other parties. No runs of a node of yet another party printed
-//!   it, or none of them was opened; and some runs printed all in front of the line that is named. By `run_weave`: `ok`
-//!   (`RefusesFile` of `specs/Accusations`).
+//!   it, or none of them was opened; and some runs printed all in front of the line that is named. Asked of the rows of
+//!   its store, where one is given, is that each request has a url of its own. By `run_weave`: `ok` (`RefusesFile` of
+//!   `specs/Accusations`).
 //! - Where writing fails, a beginning of that is written. By `run_weave`: `err`.
 //! - Which of the refusals of a file it is. No clause says so (tested by the examples).
 //! - No files give nothing, and nothing else does. By `run_weave`: `ok` (`IsRunText`).

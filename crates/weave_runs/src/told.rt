@@ -55,7 +55,7 @@ impl<'a> FileFault<'a> {
 fn start_of(alloc: Global, file: &TranscriptFile<'_>) -> Result<Start, AllocError>
     ensures { IfOk result (λ start. start.held ≡ start_of file.now.store) }
 {
-    match file.store {
+    match &file.store {
         Some(store) => Start::of(alloc, store.rows, store.line),
         None => Ok(Start::new(alloc)),
     }
@@ -102,6 +102,7 @@ pub(crate) fn read_files<'a>(
             Ok(transcript) => transcript,
             Err(fault) => return Err(FileFault::of(file, fault)),
         };
+        transcript.is_transcript();
         if parties.push(*transcript.party()).is_err() {
             drop(transcript);
             return Err(FileFault::of(file, ReplayFault::Memory));

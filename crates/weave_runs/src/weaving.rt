@@ -1,9 +1,11 @@
 //! Files, woven or refused.
 
-ghost use Rattle.std.specs.Prelude.{◌≡◌, ◌<◌, IfOk, IsTrue, false, length, List};
+ghost use Rattle.std.specs.Prelude.{◌≡◌, ◌<◌, ◌↔◌, Contains, IfOk, IsTrue, false, length, List};
 ghost use Rattle.ocpi_types.specs.declared.setup.Node.{Node as NodeOf};
+ghost use Rattle.replays.specs.declared.transcript.Opening.{Opening as OpeningOf};
 ghost use Rattle.weave_runs.specs.Histories.{AreHistories, AreTold, AreTranscripts, lived, lived_told};
-ghost use Rattle.weave_runs.specs.Outputs.{IsLine, IsOfOneWorld, IsWritten, IsWrittenWith};
+ghost use Rattle.weave_runs.specs.Outputs.{IsOfOneWorld, IsTextOf, IsWritten, IsWrittenWith};
+ghost use Rattle.weave_runs.specs.Steps.{AreNamed, AreSourced};
 
 use crate::fault::GivenFault;
 use crate::given::{NotGiven, given_parties};
@@ -12,11 +14,14 @@ use crate::told::{TranscriptFile, read_files};
 use crate::words::{words_for, words_for_file};
 use crate::written::{other_text, played_text};
 use histories::NodeHistory;
+use history_laws::laws::interleavings_are_runs;
+use node_core::nodes_of;
 use ocpi_text::Party;
 use replays::{Opening, Transcript};
 use setup_equality::are_equal;
 use std::alloc::{AllocError, Global};
 use tables::HashSeed;
+use weave::laws::none_given;
 use weave::{Turn, weave_turns_with};
 
 /// The line of a refusal, and what is said beside it, if anything.
@@ -65,7 +70,9 @@ fn histories_of<'a>(
 }
 
 /// Whether each run of a transcript was opened with the setup of that opening.
-fn has_one_setup(transcript: &Transcript<'_>, first: &Opening<'_>) -> bool {
+fn has_one_setup(transcript: &Transcript<'_>, first: &Opening<'_>) -> bool
+    ensures { IsTrue result ↔ ((x : OpeningOf) → Contains transcript.now.openings x → x.setup ≡ first.now.setup) }
+{
     for opening in transcript.openings() {
         if !are_equal(&opening.setup, &first.setup) {
             return false;
@@ -80,11 +87,12 @@ fn is_of_one_world(transcripts: &[Transcript<'_>]) -> bool
     ensures yes { IsTrue result → (setup : List NodeOf) × IsOfOneWorld setup transcripts.now }
     ensures no { result ≡ false → (setup : List NodeOf) → IsOfOneWorld setup transcripts.now → ⊥ }
 {
+    let first = transcripts[0].first();
     for transcript in transcripts {
         if transcript.first().rows > 0 {
             return false;
         }
-        if !has_one_setup(transcript, transcripts[0].first()) {
+        if !has_one_setup(transcript, first) {
             return false;
         }
     }
@@ -95,13 +103,20 @@ fn is_of_one_world(transcripts: &[Transcript<'_>]) -> bool
 fn text_of(
     alloc: Global,
     transcripts: &[Transcript<'_>],
+    histories: &[NodeHistory<'_>],
     given: &[Party],
     turns: &[Turn],
-) -> Result<Vec<u8>, AllocError> {
+) -> Result<Vec<u8>, AllocError>
+    requires some { 0 < length transcripts.now }
+    requires told { AreTold transcripts.now }
+    requires sourced { AreSourced transcripts.now }
+    requires named { AreNamed transcripts.now turns.now }
+    ensures { IfOk result (λ text. IsTextOf given.now histories.now transcripts.now turns.now text.items) }
+{
     if is_of_one_world(transcripts) {
-        played_text(alloc, transcripts, given, turns)
+        played_text(alloc, transcripts, histories, given, turns)
     } else {
-        other_text(alloc, transcripts, given, turns)
+        other_text(alloc, transcripts, histories, given, turns)
     }
 }
 
@@ -112,13 +127,23 @@ fn weave_given<'a>(
     transcripts: &[Transcript<'_>],
     given: &[Party],
 ) -> Result<Written<'a>, AllocError>
+    requires some { 0 < length transcripts.now }
     requires told { AreTold transcripts.now }
     requires transcripts { AreTranscripts files.now transcripts.now }
     ensures { IfOk result (IsWrittenWith given.now files.now transcripts.now) }
 {
+    interleavings_are_runs();
+    none_given();
+    nodes_of(&transcripts[0].first().setup);
     let histories = histories_of(alloc, transcripts)?;
     match weave_turns_with(alloc, &histories, given) {
-        Ok(turns) => Ok(Written::Run(text_of(alloc, transcripts, given, turns.as_slice())?)),
+        Ok(turns) => Ok(Written::Run(text_of(
+            alloc,
+            transcripts,
+            &histories,
+            given,
+            turns.as_slice(),
+        )?)),
         Err(fault) => {
             let line = weave_refusal(alloc, files, transcripts, &fault)?;
             let words = words_for(alloc, files, transcripts, &fault);
@@ -134,6 +159,7 @@ fn weave_told<'a>(
     transcripts: &[Transcript<'_>],
     words: &[&'a str],
 ) -> Result<Written<'a>, AllocError>
+    requires some { 0 < length transcripts.now }
     requires told { AreTold transcripts.now }
     requires transcripts { AreTranscripts files.now transcripts.now }
     ensures { IfOk result (IsWritten words.now files.now) }

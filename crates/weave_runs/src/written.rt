@@ -1,22 +1,46 @@
 //! A woven run: a line for each entry, behind the setup line as input of `play`.
 
-ghost use Rattle.std.specs.Prelude.{◌≡◌, IfNone, IfSome, ℕ};
+ghost use Rattle.std.specs.Prelude.{◌≡◌, ◌<◌, ◌++◌, IfNone, IfOk, IfSome, List, OnOk, length, ℕ};
 ghost use Rattle.histories.specs.Entries.{Delivers};
 ghost use Rattle.ocpi_types.specs.declared.node_events.NodeEventKind.TheVariants.{Deliver};
 ghost use Rattle.ocpi_types.specs.declared.packet.Packet.{Packet as PacketOf};
+ghost use Rattle.ocpi_types.specs.declared.setup.Node.{Node as NodeOf};
+ghost use Rattle.weave_runs.specs.Histories.{AreTold};
+ghost use Rattle.weave_runs.specs.Outputs.{AreOpeningLines, IsOfOneWorld, IsOtherText, IsPlayedText};
+ghost use Rattle.weave_runs.specs.Steps.{
+  AddsDelivery,
+  AddsFirst,
+  AddsLine,
+  AddsNew,
+  AddsOtherSetup,
+  AddsRestart,
+  AddsSetups,
+  AddsStep,
+  AddsTurn,
+  AreNamed,
+  AreSourced,
+  IsNamed,
+  IsOfRuns,
+  IsSourceIn,
+  IsTakenAsItCame,
+  lines_text,
+};
 
 use crate::refusal::spelling;
-use histories::Entry;
+use histories::{Entry, NodeHistory};
 use ocpi_text::{Moment, Party};
 use ocpi_types::{Node, NodeEventKind, Packet};
 use replays::{Opening, Source, Transcript};
 use setup_equality::are_equal;
 use std::alloc::{AllocError, Global};
+use transcript_lines::laws::node_lines_are_lines;
 use transcript_lines::{delivery_line, restart_line};
-use weave::{Turn, is_from};
+use weave::{Turn, is_from, was_before};
 
 /// Adds a line, and its end.
-fn push_line(text: &mut Vec<u8>, line: &[u8]) -> Result<(), AllocError> {
+fn push_line(text: &mut Vec<u8>, line: &[u8]) -> Result<(), AllocError>
+    ensures { OnOk result (AddsLine line.now text.old.items text.new.items) }
+{
     text.extend_from_slice(line)?;
     match text.push(b'\n') {
         Ok(()) => Ok(()),
@@ -32,19 +56,18 @@ fn push_delivery(
     at: Moment,
     packet: &Packet,
     text: &mut Vec<u8>,
-) -> Result<(), AllocError> {
-    let line = delivery_line(
-        alloc,
-        at,
-        spelling(nodes, &packet.from),
-        party,
-        packet.serial,
-    )?;
+) -> Result<(), AllocError>
+    ensures { OnOk result (AddsDelivery nodes.now party.now at packet.now text.old.items text.new.items) }
+{
+    let from = spelling(nodes, &packet.from);
+    let line = delivery_line(alloc, at, from, party, packet.serial)?;
     push_line(text, line.as_bytes())
 }
 
 /// Adds the line of a start of the node of a party.
-fn push_restart(alloc: Global, party: &Party, text: &mut Vec<u8>) -> Result<(), AllocError> {
+fn push_restart(alloc: Global, party: &Party, text: &mut Vec<u8>) -> Result<(), AllocError>
+    ensures { OnOk result (AddsRestart party.now text.old.items text.new.items) }
+{
     let line = restart_line(alloc, party)?;
     push_line(text, line.as_bytes())
 }
@@ -78,45 +101,45 @@ pub(crate) fn delivered_by(entry: &Entry) -> Option<&Packet>
     }
 }
 
-/// Whether a packet was sent before the transcript of its sender begins.
-fn was_before(transcripts: &[Transcript<'_>], packet: &Packet) -> bool {
-    let serial = packet.serial.value();
-    for transcript in transcripts {
-        let before = transcript.first().serial.value();
-        if serial >= 1 && serial <= before && transcript.party().is_same(&packet.from) {
-            return true;
-        }
-    }
-    false
-}
-
 /// When a packet comes, and which, where that is what happens, and it is not taken as it came.
 fn awaited<'a>(
-    transcripts: &[Transcript<'_>],
+    histories: &[NodeHistory<'_>],
     event: &'a NodeEventKind,
     given: &[Party],
-) -> Option<(Moment, &'a Packet)> {
+) -> Option<(Moment, &'a Packet)>
+    ensures some { IfSome result (λ d. event.now ≡ Deliver d.0 d.1.now) }
+    ensures asked { IfSome result (λ d. IsTakenAsItCame given.now histories.now d.1.now → ⊥) }
+    ensures none { IfNone result ((at : ℕ) (q : PacketOf) → event.now ≡ Deliver at q → IsTakenAsItCame given.now histories.now q) }
+{
     let Some(delivery) = delivery_of(event) else {
         return None;
     };
-    if is_from(given, delivery.1) || was_before(transcripts, delivery.1) {
+    if is_from(given, delivery.1) {
+        return None;
+    }
+    if was_before(histories, delivery.1) {
         return None;
     }
     Some(delivery)
 }
 
-/// Adds the line of an entry of a transcript. What is taken as it came has its line as it came.
+/// Adds the line of an entry of a run. What is taken as it came has its line as it came.
 fn push_entry(
     alloc: Global,
-    transcripts: &[Transcript<'_>],
+    histories: &[NodeHistory<'_>],
     opening: &Opening<'_>,
     entry: &Entry,
     source: &Source<'_>,
     given: &[Party],
     text: &mut Vec<u8>,
-) -> Result<(), AllocError> {
+) -> Result<(), AllocError>
+    requires member { opening.now.member < length opening.now.setup }
+    requires source { IsSourceIn opening.now entry.now source.now }
+    ensures { OnOk result (AddsStep given.now histories.now opening.now entry.now text.old.items text.new.items) }
+{
+    node_lines_are_lines();
     let party = opening.party();
-    match awaited(transcripts, &entry.event, given) {
+    match awaited(histories, &entry.event, given) {
         Some(delivery) => {
             push_delivery(alloc, opening.nodes(), party, delivery.0, delivery.1, text)
         }
@@ -131,19 +154,23 @@ fn push_entry(
 fn push_turn(
     alloc: Global,
     transcripts: &[Transcript<'_>],
+    histories: &[NodeHistory<'_>],
     given: &[Party],
     turn: Turn,
     text: &mut Vec<u8>,
-) -> Result<(), AllocError> {
+) -> Result<(), AllocError>
+    requires told { AreTold transcripts.now }
+    requires sourced { AreSourced transcripts.now }
+    requires named { IsNamed transcripts.now turn }
+    ensures { OnOk result (AddsTurn given.now histories.now transcripts.now turn text.old.items text.new.items) }
+{
     let transcript = &transcripts[turn.history];
-    let entries = transcript.entries();
     let source = &transcript.sources()[turn.entry];
-    let opening = &transcript.openings()[source.opening()];
     push_entry(
         alloc,
-        transcripts,
-        opening,
-        &entries[turn.entry],
+        histories,
+        &transcript.openings()[source.opening()],
+        &transcript.entries()[turn.entry],
         source,
         given,
         text,
@@ -155,38 +182,102 @@ fn push_turn(
 pub(crate) fn played_text(
     alloc: Global,
     transcripts: &[Transcript<'_>],
+    histories: &[NodeHistory<'_>],
     given: &[Party],
     turns: &[Turn],
-) -> Result<Vec<u8>, AllocError> {
+) -> Result<Vec<u8>, AllocError>
+    requires some { 0 < length transcripts.now }
+    requires told { AreTold transcripts.now }
+    requires sourced { AreSourced transcripts.now }
+    requires named { AreNamed transcripts.now turns.now }
+    requires one { (setup : List NodeOf) × IsOfOneWorld setup transcripts.now }
+    ensures { IfOk result (λ text. IsPlayedText given.now histories.now transcripts.now turns.now text.items) }
+{
+    let line = transcripts[0].first().line.bytes;
     let mut text = Vec::new(alloc);
-    push_line(&mut text, transcripts[0].first().line.bytes)?;
+    push_line(&mut text, line)?;
     for turn in turns {
-        push_turn(alloc, transcripts, given, *turn, &mut text)?;
+        push_turn(alloc, transcripts, histories, given, *turn, &mut text)?;
     }
     Ok(text)
 }
 
-/// Adds the setup line that is to stand before the entry that a turn names, if one is: that of the first run before the
-/// first entry, and that of a later one before the restart, where the setup is another than before.
-fn push_setup(
-    transcripts: &[Transcript<'_>],
-    turn: Turn,
+/// Adds the setup line of the first run before the first entry.
+fn push_first_setup(
+    transcript: &Transcript<'_>,
+    place: usize,
     text: &mut Vec<u8>,
-) -> Result<(), AllocError> {
-    let transcript = &transcripts[turn.history];
-    if turn.entry == 0 {
-        push_line(text, transcript.first().line.bytes)?;
+) -> Result<(), AllocError>
+    ensures { OnOk result (AddsFirst transcript.now.openings place text.old.items text.new.items) }
+{
+    if place == 0 {
+        push_line(text, transcript.first().line.bytes)
+    } else {
+        Ok(())
     }
-    let opening = match &transcript.sources()[turn.entry] {
-        Source::Restarted { opening } => *opening,
-        Source::Echoed { .. } => return Ok(()),
-    };
-    let before = &transcript.openings()[opening.saturating_sub(1)];
-    let now = &transcript.openings()[opening];
+}
+
+/// Adds the setup line of a run at a place behind another, where its setup is another than before.
+fn push_other_setup(
+    openings: &[Opening<'_>],
+    place: usize,
+    text: &mut Vec<u8>,
+) -> Result<(), AllocError>
+    requires place { place < length openings.now }
+    requires later { 0 < place }
+    ensures { OnOk result (AddsOtherSetup openings.now place text.old.items text.new.items) }
+{
+    let before = &openings[place - 1];
+    let now = &openings[place];
     if are_equal(&before.setup, &now.setup) {
         return Ok(());
     }
     push_line(text, now.line.bytes)
+}
+
+/// Adds that of a run whose opening an entry is, where its setup is another than before.
+fn push_new_setup(
+    openings: &[Opening<'_>],
+    source: &Source<'_>,
+    text: &mut Vec<u8>,
+) -> Result<(), AllocError>
+    requires { IsOfRuns openings.now source.now }
+    ensures { OnOk result (AddsNew openings.now source.now text.old.items text.new.items) }
+{
+    match source {
+        Source::Restarted { opening } => push_other_setup(openings, *opening, text),
+        Source::Echoed { .. } => Ok(()),
+    }
+}
+
+/// Adds the setup lines that are to stand before the entry that a turn names.
+fn push_setups(
+    transcripts: &[Transcript<'_>],
+    turn: Turn,
+    text: &mut Vec<u8>,
+) -> Result<(), AllocError>
+    requires told { AreTold transcripts.now }
+    requires sourced { AreSourced transcripts.now }
+    requires named { IsNamed transcripts.now turn }
+    ensures { OnOk result (AddsSetups transcripts.now turn text.old.items text.new.items) }
+{
+    let transcript = &transcripts[turn.history];
+    push_first_setup(transcript, turn.entry, text)?;
+    push_new_setup(
+        transcript.openings(),
+        &transcript.sources()[turn.entry],
+        text,
+    )
+}
+
+/// Adds the line of each transcript that says that its first run was opened.
+fn push_openings(transcripts: &[Transcript<'_>], text: &mut Vec<u8>) -> Result<(), AllocError>
+    ensures { OnOk result ((lines : List (List ℕ)) × AreOpeningLines transcripts.now lines × (text.new.items ≡ text.old.items ++ lines_text lines)) }
+{
+    for transcript in transcripts {
+        push_line(text, transcript.first().told)?;
+    }
+    Ok(())
 }
 
 /// A woven run that is no input of `play`: how each transcript begins, and the lines of the entries that turns name, in
@@ -194,16 +285,20 @@ fn push_setup(
 pub(crate) fn other_text(
     alloc: Global,
     transcripts: &[Transcript<'_>],
+    histories: &[NodeHistory<'_>],
     given: &[Party],
     turns: &[Turn],
-) -> Result<Vec<u8>, AllocError> {
+) -> Result<Vec<u8>, AllocError>
+    requires told { AreTold transcripts.now }
+    requires sourced { AreSourced transcripts.now }
+    requires named { AreNamed transcripts.now turns.now }
+    ensures { IfOk result (λ text. IsOtherText given.now histories.now transcripts.now turns.now text.items) }
+{
     let mut text = Vec::new(alloc);
-    for transcript in transcripts {
-        push_line(&mut text, transcript.first().told)?;
-    }
+    push_openings(transcripts, &mut text)?;
     for turn in turns {
-        push_setup(transcripts, *turn, &mut text)?;
-        push_turn(alloc, transcripts, given, *turn, &mut text)?;
+        push_setups(transcripts, *turn, &mut text)?;
+        push_turn(alloc, transcripts, histories, given, *turn, &mut text)?;
     }
     Ok(text)
 }
