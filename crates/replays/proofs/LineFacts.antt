@@ -7,6 +7,7 @@ use Rattle.node_runs.specs.DoneLines.{all_line, fault_line, idle_line, known_lin
 use Rattle.node_runs.specs.LineAnswers as answer
 use Rattle.node_runs.specs.LineAnswers.{Answers, PlacedTurn, step_line}
 use Rattle.node_steps.specs.declared.fault.NodeFault.{NodeFault}
+use Rattle.node_steps.specs.declared.fault.NodeFault.TheVariants.{NumbersUsedUp}
 use Rattle.ocpi_types.specs.declared.field.Field.{Field}
 use Rattle.ocpi_types.specs.declared.packet.Packet.{Packet}
 use Rattle.ocpi_types.specs.declared.rows.Change.{Change}
@@ -83,7 +84,7 @@ answers_closed {number = n} (answer.SeveralEvents events is carries) = subst IsC
 
 pub line_closed : (now : Running) (line out : List ℕ) (entered : List Placed) (did : List Deed) (next : Running) → LineGives now line out entered did next → IsClosed out
 line_closed now line out entered did next (WasKnown known written none nothing is) = subst IsClosed (sym written) (known_closed (suc now.number))
-line_closed now line out entered did next (WasBeyond new at written none nothing is) = subst IsClosed (sym written) (refused_closed _ None _)
+line_closed now line out entered did next (WasBeyond new at written none nothing is) = subst IsClosed (sym written) (refused_closed _ None NumbersUsedUp)
 line_closed now line out entered did next (WasRead new within turn after answers entered_so is) = answers_closed answers
 
 -- ---- the numbers
