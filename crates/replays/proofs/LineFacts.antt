@@ -8,10 +8,7 @@ use Rattle.node_runs.specs.LineAnswers as answer
 use Rattle.node_runs.specs.LineAnswers.{Answers, PlacedTurn, step_line}
 use Rattle.node_steps.specs.declared.fault.NodeFault.{NodeFault}
 use Rattle.node_steps.specs.declared.fault.NodeFault.TheVariants.{NumbersUsedUp}
-<<<<<<< HEAD
 use Rattle.ocpi_text.specs.Whole.{max_whole}
-=======
->>>>>>> 5df96fe1d8eab279e57285e464a10fe48a9a53b6
 use Rattle.ocpi_types.specs.declared.field.Field.{Field}
 use Rattle.ocpi_types.specs.declared.packet.Packet.{Packet}
 use Rattle.ocpi_types.specs.declared.rows.Change.{Change}
@@ -88,11 +85,7 @@ answers_closed {number = n} (answer.SeveralEvents events is carries) = subst IsC
 
 pub line_closed : (now : Running) (line out : List ℕ) (entered : List Placed) (did : List Deed) (next : Running) → LineGives now line out entered did next → IsClosed out
 line_closed now line out entered did next (WasKnown known written none nothing is) = subst IsClosed (sym written) (known_closed (suc now.number))
-<<<<<<< HEAD
 line_closed now line out entered did next (WasBeyond new at written none nothing is) = subst IsClosed (sym written) (refused_closed max_whole None NumbersUsedUp)
-=======
-line_closed now line out entered did next (WasBeyond new at written none nothing is) = subst IsClosed (sym written) (refused_closed _ None NumbersUsedUp)
->>>>>>> 5df96fe1d8eab279e57285e464a10fe48a9a53b6
 line_closed now line out entered did next (WasRead new within turn after answers entered_so is) = answers_closed answers
 
 -- ---- the numbers
