@@ -3,6 +3,7 @@ use Rattle.std.proofs.Common.{◌≡◌, ◌++◌, ◌∙◌, ◌+◌, ◌<◌, 
 use Rattle.std.specs.Io.KnownBytes.{Appends}
 use Rattle.std.specs.Str.Lines.{lines as lines_of}
 use Rattle.std.proofs.lemmas.List.Concat.{flat_map-append}
+use Rattle.json_text.specs.declared.fault.JsonFault.TheVariants.{Syntax}
 use Rattle.line_runs.specs.Numbered.{IsNumberedBegun, IsNumberedRun, NumberedBegins, NumberedOutputs, begun_answer, begun_between, begun_echo, begun_end, echo_of, numbered_end, numbered_stop}
 use Rattle.line_runs.specs.declared.outcome.Ran.{Ran as How}
 use Rattle.line_runs.specs.declared.run.Turn.{Turn}
@@ -129,7 +130,7 @@ module _ (held : ChangesAreHeld) (start : NodesCanStartAgain) (keeps : NodesKeep
 
   -- what is written at the end of the input
   end_piece : (n : ℕ) (q : Option (Running K)) (how : How) (more : List ℕ) → NodeEnd q how more → IsPiece n most more
-  end_piece n None how more is = subst (IsPiece n most) (sym is.1) (NoSetup 0 (omega arith) _)
+  end_piece n None how more is = subst (IsPiece n most) (sym is.1) (NoSetup 0 (omega arith) Syntax)
   end_piece n (Some now) how more is = subst (IsPiece n most) (sym is.1) no_piece
 
   abbrev Stays : Stage K → Option K → Type 0
