@@ -187,7 +187,7 @@ module _ (held : ChangesAreHeld) (start : NodesCanStartAgain) (keeps : NodesKeep
     take n (begin_bytes echo),
     ap Some is,
     at_stage held start keeps alike keeper source wanted opened echo most setup lines base member only [] (lines_of input) [] (take n (begin_bytes echo)) last kept fed
-    (Before first refl refl) stays.0 stays.1 (λ k tells. piece_told nothing_told (Beginning echo) n),
+        (Before first refl refl) stays.0 stays.1 (λ k tells. piece_told nothing_told (Beginning echo) n),
   )
 
   broke : (input before : List ℕ) (new : Option (List ℕ)) (last : Stage K) (kept : Option K) → Fed (lines_of input)

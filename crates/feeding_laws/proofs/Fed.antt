@@ -339,8 +339,8 @@ module _ (keeps : NodesKeepOpenings) where
         → s ≡ opening wanted opened → some_lines all ≡ [] → out ≡ [] → SetupTurn keeper source s line turn more t → Comes (all ++ line ∷ []) (out ++ (echo_of echo line ++ take n more)) t
     first_line all out s t line turn more n some on is none nothing (turns.Opened o taken written left) =
         subst (Comes (all ++ line ∷ []) (out ++ (echo_of echo line ++ take n more))) (sym left) (
-          Runs (record { party = party_of o.member; node = o.node }) refl o.setup o.base line (opened_so all line s o some none (ap (λ (s : Stage K). s.wanted) is))
-          (line_tells echo line n (subst (TellsTo (number_from o.base o.last) most) (sym nothing) nothing_told) (subst (IsPiece (number_from o.base o.last) most) (sym written) (Opening o.last _ o.rows _)))
+        Runs (record { party = party_of o.member; node = o.node }) refl o.setup o.base line (opened_so all line s o some none (ap (λ (s : Stage K). s.wanted) is))
+        (line_tells echo line n (subst (TellsTo (number_from o.base o.last) most) (sym nothing) nothing_told) (subst (IsPiece (number_from o.base o.last) most) (sym written) (Opening o.last _ o.rows _)))
         )
     first_line all out s t line turn more n some on is none nothing (turns.Untold o ended written left) = absurd (on ended)
     first_line all out s t line turn more n some on is none nothing (turns.Unbegun setup base read asked spare stop unbegun ended written left) = absurd (on ended)
