@@ -98,14 +98,14 @@ module _ (held : ChangesAreHeld) (start : NodesCanStartAgain) (keeps : NodesKeep
         let b = read_on keeps keeper source wanted opened echo most before s t now after line turn more some new few is next h in
         at_stage held start keeps alike keeper source wanted opened echo most setup lines base member only (before ++ line ∷ []) later (out ++ (echo_of echo line ++ take m more)) text t kept
         (subst Fed (sym (append_assoc before (line ∷ []) later)) fed) (Runs b.0 b.1 xs n first b.2 (line_tells echo line m (tells_more b.4 tells) b.3)) left stored tell
-    behind_ended now xs n first h tells (answers.Ends stop keep loses kept_then number ended written next) =
+    behind_ended now xs n first h tells (answers.Ends stop keep loses known kept_then number ended written next) =
         let f = fits held start keeps alike keeper source wanted opened echo most setup lines base member only xs n first before (line ∷ later) s.number s.known now h fed in
         let r = front_of held start keeps alike keeper source wanted opened echo most setup lines base member only f in
         let g = f.going in
         subst (Left text) (sym (ap (λ (t : Stage K). keep_in t.running t.spare) next) ∙ left)
         (ran_so held start keeps alike keeper source wanted opened echo most setup lines base member only g (answered_by held start keeps alike keeper source wanted opened echo most setup lines base member only f r) kept_then
-        (IsMade keeper line s.number now) (next_at held start keeps alike keeper source wanted opened echo most setup lines base member only f some r) keep
-        (λ honest. lost keeper line s.number now stop keep loses g.settled honest) text
+        (IsMade keeper line s.number s.known now) (next_at held start keeps alike keeper source wanted opened echo most setup lines base member only f some r) keep
+        (λ honest. lost keeper line s.number s.known now stop keep loses known g.settled honest) text
         (tell s.number (line_tells echo line m tells (subst (IsPiece s.number most) (sym written) no_piece))))
 
   at_line : (before later : List (List ℕ)) (out text : List ℕ) (s t : Stage K) (place : ℕ) (line : List ℕ) (turn : Turn) (more : List ℕ) (m : ℕ) (kept : Option K) → Fed (before ++ line ∷ later)

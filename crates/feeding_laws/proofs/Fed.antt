@@ -301,7 +301,7 @@ module _ (keeps : NodesKeepOpenings) where
             omega (arith, is),
           )
       behind all s t now line turn more some on (answers.GoesOn new few next is left) h = read_on all s t now next line turn more some new few is left h
-      behind all s t now line turn more some on (answers.Ends stop keep loses stored number ended written left) h = absurd (on ended)
+      behind all s t now line turn more some on (answers.Ends stop keep loses known stored number ended written left) h = absurd (on ended)
 
     -- the setup, which is the first line
     pub opened_so : (all : List (List ℕ)) (line : List ℕ) (s : Stage K) (o : OpensNode keeper source s.wanted line) → 0 < length line → some_lines all ≡ [] → s.wanted ≡ wanted

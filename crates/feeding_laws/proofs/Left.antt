@@ -18,6 +18,7 @@ use Rattle.node_runs.specs.NodeTurns.{IsMember, IsUnbegun, Running, Stage, keep_
 use Rattle.node_runs.specs.NumberedRuns.{Carries, Changed, Numbered, none_carried, none_changed, one_carried}
 use Rattle.node_runs.specs.SetupLines.{numbered_setup_in}
 use Rattle.node_runs.specs.declared.fault.NodeStop.{NodeStop}
+use Rattle.node_runs.specs.declared.fault.NodeStop.TheVariants.{Memory}
 use Rattle.node_store.specs.Contents.{Content, IsReadAgain, changed_all, line_of, marked}
 use Rattle.node_store.proofs.Numbered.{numbers_are_no_rows}
 use Rattle.ocpi_types.specs.Setups.{party_of}
@@ -32,7 +33,7 @@ use Rattle.world_steps.specs.Steps.{NodeEvent as Deed}
 use Rattle.world_steps.specs.World.{NodeState, opening_of}
 use Rattle.feeding_laws.proofs.Fed.{Before, Comes, Going, Runs, no_others, of_run, one_kept, tells_within}
 use Rattle.feeding_laws.proofs.Parts.{At_end, Front, In_front, at_place, behind_front, behind_more, fronts, last_one, not_empty, nothing_of, nothing_taken, part_of, same_answers, same_takes, short_cut, without}
-use Rattle.feeding_laws.specs.Fed.{As_fed, By_number, FedRun, Holds, IsCut, IsFed, IsLeft, IsPart, Known_again, No_line, No_setup, Nothing as NoLines, Same, Opened, TellsTo, Unopened, WasFed, nothing_told}
+use Rattle.feeding_laws.specs.Fed.{By_number, FedRun, Holds, IsCut, IsFed, IsLeft, IsPart, No_line, No_setup, Nothing as NoLines, Same, Opened, TellsTo, Unopened, WasFed, nothing_told}
 use Rattle.feeding_laws.specs.Feeding.{AreBehind, Behind, Held, One_more}
 
 -- ---- numbers and lists
@@ -73,7 +74,8 @@ left_is keeper k c honest settled (inr may) = settled honest c may
 
 module _ {K : Type 0} (keeper : Keeper K) where
   -- the content is what the line of the next number made of what the keeper had, with that number
-  pub record IsMade (line : List ℕ) (number : ℕ) (now : Running K) (c : Content) : Type 0 where
+  pub record IsMade (line : List ℕ) (number known : ℕ) (now : Running K) (c : Content) : Type 0 where
+    new : known ≤ number
     turn : Turn
     out : List ℕ
     did : List Deed
@@ -84,21 +86,23 @@ module _ {K : Type 0} (keeper : Keeper K) where
     is_line : IsLine (Some (suc number))
     made : c ≡ marked (Some (suc number)) (changed_all (keeper.content now.node.keep) (changes_of_each did))
 
-  abbrev pub IsKeptOrMade : List ℕ → ℕ → Running K → Content → Type 0
-  IsKeptOrMade line number now c = (c ≡ keeper.content now.node.keep) ⊎ IsMade line number now c
+  abbrev pub Loses : List ℕ → ℕ → ℕ → Running K → K → Type 0
+  Loses line number known now k = keeper.is_honest now.node.keep × ((c : Content) → IsLeftBy keeper k c → (c ≡ keeper.content now.node.keep) ⊎ IsMade line number known now c)
 
-  abbrev pub Loses : List ℕ → ℕ → Running K → K → Type 0
-  Loses line number now k = keeper.is_honest now.node.keep × ((c : Content) → IsLeftBy keeper k c → IsKeptOrMade line number now c)
-
-  untold : (line : List ℕ) (number : ℕ) (now next : Running K) (turn : Turn) (out : List ℕ) → IsSettled keeper now.node.keep → keeper.is_honest next.node.keep
-      → (did : List Deed) → Answers now.party now.node.state (suc number) line turn out did next.node.state
-      → Commits keeper (Some (suc number)) (changes_of_each did) now.node.keep next.node.keep → Loses line number now next.node.keep
-  untold line number now next turn out settled honest did is (Nothing none same) =
+  -- the keeper keeps what it kept
+  stayed : (line : List ℕ) (number known : ℕ) (now : Running K) (k : K) → k ≡ now.node.keep → IsSettled keeper now.node.keep → keeper.is_honest k → Loses line number known now k
+  stayed line number known now k same settled honest =
       let here = subst keeper.is_honest same honest in
       (here, λ c over. inl (left_is keeper now.node.keep c here settled (subst (λ (q : K). IsLeftBy keeper q c) same over)))
-  untold line number now next turn out settled honest did is (TakenBy some takes) = (
+
+  untold : (line : List ℕ) (number known : ℕ) (now next : Running K) (turn : Turn) (out : List ℕ) → known ≤ number → IsSettled keeper now.node.keep → keeper.is_honest next.node.keep
+      → (did : List Deed) → Answers now.party now.node.state (suc number) line turn out did next.node.state
+      → Commits keeper (Some (suc number)) (changes_of_each did) now.node.keep next.node.keep → Loses line number known now next.node.keep
+  untold line number known now next turn out new settled honest did is (Nothing none same) = stayed line number known now next.node.keep same settled honest
+  untold line number known now next turn out new settled honest did is (TakenBy some takes) = (
     takes.earlier honest,
     λ c over. inr (record {
+      new = new;
       turn = turn;
       out = out;
       did = did;
@@ -111,23 +115,31 @@ module _ {K : Type 0} (keeper : Keeper K) where
     }),
   )
 
-  pub lost : (line : List ℕ) (number : ℕ) (now : Running K) (stop : NodeStop) (k : K) → LosesLine keeper now (suc number) line stop k → IsSettled keeper now.node.keep → keeper.is_honest k → Loses line number now k
-  lost line number now stop k (answers.WasStarved want same) settled honest =
-      let here = subst keeper.is_honest same honest in
-      (here, λ c over. inl (left_is keeper now.node.keep c here settled (subst (λ (q : K). IsLeftBy keeper q c) same over)))
-  lost line number now stop k (answers.WasUntold turn out next is after want same) settled honest =
-      subst (Loses line number now) (sym same) (untold line number now next turn out settled (subst keeper.is_honest same honest) is.did is.answers is.commits)
-  lost line number now stop k (answers.WasDeclined turn out did after is some fault of_commit d told) settled honest = (
+  lost_new : (line : List ℕ) (number known : ℕ) (now : Running K) (stop : NodeStop) (k : K) → LosesLine keeper now (suc number) line stop k → known ≤ number → IsSettled keeper now.node.keep
+      → keeper.is_honest k → Loses line number known now k
+  lost_new line number known now stop k (answers.WasStarved want same) new settled honest = stayed line number known now k same settled honest
+  lost_new line number known now stop k (answers.WasUntold turn out next is after want same) new settled honest =
+      subst (Loses line number known now) (sym same) (untold line number known now next turn out new settled (subst keeper.is_honest same honest) is.did is.answers is.commits)
+  lost_new line number known now stop k (answers.WasDeclined turn out did after is some fault of_commit d told) new settled honest = (
     d.earlier honest,
     λ c over.
         elim over [
           | inl same ↦ inl (same ∙ d.same honest)
           | inr may ↦ elim (d.stops honest c may) [
             | inl before ↦ inl (settled (d.earlier honest) c before)
-            | inr made ↦ inr (record { turn = turn; out = out; did = did; after = after; is = is; some = some; again = made.1; is_line = d.is_line; made = made.0 })
+            | inr made ↦ inr (record { new = new; turn = turn; out = out; did = did; after = after; is = is; some = some; again = made.1; is_line = d.is_line; made = made.0 })
           ]
         ],
   )
+
+  -- of a line that had taken hold before the run nothing was carried out
+  pub lost : (line : List ℕ) (number known : ℕ) (now : Running K) (stop : NodeStop) (k : K) → LosesLine keeper now (suc number) line stop k
+      → (suc number ≤ known → (stop ≡ Memory) × (k ≡ now.node.keep)) → IsSettled keeper now.node.keep → keeper.is_honest k → Loses line number known now k
+  lost line number known now stop k loses was settled honest =
+      elim (below number known) [
+        | inl low ↦ stayed line number known now k (was low).1 settled honest
+        | inr high ↦ lost_new line number known now stop k loses high settled honest
+      ]
 
 -- ---- what is left
 
@@ -148,7 +160,7 @@ module _ (held : ChangesAreHeld) (start : NodesCanStartAgain) (keeps : NodesKeep
       (r : Answered h) (stored : IsStored keeper now.node) where
     -- the next line made it
     abbrev pub MadeNext : Content → Type 0
-    MadeNext c = (number ≡ base + length r.read) × IsMade keeper (lines (suc (base + length r.read))) number now c
+    MadeNext c = (number ≡ base + length r.read) × IsMade keeper (lines (suc (base + length r.read))) number known now c
 
     module _ (honest : keeper.is_honest now.node.keep) (found : Held) (holds : Holds setup h.member (keeper.content h.begins.starts.fresh) found) where
       begun_is : h.begun.state ≡ restarted found.state
@@ -171,17 +183,20 @@ module _ (held : ChangesAreHeld) (start : NodesCanStartAgain) (keeps : NodesKeep
       kept_so : (c : Content) → c ≡ keeper.content now.node.keep → IsLeft setup h.member lines found base r.read c
       kept_so c same =
           let line_is = ap line_of same ∙ h.marked honest in
-          As_fed h.changed (record { state = now.node.state; line = h.last_change })
-          (record {
-            kept = record {
-              starts = stored.starts;
-              of_member = of_now;
-              holds = subst (λ (b : Content). HoldsRows b now.node.state) (sym same) (stored.holds honest);
-              numbered = subst IsSome (sym line_is) refl;
+          record {
+            changed = h.changed;
+            left = record { state = now.node.state; line = h.last_change };
+            holds = record {
+              kept = record {
+                starts = stored.starts;
+                of_member = of_now;
+                holds = subst (λ (b : Content). HoldsRows b now.node.state) (sym same) (stored.holds honest);
+                numbered = subst IsSome (sym line_is) refl;
+              };
+              line = line_is;
             };
-            line = line_is;
-          })
-          (record { are = r.are; did = r.did; now = now.node.state; carries = carried; leaves = Behind h.changed changed_so refl })
+            ran = record { are = r.are; did = r.did; now = now.node.state; carries = carried; leaves = Behind h.changed changed_so refl };
+          }
 
       made_so : (c : Content) → MadeNext c → IsLeft setup h.member lines found base r.read c
       made_so c (counted, m) =
@@ -194,27 +209,26 @@ module _ (held : ChangesAreHeld) (start : NodesCanStartAgain) (keeps : NodesKeep
           let is : Answers (party_of h.member) now.node.state at (lines at) m.turn m.out m.did m.after =
           subst (λ (p : List ℕ). Answers p now.node.state at (lines at) m.turn m.out m.did m.after) h.party
           (subst (λ (n : ℕ). Answers now.party now.node.state n (lines at) m.turn m.out m.did m.after) (ap suc counted) m.is) in
-          elim (below number known) [
-            | inl low ↦ Known_again (omega (arith, low, counted, h.knows, last_is))
-                (record { now = now.node.state; after = m.after; turn = m.turn; out = m.out; did = m.did; answers = is; some = m.some; holds = rows_of })
-            | inr high ↦ As_fed (h.changed ++ at ∷ []) (record { state = m.after; line = suc number })
-                (record {
-                  kept = record {
-                    starts = starts_by_events start now.node.state m.after m.did run stored.starts;
-                    of_member = of_run keeps (opening_of setup h.member) now.node.state m.after m.did of_now run;
-                    holds = rows_of;
-                    numbered = subst IsSome (sym line_is) refl;
-                  };
-                  line = line_is;
-                })
-                (record {
-                  are = r.are;
-                  did = r.did;
-                  now = now.node.state;
-                  carries = carried;
-                  leaves = One_more h.changed h.last_change changed_so (omega (arith, high, counted, h.knows, last_is)) m.turn m.out m.did m.after is m.some refl (ap suc counted);
-                })
-          ]
+          record {
+            changed = h.changed ++ at ∷ [];
+            left = record { state = m.after; line = suc number };
+            holds = record {
+              kept = record {
+                starts = starts_by_events start now.node.state m.after m.did run stored.starts;
+                of_member = of_run keeps (opening_of setup h.member) now.node.state m.after m.did of_now run;
+                holds = rows_of;
+                numbered = subst IsSome (sym line_is) refl;
+              };
+              line = line_is;
+            };
+            ran = record {
+              are = r.are;
+              did = r.did;
+              now = now.node.state;
+              carries = carried;
+              leaves = One_more h.changed h.last_change changed_so (omega (arith, m.new, counted, h.knows, last_is)) m.turn m.out m.did m.after is m.some refl (ap suc counted);
+            };
+          }
 
       left_so : {Made : Content → Type 0} → ((c : Content) → Made c → MadeNext c) → (c : Content) → (c ≡ keeper.content now.node.keep) ⊎ Made c → IsLeft setup h.member lines found base r.read c
       left_so next c (inl same) = kept_so c same
@@ -318,14 +332,14 @@ module _ (held : ChangesAreHeld) (start : NodesCanStartAgain) (keeps : NodesKeep
   -- the line at which the run ended is the next, or a beginning of it
   module _ {before later : List (List ℕ)} {line : List ℕ} {number known : ℕ} {now : Running K} (f : Fits before (line ∷ later) number known now) (some : 0 < length line) where
     abbrev NextOf : Answered f.going → Type 0
-    NextOf r = (c : Content) → IsMade keeper line number now c → (number ≡ base + length r.read) × IsMade keeper (lines (suc (base + length r.read))) number now c
+    NextOf r = (c : Content) → IsMade keeper line number known now c → (number ≡ base + length r.read) × IsMade keeper (lines (suc (base + length r.read))) number known now c
 
     line_is : f.going.others ≡ [] → f.going.others ++ some_lines (line ∷ later) ≡ line ∷ some_lines later
     line_is none = ap (λ (l : List (List ℕ)). l ++ some_lines (line ∷ later)) none ∙ ap (λ (l : List (List ℕ)). l ++ some_lines later) (one_kept line some)
 
-    made_by : (other : List ℕ) (c : Content) (m : IsMade keeper line number now c) → Answers now.party now.node.state (suc number) other m.turn m.out m.did m.after → IsMade keeper other number now c
+    made_by : (other : List ℕ) (c : Content) (m : IsMade keeper line number known now c) → Answers now.party now.node.state (suc number) other m.turn m.out m.did m.after → IsMade keeper other number known now c
     made_by other c m is =
-        record { turn = m.turn; out = m.out; did = m.did; after = m.after; is = is; some = m.some; again = m.again; is_line = m.is_line; made = m.made }
+        record { new = m.new; turn = m.turn; out = m.out; did = m.did; after = m.after; is = is; some = m.some; again = m.again; is_line = m.is_line; made = m.made }
 
     next_by : (zs : List (List ℕ)) (is : f.fed ≡ f.going.numbered ++ zs) → f.going.others ++ some_lines (line ∷ later) ≡ zs ++ f.cut → NextOf (in_front_read f zs is)
     unfolding in_front_read
@@ -335,7 +349,7 @@ module _ (held : ChangesAreHeld) (start : NodesCanStartAgain) (keeps : NodesKeep
         let part = subst (λ (l : List (List ℕ)). IsPart (lines (suc (base + length l))) line) fed_is (part_so f line (some_lines later) (sym rest ∙ line_is none)) in
         (f.going.counted, made_by (lines (suc (base + length f.going.numbered))) c m (of_part part m))
       where
-        of_part : {c : Content} → IsPart (lines (suc (base + length f.going.numbered))) line → (m : IsMade keeper line number now c)
+        of_part : {c : Content} → IsPart (lines (suc (base + length f.going.numbered))) line → (m : IsMade keeper line number known now c)
             → Answers now.party now.node.state (suc number) (lines (suc (base + length f.going.numbered))) m.turn m.out m.did m.after
         of_part (Same same) m = same_answers same m.is
         of_part (No_line fault none) m = absurd (m.some (ap changes_of_each (nothing_of m.is fault none).0))
@@ -344,7 +358,7 @@ module _ (held : ChangesAreHeld) (start : NodesCanStartAgain) (keeps : NodesKeep
         let first = of_first line z (some_lines later) (zs ++ f.cut) (sym (line_is none) ∙ rest) in
         let z_is = f.behind (length f.going.numbered) z (subst (λ (l : List (List ℕ)). slice_get l (length f.going.numbered) ≡ Some z) (sym is) (at_place f.going.numbered zs z)) in
         let same : line ≡ lines (suc (base + length f.going.numbered)) = first.0 ∙ z_is in
-        (f.going.counted, subst (λ (l : List ℕ). IsMade keeper l number now c) same m)
+        (f.going.counted, subst (λ (l : List ℕ). IsMade keeper l number known now c) same m)
 
     pub next_at : (r : Front f.going.numbered (f.going.others ++ some_lines (line ∷ later)) f.fed f.cut) → NextOf (answered_by f r)
     unfolding answered_by in_front_read
@@ -392,8 +406,12 @@ module _ (held : ChangesAreHeld) (start : NodesCanStartAgain) (keeps : NodesKeep
         tells = tells (base + length {A = List ℕ} []);
         leaves = λ honest was holds c over.
             let at : c ≡ keeper.content unmade.fresh = found_is honest c over in
-            As_fed [] was (subst (λ (b : Content). Holds setup m b was) (sym at) holds)
-            (record { are = λ i l at. absurd (cc at); did = []; now = restarted was.state; carries = none_carried; leaves = Behind [] none_changed (alike.by_restarts was.state) });
+            record {
+              changed = [];
+              left = was;
+              holds = subst (λ (b : Content). Holds setup m b was) (sym at) holds;
+              ran = record { are = λ i l at. absurd (cc at); did = []; now = restarted was.state; carries = none_carried; leaves = Behind [] none_changed (alike.by_restarts was.state) };
+            };
       })))
     where
       found_is : keeper.is_honest k → (c : Content) → IsLeftBy keeper k c → c ≡ keeper.content unmade.fresh

@@ -1,21 +1,18 @@
 -- Runs of the command `node` that are fed lines by their numbers: what each leaves in its store, and what it writes.
-use Rattle.std.specs.Prelude.{◌≡◌, ◌≢◌, ◌≤◌, ℕ, suc, ◌+◌, Bool, List, [], ◌∷◌, ◌++◌, Option, None, Some, Ok, Err, length, take}
+use Rattle.std.specs.Prelude.{◌≡◌, ◌≤◌, ℕ, suc, ◌+◌, Bool, List, [], ◌∷◌, ◌++◌, Option, None, Some, Ok, Err, length, take}
 use Rattle.std.specs.Str.Lines.{lines as lines_of}
 use Rattle.json_text.specs.declared.fault.JsonFault.{JsonFault}
 use Rattle.line_runs.specs.Numbered.{echo_of}
 use Rattle.line_runs.specs.declared.outcome.Ran.{Ran as How}
-use Rattle.line_runs.specs.declared.run.Turn.{Turn}
 use Rattle.node_keepers.specs.Opening.{Source}
 use Rattle.node_lines.specs.NodeLines.{node_line_in}
 use Rattle.node_runs.specs.DoneLines.{malformed_line, opened_line, refused_line}
-use Rattle.node_runs.specs.LineAnswers.{Answers}
 use Rattle.node_runs.specs.NodeHistories.{IsLeftBy, some_lines}
 use Rattle.node_runs.specs.NodeOutputs.{NodeBegins, NodeOutputs, asked_for, begin_bytes}
 use Rattle.node_runs.specs.NodeTurns.{IsMember}
 use Rattle.node_runs.specs.NumberedRuns.{Takes}
 use Rattle.node_runs.specs.SetupLines.{numbered_setup_in}
 use Rattle.node_runs.specs.declared.fault.NodeStop.{NodeStop}
-use Rattle.node_rows.specs.Holds.{HoldsRows}
 use Rattle.node_steps.specs.declared.fault.NodeFault.TheVariants.{NumbersUsedUp}
 use Rattle.node_store.specs.Contents.{Content, line_of}
 use Rattle.ocpi_text.specs.Whole.{max_whole}
@@ -23,7 +20,6 @@ use Rattle.ocpi_types.specs.Setups.{party_of}
 use Rattle.ocpi_types.specs.declared.setup.Node.{Node}
 use Rattle.stored_nodes.specs.Keepers.{Keeper}
 use Rattle.stored_nodes.specs.Stored.{IsKeptFor}
-use Rattle.stored_nodes.specs.Transactions.{changes_of_each}
 use Rattle.world_steps.specs.Steps.{NodeEvent as Deed}
 use Rattle.world_steps.specs.World.{NodeState}
 use Rattle.feeding_laws.specs.Feeding.{AreBehind, Held, IsExact, Ran}
@@ -81,23 +77,12 @@ pub record Holds (setup : List Node) (member : Node) (c : Content) (h : Held) : 
   pub kept : IsKeptFor setup member c h.state
   pub line : line_of c ≡ Some h.line
 
--- The line of that number was carried out, and the content holds the rows behind it.
-pub record DoneAgain (member : Node) (lines : ℕ → List ℕ) (number : ℕ) (c : Content) : Type 0 where
-  pub now : NodeState
-  pub after : NodeState
-  pub turn : Turn
-  pub out : List ℕ
-  pub did : List Deed
-  pub answers : Answers (party_of member) now number (lines number) turn out did after
-  pub some : changes_of_each did ≢ []
-  pub holds : HoldsRows c after
-
--- The content is what such a run leaves. Or the line behind those that were answered had taken hold before the run, and
--- was carried out once more: `node` does not do so, but what `run_node` ensures does not keep it from that.
-pub data IsLeft (setup : List Node) (member : Node) (lines : ℕ → List ℕ) (found : Held) (base : ℕ) (read : List (List ℕ)) (c : Content) : Type 0 where
-  As_fed : (changed : List ℕ) (left : Held) → Holds setup member c left → Ran (party_of member) lines found base read changed left
-      → IsLeft setup member lines found base read c
-  Known_again : suc (base + length read) ≤ found.line → DoneAgain member lines (suc (base + length read)) c → IsLeft setup member lines found base read c
+-- The content is what such a run leaves that answered these lines.
+pub record IsLeft (setup : List Node) (member : Node) (lines : ℕ → List ℕ) (found : Held) (base : ℕ) (read : List (List ℕ)) (c : Content) : Type 0 where
+  pub changed : List ℕ
+  pub left : Held
+  pub holds : Holds setup member c left
+  pub ran : Ran (party_of member) lines found base read changed left
 
 -- A run over a store, by its keeper as it was opened and as it was left. Whatever rows of the node the store had, and
 -- whatever number, what it has at the end, or what a stop leaves of that, is what a run leaves that answered these
@@ -137,11 +122,12 @@ pub data AreFedRuns {K : Type 0} (keeper : Keeper K) (source : Source K) (setup 
   one_unopened : {seen base : ℕ} {before : Content} → AreFedRuns keeper source setup member lines first seen before → 1 ≤ base → base ≤ seen
       → AreFedRuns keeper source setup member lines first base before
 
--- What such runs leave is exact. Or one of them carried out a line that had taken hold before it.
-pub data AreExact (setup : List Node) (member : Node) (lines : ℕ → List ℕ) (first : Held) (seen : ℕ) (c : Content) : Type 0 where
-  Exactly : (changed : List ℕ) (left : Held) → Holds setup member c left → IsExact (party_of member) lines first seen changed left
-      → AreExact setup member lines first seen c
-  Again : (found : Held) (number : ℕ) (content : Content) → number ≤ found.line → DoneAgain member lines number content → AreExact setup member lines first seen c
+-- what is kept at the end is exact
+pub record AreExact (setup : List Node) (member : Node) (lines : ℕ → List ℕ) (first : Held) (seen : ℕ) (c : Content) : Type 0 where
+  pub changed : List ℕ
+  pub left : Held
+  pub holds : Holds setup member c left
+  pub exact : IsExact (party_of member) lines first seen changed left
 
 -- so it is of each node whose store had no line at first
 abbrev pub FedRunsAreExact : {K : Type 0} → Keeper K → Source K → Type 0

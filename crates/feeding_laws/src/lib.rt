@@ -15,8 +15,6 @@
 //!   seen the `done` of none. By the same: `tells`.
 //! - Such runs over one store, each over what the one before left, leave each line once and in order. By law
 //!   `fed_runs_are_exact`.
-//! - One case is open: where a run ends at a line that had taken hold before it, `run_node` does not tell that
-//!   nothing was carried out (`Known_again` of `specs/Fed`). By reading: it reads no such line.
 #![tactic(auto)]
 
 pub mod laws;

@@ -1,5 +1,5 @@
 -- What a line behind the setup left, from what its parts give, and how the program goes on with it.
-use Rattle.std.proofs.Common.{◌≡◌, ◌⊎◌, ◌++◌, ◌∙◌, ◌≤◌, ℕ, suc, true, false, List, [], Option, Some, None, Result, Ok, Err, OnOk, refl, sym, ap, subst, inl, inr}
+use Rattle.std.proofs.Common.{◌≡◌, ◌⊎◌, ◌++◌, ◌∙◌, ◌≤◌, ℕ, suc, true, false, List, [], Option, Some, None, Result, Ok, Err, OnOk, refl, sym, ap, subst, inl, inr, arith}
 use Rattle.std.proofs.lemmas.List.{append-nil}
 use Rattle.ocpi_text.specs.Whole.{max_whole}
 use Rattle.ocpi_types.specs.declared.node_events.NodeEvent.{NodeEvent}
@@ -130,22 +130,23 @@ module _ {K : Type 0} (keeper : Keeper K) (now : Running K) (s : Stage K) (line 
   abbrev Turns : Turn → Stage K → Type 0
   Turns turn t = (out : List ℕ) × (after ≡ before ++ out) × BehindTurn keeper now s line turn out t
 
-  ended : (number : ℕ) (keep : K) (stop : NodeStop) (turn : Turn) (t : Stage K) → LosesLine keeper now (suc s.number) line stop keep → after ≡ before → GoesOnWith (Bare number) (Lost keep stop) turn t → Turns turn t
-  ended number keep stop turn t loses written goes = ([], written ∙ sym (append-nil before), answers.Ends stop keep loses stored number goes.0 refl goes.1)
+  ended : (number : ℕ) (keep : K) (stop : NodeStop) (turn : Turn) (t : Stage K) → LosesLine keeper now (suc s.number) line stop keep → (suc s.number ≤ s.known → (stop ≡ Memory) × (keep ≡ now.node.keep))
+      → after ≡ before → GoesOnWith (Bare number) (Lost keep stop) turn t → Turns turn t
+  ended number keep stop turn t loses known written goes = ([], written ∙ sym (append-nil before), answers.Ends stop keep loses known stored number goes.0 refl goes.1)
 
   -- a line that was read
   pub read_on : suc s.known ≤ suc s.number → suc s.number ≤ max_whole → (a : After K) (turn : Turn) (t : Stage K) → IsAfter keeper now (suc s.number) line before after a
       → GoesOnWith (Bare (suc s.number)) a turn t → Turns turn t
   read_on new few (Runs next answered) turn t is goes =
       (is.0, is.1, answers.GoesOn new few next (subst (λ (u : Turn). LineTurn keeper now (suc s.number) line u is.0 next) (sym goes.0) is.2) goes.1)
-  read_on new few (Lost keep stop) turn t is goes = ended (suc s.number) keep stop turn t is.0 is.2 goes
+  read_on new few (Lost keep stop) turn t is goes = ended (suc s.number) keep stop turn t is.0 (λ low. absurd (omega (arith, new, low))) is.2 goes
 
   -- one that had taken hold
   pub known_on : suc s.number ≤ s.known → (a : After K) (turn : Turn) (t : Stage K) → IsTold now Taken (known_line (suc s.number)) before after a
       → GoesOnWith (Bare (suc s.number)) a turn t → Turns turn t
   known_on is (Runs next answered) turn t told goes =
       (known_line (suc s.number), told.2, answers.WasKnown is (goes.0 ∙ told.1) refl (goes.1 ∙ ap (λ (n : Running K). answers.next_stage s n (suc s.number)) told.0))
-  known_on is (Lost keep stop) turn t told goes = ended (suc s.number) keep stop turn t (answers.WasStarved told.1 told.0) told.2 goes
+  known_on is (Lost keep stop) turn t told goes = ended (suc s.number) keep stop turn t (answers.WasStarved told.1 told.0) (λ low. (told.1, told.0)) told.2 goes
 
   -- one behind the last number
   pub beyond_on : s.number ≡ max_whole → (a : After K) (turn : Turn) (t : Stage K) → IsTold now Refused (refused_line max_whole None NumbersUsedUp) before after a
@@ -156,7 +157,7 @@ module _ {K : Type 0} (keeper : Keeper K) (now : Running K) (s : Stage K) (line 
     answers.WasBeyond is (goes.0 ∙ told.1) refl
         (goes.1 ∙ ap (λ (n : Running K). answers.next_stage s n s.number) told.0 ∙ ap (λ (n : ℕ). answers.next_stage s now n) is),
   )
-  beyond_on is (Lost keep stop) turn t told goes = ended s.number keep stop turn t (answers.WasStarved told.1 told.0) told.2 goes
+  beyond_on is (Lost keep stop) turn t told goes = ended s.number keep stop turn t (answers.WasStarved told.1 told.0) (λ low. (told.1, told.0)) told.2 goes
 
 -- what a line gives does not depend on which node stood in the stage
 pub with_running : {K : Type 0} (keeper : Keeper K) (now : Running K) (s : Stage K) (q : Option (Running K)) (line : List ℕ) (turn : Turn) (out : List ℕ) (t : Stage K) → BehindTurn keeper now s line turn out t
@@ -164,7 +165,7 @@ pub with_running : {K : Type 0} (keeper : Keeper K) (now : Running K) (s : Stage
 with_running keeper now s q line turn out t (answers.WasKnown is taken written left) = answers.WasKnown is taken written left
 with_running keeper now s q line turn out t (answers.WasBeyond is refused written left) = answers.WasBeyond is refused written left
 with_running keeper now s q line turn out t (answers.GoesOn new few next is left) = answers.GoesOn new few next is left
-with_running keeper now s q line turn out t (answers.Ends stop keep loses stored number ended written left) = answers.Ends stop keep loses stored number ended written left
+with_running keeper now s q line turn out t (answers.Ends stop keep loses known stored number ended written left) = answers.Ends stop keep loses known stored number ended written left
 
 -- what is said where a text was written whole
 pub of_ok : {P : Type 0} (written : Result (Unit {0}) AllocError) → IsOk written → OnOk written P → P

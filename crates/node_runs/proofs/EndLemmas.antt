@@ -44,7 +44,7 @@ module _ {K : Type 0} (keeper : Keeper K) (source : Source K) where
   behind_goes_on now s line turn out next (answers.WasKnown is taken written left) on = ap (λ (t : Stage K). t.stop) left
   behind_goes_on now s line turn out next (answers.WasBeyond is refused written left) on = ap (λ (t : Stage K). t.stop) left
   behind_goes_on now s line turn out next (answers.GoesOn new few after is left) on = ap (λ (t : Stage K). t.stop) left
-  behind_goes_on now s line turn out next (answers.Ends stop keep loses stored number ended written left) on = absurd (on ended)
+  behind_goes_on now s line turn out next (answers.Ends stop keep loses known stored number ended written left) on = absurd (on ended)
 
   goes_on : (now : Option (Running K)) (s : Stage K) (line : List ℕ) (turn : Turn) (out : List ℕ) (next : Stage K) →
       NodeTurn keeper source now s line turn out next → (turn ≡ Ended → ⊥) → next.stop ≡ s.stop

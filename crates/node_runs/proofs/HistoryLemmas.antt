@@ -250,7 +250,7 @@ module _ {K : Type 0} (keeper : Keeper K) (source : Source K) (wanted : Option (
         known = one_more all line out is.did s now next some few (IsRead new turn is.answers) is.party (settled_by keeper (Some (suc s.number)) is.did now.node.keep next.node.keep is.commits h.was.settled) is.commits h;
         first = λ e. absurd (cc e);
       })
-  behind_setup all now s line turn out t some on (answers.Ends stop keep loses stored number ended written left) whole h = absurd (on ended)
+  behind_setup all now s line turn out t some on (answers.Ends stop keep loses known stored number ended written left) whole h = absurd (on ended)
 
   -- the setup, which is the first line
   opened_so : (all : List (List ℕ)) (line : List ℕ) (s : Stage K) (o : OpensNode keeper source s.wanted line) → 0 < length line → some_lines all ≡ [] → IsTold all s

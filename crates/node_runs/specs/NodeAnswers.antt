@@ -55,7 +55,7 @@ abbrev pub lost_stage : {K : Type 0} → Stage K → K → NodeStop → ℕ → 
 lost_stage s keep stop number = record { wanted = s.wanted; opened = s.opened; running = None; spare = Some keep; stop = Some stop; number = number; known = s.known }
 
 -- What becomes of the line of the next number. One that had taken hold before the run is not read, and neither is one
--- behind the last number that there is.
+-- behind the last number that there is. So where the node ends at such a line, nothing was carried out.
 pub data BehindTurn {K : Type 0} (keeper : Keeper K) (now : Running K) (s : Stage K) (line : List ℕ) (turn : Turn) (out : List ℕ) (t : Stage K) : Type 0 where
   WasKnown : suc s.number ≤ s.known → turn ≡ Taken → out ≡ known_line (suc s.number) → t ≡ next_stage s now (suc s.number)
       → BehindTurn keeper now s line turn out t
@@ -63,7 +63,8 @@ pub data BehindTurn {K : Type 0} (keeper : Keeper K) (now : Running K) (s : Stag
       → BehindTurn keeper now s line turn out t
   GoesOn : suc s.known ≤ suc s.number → suc s.number ≤ max_whole → (next : Running K) → LineTurn keeper now (suc s.number) line turn out next
       → t ≡ next_stage s next (suc s.number) → BehindTurn keeper now s line turn out t
-  Ends : (stop : NodeStop) (keep : K) → LosesLine keeper now (suc s.number) line stop keep → IsStored keeper now.node → (number : ℕ)
+  Ends : (stop : NodeStop) (keep : K) → LosesLine keeper now (suc s.number) line stop keep → (suc s.number ≤ s.known → (stop ≡ Memory) × (keep ≡ now.node.keep))
+      → IsStored keeper now.node → (number : ℕ)
       → turn ≡ Ended → out ≡ [] → t ≡ lost_stage s keep stop number → BehindTurn keeper now s line turn out t
 
 -- ---- any line

@@ -79,8 +79,8 @@ module _ {K : Type 0} (keeper : Keeper K) (source : Source K) where
   behind-cut now s t line turn out (answers.WasKnown is taken written left) = answers.WasKnown is taken written left
   behind-cut now s t line turn out (answers.WasBeyond is refused written left) = answers.WasBeyond is refused written left
   behind-cut now s t line turn out (answers.GoesOn new few next is left) = answers.GoesOn new few next (line-turn-cut now next (suc s.number) line turn out is) left
-  behind-cut now s t line turn out (answers.Ends stop keep loses stored number ended written left) =
-      answers.Ends stop keep (loses-cut now (suc s.number) line stop keep loses) stored number ended written left
+  behind-cut now s t line turn out (answers.Ends stop keep loses known stored number ended written left) =
+      answers.Ends stop keep (loses-cut now (suc s.number) line stop keep loses) known stored number ended written left
 
   turn-cut : (now : Option (Running K)) (s t : Stage K) (line : List ℕ) (turn : Turn) (out : List ℕ)
       → NodeTurn keeper source now s (take KEPT_BYTES line) turn out t → NodeTurn keeper source now s line turn out t

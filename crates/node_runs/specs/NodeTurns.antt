@@ -12,7 +12,7 @@ use Rattle.line_runs.specs.declared.run.Turn.TheVariants.{Taken, Ended}
 use Rattle.node_store.specs.declared.fault.StoreFault.{StoreFault}
 use Rattle.node_keepers.specs.Opening.{Source}
 use Rattle.stored_nodes.specs.Keepers.{IsSettled, Keeper, KeepsOn}
-use Rattle.stored_nodes.specs.Stored.{IsKeptFor, IsNotBad, IsReopenFault, Reopens, Stored}
+use Rattle.stored_nodes.specs.Stored.{IsKeptFor, IsNotBad, IsReopenFault, IsStored, Reopens, Stored}
 use Rattle.stored_nodes.specs.declared.fault.ReopenFault.{ReopenFault}
 use Rattle.stored_laws.specs.Nodes.{last_serial, restarted}
 use Rattle.world_steps.specs.World.{NodeState}
@@ -58,11 +58,13 @@ pub record IsMember (setup : List Node) (wanted : Option (List ℕ)) (member : N
   pub within : Contains setup member
   pub same : key (party_of member) ≡ key party
 
--- what is known of a node that was made of what a keeper keeps, from which a stop leaves just that
+-- what is known of a node that was made of what a keeper keeps, from which a stop leaves just that: it is stored there, so
+-- it can start again
 pub record Starts {K : Type 0} (keeper : Keeper K) (setup : List Node) (member : Node) (rows line : ℕ) (node : Stored K) : Type 0 where
   pub fresh : K
   pub settled : IsSettled keeper fresh
   pub reopens : Reopens keeper setup member fresh rows line node
+  pub stored : IsStored keeper node
   pub again : keeper.is_honest node.keep → (s : NodeState) → IsKeptFor setup member (keeper.content fresh) s → node.state ≡ restarted s
 
 -- the same, of a keeper that is made of what was found for the node at the first place

@@ -164,6 +164,7 @@ fn begin_over<K: Keep>(
     match StoredNode::reopen(alloc, seed, nodes, member, keep) {
         Ok(reopened) => {
             let Reopened { node, rows, line } = reopened;
+            node.is_stored();
             let party = *member.party();
             Ok(Begun {
                 running: Running { party, node },

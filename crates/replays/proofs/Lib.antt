@@ -39,6 +39,7 @@ pub mod OutputTexts
 pub mod InputLines
 pub mod PacketLines
 pub mod OutputLines
+pub mod OutputGives
 pub mod OutputStores
 pub mod OutputStories
 pub mod OutputEnds

@@ -1,5 +1,5 @@
 -- However a run ended, what it wrote is what a run prints over what its keeper had.
-use Rattle.std.proofs.Common.{◌≡◌, ◌≢◌, ◌<◌, ◌≤◌, ℕ, zero, suc, List, [], ◌∷◌, ◌++◌, true, Option, None, Some, IfSome, length, take, drop, inl, inr, refl, sym, ap, subst, ◌∙◌, append-nil, append_assoc, take-append-drop, zero-lt-suc, suc-le-suc, arith}
+use Rattle.std.proofs.Common.{◌≡◌, ◌≢◌, ◌<◌, ◌≤◌, ℕ, zero, suc, List, [], ◌∷◌, ◌++◌, true, Option, None, Some, IfSome, length, take, drop, inl, inr, refl, sym, ap, subst, ◌+◌, ◌∙◌, append-nil, append_assoc, take-append-drop, zero-lt-suc, suc-le-suc, arith}
 use Rattle.std.proofs.lemmas.List.Elements.{All-cons, All-nil}
 use Rattle.json_text.specs.Fault.{Fails as FailsToRead}
 use Rattle.json_text.specs.declared.fault.JsonFault.{JsonFault}
@@ -12,7 +12,7 @@ use Rattle.node_keepers.specs.Opening.{Source}
 use Rattle.node_rows.specs.Holds.{HoldsRows}
 use Rattle.node_rows.specs.Laws.{ChangesAreHeld}
 use Rattle.node_runs.specs.DoneLines.{malformed_line}
-use Rattle.node_runs.specs.NodeAnswers.{BehindTurn, NodeEnd, NodeEndGives, NodeTurn}
+use Rattle.node_runs.specs.NodeAnswers.{BehindTurn, NodeEnd, NodeEndGives, NodeLineGives, NodeTurn}
 use Rattle.node_runs.specs.NodeHistories.{IsLeftBy as Leaves}
 use Rattle.node_runs.specs.NodeTurns as turns
 use Rattle.node_runs.specs.NodeTurns.{IsUnbegun, OpensNode, Running as Node, SetupTurn, Stage, ended_stage, keep_in, opened_stage, opening, starved_stage}
@@ -27,13 +27,14 @@ use Rattle.stored_nodes.specs.Keepers.{IsSettled, Keeper, KeepsOn}
 use Rattle.replays.proofs.Going.{on_from}
 use Rattle.replays.proofs.InputLines.{ArePlain, plain_parts}
 use Rattle.replays.proofs.Lists.{last_one, some_is_none}
+use Rattle.replays.proofs.OutputGives.{Gives, gives_so}
 use Rattle.replays.proofs.OutputStores.{Goes, Loss, Step, answered, has_rows, left_is, loses_earlier, lost, of_node, one_turn, seen, settled_on, stays}
 use Rattle.replays.proofs.OutputStories.{Before, Runs, So, Story, begins_so, echo_is, first_node, first_seen, first_story, held_first, opens_so, same_line, same_number, so_far, told_line}
 use Rattle.replays.proofs.OutputTexts.{IsEnded, malformed_ended, opened_ended}
 use Rattle.replays.specs.Happenings.{Happening, Opened, OpenedRun}
 use Rattle.replays.specs.LineTurns.{Held, IsLine, echo_of}
 use Rattle.replays.specs.Openings.{opened_by}
-use Rattle.replays.specs.Outputs.{Gives, HadContent, Has, MayLeave}
+use Rattle.replays.specs.Outputs.{HadContent, Has, MayLeave}
 use Rattle.replays.specs.Printed as printed
 use Rattle.replays.specs.Printed.{Prints}
 
@@ -312,16 +313,16 @@ module _ {K : Type 0} (keeper : Keeper K) (source : Source K) (party : List ℕ)
     there_fed : (before later : List (List ℕ)) (line : List ℕ) → 0 < length line → ArePlain (before ++ line ∷ later) → IsLine line
     there_fed before later line some plain = record { some = some; plain = (plain_parts before (line ∷ later) plain).1.0 }
 
-    pub went : {all : List (List ℕ)} {ran : Ran} {out : List ℕ} {s : Stage K} → ArePlain all → IsNumberedRun (Gives keeper source) NodeEndGives true (opening wanted places) all ran out s
+    pub went : {all : List (List ℕ)} {ran : Ran} {out : List ℕ} {s : Stage K} → ArePlain all → IsNumberedRun (NodeLineGives keeper source) NodeEndGives true (opening wanted places) all ran out s
         → (kept : Option K) → keep_in s.running s.spare ≡ kept → IfSome kept keeper.is_honest → Shown out kept
     went plain (numbered.numbered_end {s = s} {last = last} {out = out} {more = more} before end) kept kept_is honest =
         at_end s out more [] more last kept (sym (append-nil more)) (so_far keeper source wanted places changes start plain before) end kept_is honest
     went plain (numbered.numbered_stop {s = s} {t = t} {line = line} {before = before} {out = out} {more = more} earlier some g later) kept kept_is honest =
         subst (λ l. Shown (out ++ (l ++ more)) kept) (sym (echo_is line some))
-        (next_line s t out _ line more [] _ more kept (there_fed before later line some plain) (sym (append-nil more))
-        (so_far keeper source wanted places changes start (plain_parts before (line ∷ later) plain).0 earlier) g kept_is honest)
+        (next_line s t out (length before + 1) line more [] _ more kept (there_fed before later line some plain) (sym (append-nil more))
+        (so_far keeper source wanted places changes start (plain_parts before (line ∷ later) plain).0 earlier) (gives_so keeper source s t line _ more (length before + 1) g) kept_is honest)
 
-    pub stopped : {all : List (List ℕ)} {out : List ℕ} {s : Stage K} → ArePlain all → IsNumberedBegun (Gives keeper source) NodeEndGives true (opening wanted places) all out s
+    pub stopped : {all : List (List ℕ)} {out : List ℕ} {s : Stage K} → ArePlain all → IsNumberedBegun (NodeLineGives keeper source) NodeEndGives true (opening wanted places) all out s
         → (kept : Option K) → keep_in s.running s.spare ≡ kept → IfSome kept keeper.is_honest → Shown out kept
     stopped plain (numbered.begun_between {s = s} {before = before} {out = out} earlier later) kept kept_is honest =
         between s out kept (so_far keeper source wanted places changes start (plain_parts before later plain).0 earlier) kept_is honest
@@ -333,7 +334,7 @@ module _ {K : Type 0} (keeper : Keeper K) (source : Source K) (party : List ℕ)
         (so_far keeper source wanted places changes start (plain_parts before ((c ∷ line) ∷ later) plain).0 earlier) kept_is honest
     stopped plain (numbered.begun_answer {s = s} {t = t} {line = line} {before = before} {turn = turn} {out = out} {more = more} earlier some g later n) kept kept_is honest =
         subst (λ l. Shown (out ++ (l ++ take n more)) kept) (sym (echo_is line some))
-        (next_line s t out _ line (take n more) (drop n more) turn more kept (there_fed before later line some plain) (sym (take-append-drop n more))
-        (so_far keeper source wanted places changes start (plain_parts before (line ∷ later) plain).0 earlier) g kept_is honest)
+        (next_line s t out (length before + 1) line (take n more) (drop n more) turn more kept (there_fed before later line some plain) (sym (take-append-drop n more))
+        (so_far keeper source wanted places changes start (plain_parts before (line ∷ later) plain).0 earlier) (gives_so keeper source s t line _ more (length before + 1) g) kept_is honest)
     stopped plain (numbered.begun_end {s = s} {last = last} {out = out} {more = more} before end n) kept kept_is honest =
         at_end s out (take n more) (drop n more) more last kept (sym (take-append-drop n more)) (so_far keeper source wanted places changes start plain before) end kept_is honest

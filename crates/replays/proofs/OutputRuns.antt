@@ -28,7 +28,7 @@ use Rattle.replays.proofs.OutputLines.{prints_plain}
 use Rattle.replays.specs.Cutting.{AtOnce as Feed, NoMore, OneMore}
 use Rattle.replays.specs.Happenings.{Happening}
 use Rattle.replays.specs.LineTurns.{Held, IsLine, Store, held_in}
-use Rattle.replays.specs.Outputs.{ArePrintedRuns, AreRuns, Both, Ended, Gives, HadContent, Has, IsOfContract, IsRun, MayLeave, Nothing, OneFeed, OutputsArePrinted, PrintsAll, RunsArePrinted, Wrote, no_run, one_run}
+use Rattle.replays.specs.Outputs.{ArePrintedRuns, AreRuns, Both, Ended, HadContent, Has, IsOfContract, IsRun, MayLeave, Nothing, OneFeed, OutputsArePrinted, PrintsAll, RunsArePrinted, Wrote, no_run, one_run}
 use Rattle.replays.specs.Printed as printed
 use Rattle.replays.specs.Printed.{ArePrinted, Prints}
 
@@ -36,7 +36,7 @@ use Rattle.replays.specs.Printed.{ArePrinted, Prints}
 
 module _ {K : Type 0} (keeper : Keeper K) (source : Source K) where
   abbrev Written : List ℕ → List ℕ → Option (List ℕ) → Option K → Type 0
-  Written wanted before new kept = (text : List ℕ) × ((new ≡ Some (before ++ text)) × Wrote keeper (NodeLineGives keeper source) wanted text kept)
+  Written wanted before new kept = (text : List ℕ) × ((new ≡ Some (before ++ text)) × Wrote keeper source wanted text kept)
 
   -- behind what was begun with
   behind : (before b out : List ℕ) (new : Option (List ℕ)) → b ≡ before ++ (10 ∷ 10 ∷ []) → new ≡ Some (b ++ out) → new ≡ Some (before ++ (10 ∷ 10 ∷ out))
@@ -44,8 +44,8 @@ module _ {K : Type 0} (keeper : Keeper K) (source : Source K) where
 
   module _ (wanted places word input before : List ℕ) (new : Option (List ℕ)) (kept : Option K) (asked : (party : List ℕ) → asked_for word ≡ Some party → party ≡ wanted)
       (honest : IfSome kept keeper.is_honest) where
-    wrote : (text : List ℕ) (last : Stage K) → keep_in last.running last.spare ≡ kept → Ended (NodeLineGives keeper source) (opening (asked_for word) places) (lines input) text last
-        → Wrote keeper (NodeLineGives keeper source) wanted text kept
+    wrote : (text : List ℕ) (last : Stage K) → keep_in last.running last.spare ≡ kept → Ended keeper source (opening (asked_for word) places) (lines input) text last
+        → Wrote keeper source wanted text kept
     wrote text last left ended = record { word = word; asked = asked; places = places; input = input; last = last; ended = ended; left = left; honest = honest }
 
     ended_so : (ran : Ran) (stop : Option NodeStop) → NodeOutputs keeper source places word true (Some input) ran stop (Some before) new kept → Written wanted before new kept
@@ -127,10 +127,10 @@ module _ (changes : ChangesAreHeld) (start : NodesCanStartAgain) {K : Type 0} (k
           let no_text : Prints wanted held (take n []) [] held = subst (λ l. Prints wanted held l [] held) (sym (take_none n)) (silent wanted held) in
           Both no_text (prints_plain no_text)
 
-  is_printed : (wanted text : List ℕ) (kept : Option K) → Wrote keeper (Gives keeper source) wanted text kept → Answer wanted text kept
+  is_printed : (wanted text : List ℕ) (kept : Option K) → Wrote keeper source wanted text kept → Answer wanted text kept
   is_printed wanted text kept w = of text w.last w.ended w.left
     where
-      of : (text : List ℕ) (last : Stage K) → Ended (Gives keeper source) (opening (asked_for w.word) w.places) (lines w.input) text last → keep_in last.running last.spare ≡ kept → Answer wanted text kept
+      of : (text : List ℕ) (last : Stage K) → Ended keeper source (opening (asked_for w.word) w.places) (lines w.input) text last → keep_in last.running last.spare ≡ kept → Answer wanted text kept
       of text last (Ended.Went {out = out} run) left =
           whole wanted out kept (went keeper source wanted (asked_for w.word) w.places w.asked changes start (lines_are_plain w.input) run kept left w.honest)
       of text last (Ended.Stopped {out = out} run) left =

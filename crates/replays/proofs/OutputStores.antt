@@ -225,7 +225,7 @@ module _ (changes : ChangesAreHeld) (start : NodesCanStartAgain) {K : Type 0} (k
       (passed_on s now last max_whole line out (WasBeyond (omega (arith, most, at)) at written refl refl same)))
   one_turn s t now last line turn out most (answers.GoesOn new few next is left) =
       inl (subst (λ (u : Stage K). Step s u now last line out) (sym left) (read_on s now next last line out turn (omega (arith, new)) few is))
-  one_turn s t now last line turn out most (answers.Ends stop keep loses stored number ended written left) =
+  one_turn s t now last line turn out most (answers.Ends stop keep loses known stored number ended written left) =
       inr (record { stop = stop; keep = keep; number = number; loses = loses; ended = ended; none = written; is = left })
 
   -- ---- a stop at a line

@@ -1,5 +1,5 @@
 -- The lines of a run, from its first: which node was opened, and what a transcript tells of it so far.
-use Rattle.std.proofs.Common.{◌≡◌, ◌<◌, ◌≤◌, ℕ, List, [], ◌∷◌, ◌++◌, true, Option, None, Some, length, inl, inr, refl, sym, ap, ap₂, subst, ◌∙◌, append-nil, append_assoc, arith}
+use Rattle.std.proofs.Common.{◌≡◌, ◌<◌, ◌≤◌, ℕ, List, [], ◌∷◌, ◌++◌, true, Option, None, Some, length, inl, inr, refl, sym, ap, ap₂, ◌+◌, subst, ◌∙◌, append-nil, append_assoc, arith}
 use Rattle.line_runs.specs.Numbered as numbered
 use Rattle.line_runs.specs.Numbered.{AreNumbered}
 use Rattle.line_runs.specs.declared.outcome.Ran.{Ran}
@@ -9,7 +9,7 @@ use Rattle.node_core.specs.Members.{IsMadeOfRows}
 use Rattle.node_keepers.specs.Opening.{Source}
 use Rattle.node_rows.specs.Laws.{ChangesAreHeld}
 use Rattle.node_runs.specs.DoneLines.{opened_line}
-use Rattle.node_runs.specs.NodeAnswers.{NodeTurn}
+use Rattle.node_runs.specs.NodeAnswers.{NodeLineGives, NodeTurn}
 use Rattle.node_runs.specs.NodeTurns as turns
 use Rattle.node_runs.specs.NodeTurns.{IsMember, OpensNode, Running as Node, SetupTurn, Stage, number_from, opened_stage, opening}
 use Rattle.node_runs.specs.declared.fault.NodeStop.{NodeStop}
@@ -24,11 +24,12 @@ use Rattle.stored_laws.specs.Nodes.{AreNodeRows, CanStartAgain, NodesCanStartAga
 use Rattle.stored_nodes.specs.Keepers.{IsSettled, Keeper}
 use Rattle.world_steps.specs.World.{NodeState, Operates, Provides}
 use Rattle.replays.proofs.InputLines.{ArePlain, plain_parts}
+use Rattle.replays.proofs.OutputGives.{Gives, gives_so}
 use Rattle.replays.proofs.OutputStores.{IsHeld, Step, one_turn, seen, settled_on}
 use Rattle.replays.specs.Happenings.{Happening, Opened, came_by}
 use Rattle.replays.specs.LineTurns.{Held, IsLine, Lists, Running, echo_of}
 use Rattle.replays.specs.Openings.{Opens, begun, opened_by, opening_of}
-use Rattle.replays.specs.Outputs.{Gives, Has}
+use Rattle.replays.specs.Outputs.{Has}
 use Rattle.replays.specs.Printed.{GoesOn, Prints}
 use Rattle.replays.specs.Printed as printed
 use Rattle.replays.specs.Walks.{Walks, no_line, one_line}
@@ -200,12 +201,12 @@ module _ {K : Type 0} (keeper : Keeper K) (source : Source K) (wanted : Option (
     line_fed : (before : List (List ℕ)) (line : List ℕ) → 0 < length line → ArePlain (before ++ line ∷ []) → IsLine line
     line_fed before line some plain = record { some = some; plain = (plain_parts before (line ∷ []) plain).1.0 }
 
-    pub so_far : {all : List (List ℕ)} {ran : Ran} {out : List ℕ} {s : Stage K} → ArePlain all → AreNumbered (Gives keeper source) true (opening wanted places) all ran out s → So s out
+    pub so_far : {all : List (List ℕ)} {ran : Ran} {out : List ℕ} {s : Stage K} → ArePlain all → AreNumbered (NodeLineGives keeper source) true (opening wanted places) all ran out s → So s out
     so_far plain numbered.none_numbered = Before refl refl
     so_far plain (numbered.empty_line {before = before} earlier) = so_far (plain_parts before ([] ∷ []) plain).0 earlier
     so_far plain (numbered.taken_line {s = s} {t = t} {line = line} {before = before} {out = out} {more = more} earlier some g) =
         subst (λ l. So t (out ++ (l ++ more))) (sym (echo_is line some))
-        (one_more s t _ line Taken out more (line_fed before line some plain) (λ e. absurd (cc e)) g (so_far (plain_parts before (line ∷ []) plain).0 earlier))
+        (one_more s t (length before + 1) line Taken out more (line_fed before line some plain) (λ e. absurd (cc e)) (gives_so keeper source s t line _ more (length before + 1) g) (so_far (plain_parts before (line ∷ []) plain).0 earlier))
     so_far plain (numbered.refused_line {s = s} {t = t} {line = line} {before = before} {out = out} {more = more} earlier some g) =
         subst (λ l. So t (out ++ (l ++ more))) (sym (echo_is line some))
-        (one_more s t _ line Refused out more (line_fed before line some plain) (λ e. absurd (cc e)) g (so_far (plain_parts before (line ∷ []) plain).0 earlier))
+        (one_more s t (length before + 1) line Refused out more (line_fed before line some plain) (λ e. absurd (cc e)) (gives_so keeper source s t line _ more (length before + 1) g) (so_far (plain_parts before (line ∷ []) plain).0 earlier))

@@ -1,20 +1,18 @@
 -- What runs of the program `node` with an echo print, by what its contract says of each: over what a store has, a run
 -- prints what `Printed` says, and leaves what the next is opened over.
-use Rattle.std.specs.Prelude.{◌≡◌, ◌≤◌, ℕ, suc, true, List, [], ◌∷◌, ◌++◌, Option, None, Some, IfSome, take}
+use Rattle.std.specs.Prelude.{◌≡◌, ℕ, true, List, [], ◌∷◌, ◌++◌, Option, None, Some, IfSome, take}
 use Rattle.std.specs.FinMap.{empty}
 use Rattle.std.specs.Str.Lines.{lines}
-use Rattle.line_runs.specs.Numbered.{GivesNumbered, IsNumberedBegun, IsNumberedRun}
+use Rattle.line_runs.specs.Numbered.{IsNumberedBegun, IsNumberedRun}
 use Rattle.line_runs.specs.declared.outcome.Ran.{Ran}
-use Rattle.line_runs.specs.declared.run.Turn.{Turn}
 use Rattle.node_keepers.specs.Opening.{Source}
 use Rattle.node_runs.specs.NodeAnswers.{NodeEndGives, NodeLineGives}
 use Rattle.node_runs.specs.NodeHistories.{IsLeftBy}
 use Rattle.node_runs.specs.NodeOutputs.{NodeBegins, NodeOutputs, asked_for}
-use Rattle.node_runs.specs.NodeTurns.{Running, Stage, keep_in, opening}
+use Rattle.node_runs.specs.NodeTurns.{Stage, keep_in, opening}
 use Rattle.node_runs.specs.declared.fault.NodeStop.{NodeStop}
 use Rattle.node_store.specs.Contents.{Content, line_of, rows_of}
 use Rattle.ocpi_types.specs.declared.rows.Row.{Row}
-use Rattle.stored_laws.specs.Nodes.{CanStartAgain}
 use Rattle.stored_nodes.specs.Keepers.{Keeper}
 use Rattle.replays.specs.Cutting.{HasNoEmptyLine}
 use Rattle.replays.specs.Happenings.{Happening}
@@ -37,42 +35,34 @@ pub record Has (c : Content) (held : Held) : Type 0 where
 -- How a run over these lines ended, by the text that it wrote and the stage that it left: its input ended, or a line ended
 -- it; or it was stopped, by a failure of reading or writing or from outside; or that came before its two line feeds were
 -- whole.
-pub data Ended {K : Type 0} (gives : GivesNumbered (Stage K)) (first : Stage K) (all : List (List ℕ)) : List ℕ → Stage K → Type 0 where
-  Went : {ran : Ran} {out : List ℕ} {last : Stage K} → IsNumberedRun gives NodeEndGives true first all ran out last → Ended gives first all (10 ∷ 10 ∷ out) last
-  Stopped : {out : List ℕ} {last : Stage K} → IsNumberedBegun gives NodeEndGives true first all out last → Ended gives first all (10 ∷ 10 ∷ out) last
-  AtOnce : (n : ℕ) → Ended gives first all (take n (10 ∷ 10 ∷ [])) first
+pub data Ended {K : Type 0} (keeper : Keeper K) (source : Source K) (first : Stage K) (all : List (List ℕ)) : List ℕ → Stage K → Type 0 where
+  Went : {ran : Ran} {out : List ℕ} {last : Stage K} → IsNumberedRun (NodeLineGives keeper source) NodeEndGives true first all ran out last → Ended keeper source first all (10 ∷ 10 ∷ out) last
+  Stopped : {out : List ℕ} {last : Stage K} → IsNumberedBegun (NodeLineGives keeper source) NodeEndGives true first all out last → Ended keeper source first all (10 ∷ 10 ∷ out) last
+  AtOnce : (n : ℕ) → Ended keeper source first all (take n (10 ∷ 10 ∷ [])) first
 
 -- A run for that party, or for a word that spells none, wrote that text with an echo, whatever was fed. `kept` is the
 -- keeper as the run left it, where one was opened, and that is honest.
-pub record Wrote {K : Type 0} (keeper : Keeper K) (gives : GivesNumbered (Stage K)) (wanted text : List ℕ) (kept : Option K) : Type 0 where
+pub record Wrote {K : Type 0} (keeper : Keeper K) (source : Source K) (wanted text : List ℕ) (kept : Option K) : Type 0 where
   pub word : List ℕ
   pub asked : (party : List ℕ) → asked_for word ≡ Some party → party ≡ wanted
   pub places : List ℕ
   pub input : List ℕ
   pub last : Stage K
-  pub ended : Ended gives (opening (asked_for word) places) (lines input) text last
+  pub ended : Ended keeper source (opening (asked_for word) places) (lines input) text last
   pub left : keep_in last.running last.spare ≡ kept
   pub honest : IfSome kept keeper.is_honest
 
--- What the contract of `run_node` says of what was written with an echo: it is such a run, by what the contract says of a
--- line. A run that is killed has written, and leaves, what one does that is stopped so.
+-- What the contract of `run_node` says of what was written with an echo: it is such a run. One that is killed has
+-- written, and leaves, what one does that is stopped so.
 pub record IsOfContract {K : Type 0} (keeper : Keeper K) (source : Source K) : Type 0 where
   pub went : (wanted places word input before : List ℕ) (ran : Ran) (stop : Option NodeStop) (new : Option (List ℕ)) (kept : Option K)
       → ((party : List ℕ) → asked_for word ≡ Some party → party ≡ wanted) → IfSome kept keeper.is_honest
       → NodeOutputs keeper source places word true (Some input) ran stop (Some before) new kept
-      → (text : List ℕ) × ((new ≡ Some (before ++ text)) × Wrote keeper (NodeLineGives keeper source) wanted text kept)
+      → (text : List ℕ) × ((new ≡ Some (before ++ text)) × Wrote keeper source wanted text kept)
   pub stopped : (wanted places word input before : List ℕ) (new : Option (List ℕ)) (kept : Option K)
       → ((party : List ℕ) → asked_for word ≡ Some party → party ≡ wanted) → IfSome kept keeper.is_honest
       → NodeBegins keeper source places word true (Some input) (Some before) new kept
-      → (text : List ℕ) × ((new ≡ Some (before ++ text)) × Wrote keeper (NodeLineGives keeper source) wanted text kept)
-
--- What a line gives, by the contract and by two facts more that it does not say. The node that the first line opened
--- can start again, as each can by its type. A line that had taken hold before the run leaves the keeper as it was, also
--- where memory ran out at it.
-pub record Gives {K : Type 0} (keeper : Keeper K) (source : Source K) (s : Stage K) (place : ℕ) (line : List ℕ) (turn : Turn) (out : List ℕ) (t : Stage K) : Type 0 where
-  pub gives : NodeLineGives keeper source s place line turn out t
-  pub starts : s.running ≡ None → (now : Running K) → t.running ≡ Some now → keeper.is_honest now.node.keep → CanStartAgain now.node.state
-  pub known : (now : Running K) → s.running ≡ Some now → suc s.number ≤ s.known → (k : K) → keep_in t.running t.spare ≡ Some k → k ≡ now.node.keep
+      → (text : List ℕ) × ((new ≡ Some (before ++ text)) × Wrote keeper source wanted text kept)
 
 -- ---- what it printed
 
@@ -100,7 +90,7 @@ MayLeave keeper c (Some k) next = IsLeftBy keeper k next
 -- What a run wrote is printed over what its keeper had as that was opened.
 pub record OutputsArePrinted {K : Type 0} (keeper : Keeper K) (source : Source K) : Type 0 where
   pub contract : IsOfContract keeper source
-  pub printed : (wanted text : List ℕ) (kept : Option K) → Wrote keeper (Gives keeper source) wanted text kept
+  pub printed : (wanted text : List ℕ) (kept : Option K) → Wrote keeper source wanted text kept
       → (opened : Option K) × (IfSome opened (source.found 1)
       × ((c next : Content) → HadContent keeper opened c → MayLeave keeper c kept next → IsRun wanted c text next))
 

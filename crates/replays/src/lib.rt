@@ -16,7 +16,7 @@
 //! - Some runs print all in front of the line that is named. By `read_transcript`: `line` (`BlamesNoLineBefore`).
 //! - What a node prints for an event is one value, and so is the node behind it. By law `events_give_one_value`.
 //! - Runs of the program `node` with an echo are such runs, each over what its keeper had, wherever it was stopped. By law
-//!   `outputs_are_printed` (`specs/Outputs`). Two facts about a line are asked beside its contract (`Gives`).
+//!   `outputs_are_printed` (`specs/Outputs`).
 //! - Runs over one store, one behind the other, print what such runs print. By law `runs_are_printed`.
 //! - Which refusal it is, and what is said beside it. No clause says so (tested by the examples).
 #![tactic(auto)]
