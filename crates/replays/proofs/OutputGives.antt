@@ -41,7 +41,7 @@ module _ {K : Type 0} (keeper : Keeper K) (source : Source K) (s t : Stage K) (l
   known_so now (answers.WasBeyond at refused written left) low k kept = same_Some k now.node.keep (sym kept ∙ ap (λ (u : Stage K). keep_in u.running u.spare) left)
   known_so now (answers.GoesOn new few next is left) low k kept = absurd (omega (arith, new, low))
   known_so now (answers.Ends stop keep loses known stored number ended written left) low k kept =
-      same_Some k keep (sym kept ∙ ap (λ (u : Stage K). keep_in u.running u.spare) left) ∙ known low
+      same_Some k keep (sym kept ∙ ap (λ (u : Stage K). keep_in u.running u.spare) left) ∙ (known low).1
 
   pub gives_so : (place : ℕ) → NodeLineGives keeper source s place line turn out t → Gives keeper source s place line turn out t
   gives_so place gives = record {
