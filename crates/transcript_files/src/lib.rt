@@ -19,7 +19,7 @@
 //! - Where the output did not take all of an answer, nothing more is written. By `TranscriptWriter::write`: `stopped`;
 //!   `TranscriptWriter::flush`: `stopped`.
 //! - What a run of `line_runs` writes with an echo is told apart so that the output gets what it writes without one. No
-//!   clause says so (tested by `outputs_are_those_without_an_echo`, the examples, `faults/kill_node.py`).
+//!   clause says so (tested by the examples and `faults/kill_node.py`).
 //!
 //! # How it is built
 //!

@@ -12,9 +12,6 @@ use crate::synced::SyncedWrite;
 use line_runs::write_whole;
 use std::io::{self, ErrorKind, Write};
 
-#[cfg(test)]
-mod tests;
-
 /// A writer that holds what its file holds. Its output gets the answers alone.
 #[derive(Drop)]
 pub struct TranscriptWriter<F, W> {
