@@ -10,6 +10,7 @@ use line_runs::{Ran, RunFault, flush, status_of, write_whole};
 use node_keepers::kept_in_copy;
 use node_store::{Kept, StoreFault};
 use program_messages::{BUFFER_BYTES, words_for_unread};
+use std::alloc::{AllocError, Global};
 use std::fs;
 use std::io::{self, BufWriter, ErrorKind, Write};
 use tables::HashSeed;
@@ -125,6 +126,18 @@ fn transcript_file<'b>(file: &'b ReadFile<'_>) -> TranscriptFile<'b> {
     }
 }
 
+/// The transcripts that were read. An error is want of memory.
+fn transcript_files<'b>(
+    alloc: Global,
+    read: &'b [ReadFile<'_>],
+) -> Result<Vec<TranscriptFile<'b>>, AllocError> {
+    let mut files = Vec::new(alloc);
+    for file in read {
+        files.push(transcript_file(file))?;
+    }
+    Ok(files)
+}
+
 /// Weaves what was read.
 fn weave_texts<'a>(
     rt: &HostRuntime,
@@ -132,12 +145,9 @@ fn weave_texts<'a>(
     words: &WeaveWords<'a>,
     read: &[ReadFile<'_>],
 ) -> Result<Ran, WeaveStop<'a>> {
-    let mut files = Vec::new(rt.alloc());
-    for file in read {
-        if files.push(transcript_file(file)).is_err() {
-            return refuse_memory(rt);
-        }
-    }
+    let Ok(files) = transcript_files(rt.alloc(), read) else {
+        return refuse_memory(rt);
+    };
     match BufWriter::with_capacity(rt.alloc(), BUFFER_BYTES, io::writer(rt)) {
         Ok(writer) => weave_to(rt, seed, files.as_slice(), words.given.as_slice(), writer),
         Err(_) => refuse_memory(rt),
