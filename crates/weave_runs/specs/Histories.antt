@@ -1,4 +1,5 @@
 -- Transcripts of different parties, and their histories.
+use Rattle.std.specs.Borrow.{Bor}
 use Rattle.std.specs.Prelude.{◌≡◌, ℕ, List, [], ◌∷◌, Option, None, Some, Contains, length, map, slice_get, take}
 use Rattle.ocpi_text.specs.Text.{key}
 use Rattle.histories.specs.declared.entry.Entry.{Entry}
@@ -15,9 +16,9 @@ pub record AreTold (told : List Transcript) : Type 0 where
   pub apart : (i j : ℕ) (t u : Transcript) → slice_get told i ≡ Some t → slice_get told j ≡ Some u → key (teller t) ≡ key (teller u) → i ≡ j
 
 -- what the store of a file had before it: nothing, where none is named
-abbrev pub start_of : Option StoreRows → Store
+abbrev pub start_of : Option (Bor StoreRows) → Store
 start_of None = nothing_held
-start_of (Some s) = record { rows = s.rows.now; line = s.line }
+start_of (Some s) = record { rows = s.now.rows.items; line = s.now.line }
 
 -- each file is the transcript of a node, over what its store had, of a party that no file before has
 pub record AreTranscripts (files : List TranscriptFile) (told : List Transcript) : Type 0 where

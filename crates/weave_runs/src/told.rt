@@ -13,9 +13,9 @@ use std::alloc::{AllocError, Global};
 use tables::HashSeed;
 
 /// What a store had before a file begins.
-#[derive(Clone, Copy)]
-pub struct StoreRows<'a> {
-    pub rows: &'a [Row],
+#[derive(Drop)]
+pub struct StoreRows {
+    pub rows: Vec<Row>,
     /// The number of the last line that had taken hold, 1 where none had.
     pub line: Whole,
 }
@@ -28,7 +28,7 @@ pub struct TranscriptFile<'a> {
     /// All of its bytes.
     pub text: &'a [u8],
     /// What the store had before it, where that is told.
-    pub store: Option<StoreRows<'a>>,
+    pub store: Option<&'a StoreRows>,
 }
 
 /// Which file is no transcript, and why.
@@ -55,8 +55,8 @@ impl<'a> FileFault<'a> {
 fn start_of(alloc: Global, file: &TranscriptFile<'_>) -> Result<Start, AllocError>
     ensures { IfOk result (λ start. start.held ≡ start_of file.now.store) }
 {
-    match &file.store {
-        Some(store) => Start::of(alloc, store.rows, store.line),
+    match file.store {
+        Some(store) => Start::of(alloc, store.rows.as_slice(), store.line),
         None => Ok(Start::new(alloc)),
     }
 }

@@ -50,7 +50,7 @@ impl<'a> From<WeaveRunFault<'a>> for WeaveStop<'a> {
 struct ReadFile<'a> {
     name: &'a str,
     text: Vec<u8>,
-    store: Option<Kept>,
+    store: Option<StoreRows>,
 }
 
 /// Why a file was not read.
@@ -88,11 +88,17 @@ pub fn weave_files<'a>(
     weave_texts(rt, seed, words, files.as_slice())
 }
 
+/// What is kept, as a file's store.
+fn rows_of(kept: Kept) -> StoreRows {
+    let Kept { rows, line } = kept;
+    StoreRows { rows, line }
+}
+
 /// What a store keeps, where one is named, and all that a file has.
 fn read_file<'a>(rt: &HostRuntime, named: FileWords<'a>) -> Result<ReadFile<'a>, Unread> {
     let store = match named.store {
         Some(path) => match kept_in_copy(rt, path) {
-            Ok(kept) => Some(kept),
+            Ok(kept) => Some(rows_of(kept)),
             Err(fault) => return Err(Unread::Store(fault)),
         },
         None => None,
@@ -112,17 +118,10 @@ fn read_file<'a>(rt: &HostRuntime, named: FileWords<'a>) -> Result<ReadFile<'a>,
 
 /// A transcript that was read.
 fn transcript_file<'b>(file: &'b ReadFile<'_>) -> TranscriptFile<'b> {
-    let store = match &file.store {
-        Some(kept) => Some(StoreRows {
-            rows: kept.rows.as_slice(),
-            line: kept.line,
-        }),
-        None => None,
-    };
     TranscriptFile {
         name: file.name,
         text: file.text.as_slice(),
-        store,
+        store: file.store.as_ref(),
     }
 }
 
