@@ -21,7 +21,7 @@ use Rattle.world_steps.specs.Steps.{WorldRun}
 use Rattle.world_steps.specs.World.{NodeState, Place, World, opened, opening_of, place_of}
 use Rattle.world_steps.proofs.Places.{of_mapped}
 use Rattle.history_laws.specs.Laws as laws
-use Rattle.history_laws.specs.Laws.{AreReplayed, HasNoHistory, IsReplayed, IsRunOf, StandsAs}
+use Rattle.history_laws.specs.Laws.{AreReplayed, HasNoHistory, IsRunOf, StandsAs}
 use Rattle.history_laws.specs.Replays.{Replays}
 use Rattle.history_laws.proofs.Replaying.{opens_as, replays_are_numbered}
 use Rattle.history_laws.proofs.Standing.{Standing, Stands, next}

@@ -1,12 +1,11 @@
 -- What comes of an event at a node over its keeper is a step of the event's entry.
 use Rattle.std.proofs.Common.{◌≡◌, ◌∙◌, sym, subst, None, Result, Ok, Err, IfOk, OnOk}
 use Rattle.ocpi_types.specs.declared.node_events.NodeEventKind.{NodeEventKind}
-use Rattle.ocpi_types.specs.declared.rows.Change.{Change}
 use Rattle.node_core.specs.Works.{IsWork, changes_by, node_after, packets_by}
 use Rattle.node_core.specs.declared.input.NodeInput.{NodeInput}
 use Rattle.node_core.specs.declared.work.NodeWork.{NodeWork}
 use Rattle.node_core.proofs.Doing.{does}
-use Rattle.world_steps.specs.Steps.{NodeStep, changes_of, input_of}
+use Rattle.world_steps.specs.Steps.{NodeStep, input_of}
 use Rattle.node_inputs.specs.Inputs.{SaysTheSame}
 use Rattle.stored_nodes.specs.Keepers.{Commits, Keeper}
 use Rattle.stored_nodes.specs.Stored.{Stored}

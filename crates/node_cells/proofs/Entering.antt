@@ -3,13 +3,12 @@ use Rattle.std.proofs.Common.{◌≡◌, ◌⊎◌, ◌∙◌, ◌+◌, ◌≤�
 use Rattle.std.specs.Prelude.{Bool, None, suc, true}
 use Rattle.ocpi_types.specs.declared.node_events.NodeEventKind.{NodeEventKind}
 use Rattle.ocpi_types.specs.declared.packet.Packet.{Packet}
-use Rattle.node_laws.specs.Runs.{Run}
 use Rattle.node_laws.proofs.Runs.{run_join}
 use Rattle.node_store.specs.Contents.{Content}
 use Rattle.node_rows.specs.Holds.{HoldsRows}
 use Rattle.node_rows.specs.Laws.{ChangesAreHeld}
 use Rattle.stored_laws.specs.Nodes.{CanStartAgain, NodesCanStartAgain}
-use Rattle.world_steps.specs.Steps.{NodeEvent, NodeStep, changes_of}
+use Rattle.world_steps.specs.Steps.{NodeEvent, NodeStep}
 use Rattle.world_steps.specs.World.{NodeState}
 use Rattle.stored_nodes.specs.Keepers.{IsSettled, Keeper, KeepsOn, Nothing, Taken}
 use Rattle.stored_nodes.specs.Stored.{Fails, IsStored, Loses, Stored}

@@ -11,7 +11,7 @@ use Rattle.ocpi_types.specs.declared.setup.Node.{Node}
 use Rattle.ocpi_types.specs.declared.setup.Node.TheVariants as node
 use Rattle.operator_rows.specs.Steps as operator_steps
 use Rattle.provider_rows.specs.Steps as provider_steps
-use Rattle.world_steps.specs.Steps.{AtOperator, AtProvider, NodeEvent, NodeStep}
+use Rattle.world_steps.specs.Steps.{NodeEvent, NodeStep}
 use Rattle.world_steps.specs.Steps as steps
 use Rattle.world_steps.specs.World.{NodeState, Operates, Provides, opening_of}
 use Rattle.line_runs.specs.Numbered.{AreNumbered, empty_line, none_numbered, refused_line, taken_line}

@@ -3,20 +3,18 @@ use Rattle.std.proofs.Common.{◌≡◌, ◌≢◌, ◌⊎◌, inl, inr, ℕ, �
 use Rattle.std.specs.Prelude.{flat_map}
 use Rattle.std.specs.FinMap.{entries, find, get, get-entries, get-insert}
 use Rattle.std.specs.Ordering.{eq_by_cmp}
-use Rattle.std.specs.Cmp.{eq_by_cmp_equiv}
 use Rattle.std.proofs.lemmas.List.{append-nil, take_more}
 use Rattle.std.proofs.lemmas.Grind.{flat_map-append}
 use Rattle.std.proofs.lemmas.List.Elements.{All-head, All-tail, Contains-get_or}
 use Rattle.tables.specs.Keys.{text_pair_cmp, text_pair_total, text_pair_exact}
 use Rattle.tables.proofs.Entries.{listed_only}
-use Rattle.tables.proofs.Maps.{equal_of_is_eq}
 use Rattle.json_text.specs.Fault.{Read}
 use Rattle.ocpi_types.specs.Rows.{key_of}
 use Rattle.ocpi_types.specs.declared.rows.Row.{Row}
 use Rattle.ocpi_json.specs.RowForms.{row_in, row_in_1, row_text}
 use Rattle.row_table.specs.Contents.{at_version}
 use Rattle.row_table.specs.Contents as table
-use Rattle.row_table.specs.Effects.{Edit, set, set_all}
+use Rattle.row_table.specs.Effects.{Edit, set_all}
 use Rattle.node_store.specs.Contents.{AnswersRow, Content, RowPlace, after_row, is_row, line_place, place_of}
 use Rattle.node_store.specs.Moved.{HasBadText, IsMoved, IsMovedTo, MovesTo, is_cdr, moved_text}
 use Rattle.node_store.specs.Moving.{Entry, HasBadEntry, IsBadEntry, IsMovable, MayMove, edits_of_read, text_edits}

@@ -7,7 +7,6 @@ use Rattle.history_laws.specs.Replays.{Brings, Does, EntryStep, Idle}
 use Rattle.json_text.specs.Fault.{Fails as FailsToRead, Read}
 use Rattle.json_text.specs.declared.fault.JsonFault.{JsonFault}
 use Rattle.json_text.specs.declared.fault.JsonFault.TheVariants as json
-use Rattle.line_runs.specs.declared.run.Turn.{Turn}
 use Rattle.line_runs.specs.declared.run.Turn.TheVariants.{Refused, Taken}
 use Rattle.node_replay.specs.Replayed.{Adds, ChangesRows, Fails, Leads, Passes, Refuses}
 use Rattle.node_replay.specs.declared.outcome.Replayed.{Replayed}
@@ -16,7 +15,7 @@ use Rattle.node_replay.specs.declared.outcome.ReplayFault.{ReplayFault}
 use Rattle.node_replay.specs.declared.outcome.ReplayFault.TheVariants as fault
 use Rattle.node_runs.specs.DoneLines.{idle_line, malformed_line, refused_line, skipped_line}
 use Rattle.node_runs.specs.LineAnswers as answer
-use Rattle.node_runs.specs.LineAnswers.{AreDone, IsOwn, PlacedTurn, step_line}
+use Rattle.node_runs.specs.LineAnswers.{IsOwn, PlacedTurn, step_line}
 use Rattle.node_steps.specs.declared.fault.NodeFault.{NodeFault}
 use Rattle.ocpi_text.specs.Text.{key}
 use Rattle.ocpi_types.specs.declared.node_events.NodeEvent.{NodeEvent}
@@ -28,7 +27,6 @@ use Rattle.program_lines.specs.Writing.{packet_lines}
 use Rattle.stored_nodes.specs.Transactions.{changes_of_each}
 use Rattle.world_steps.specs.Network.{Input}
 use Rattle.world_steps.specs.Steps.{NodeEvent as Deed, changes_of, packets_of}
-use Rattle.world_steps.specs.World.{NodeState}
 use Rattle.replays.proofs.Told.{no_openings, sources_join}
 use Rattle.replays.specs.Answering.{Enters, EventDone, EventsDone, IsReplayTold, IsSameRun, turn_of}
 use Rattle.replays.specs.Happenings.{Came, Happening, IsTextAt, Placed, came_by, entries_behind, entries_of_done, entries_of_turn, openings_in}
@@ -37,7 +35,6 @@ use Rattle.replays.specs.Telling.{AreSourcesOf}
 use Rattle.replays.specs.declared.answering.Happened.{Happened}
 use Rattle.replays.specs.declared.answering.Running.{Running}
 use Rattle.replays.specs.declared.cutting.EchoedLine.{EchoedLine}
-use Rattle.replays.specs.declared.transcript.Source.{Source}
 use Rattle.replays.specs.declared.transcript.Source.TheVariants.{Echoed}
 
 -- ---- what is entered

@@ -10,8 +10,8 @@ use Rattle.replays.specs.Fronts.{feeds_of}
 use Rattle.replays.specs.Happenings.{came_by}
 use Rattle.replays.specs.LineTurns.{IsLeftBy, IsLine, Running}
 use Rattle.replays.specs.Reading as read
-use Rattle.replays.specs.Reading.{Doubt, Doubts, LinesDiffer, LinesTaken, Story, Tail}
-use Rattle.replays.specs.RunParts.{AreLinesTaken, AreRead, DiffersAt, IsSameNode}
+use Rattle.replays.specs.Reading.{Doubt, Doubts, LinesTaken, Story, Tail}
+use Rattle.replays.specs.RunParts.{AreRead, DiffersAt}
 use Rattle.replays.specs.Telling.{AreSourcesOf}
 use Rattle.replays.specs.declared.answering.Running.{Running as RunningOf}
 

@@ -6,7 +6,6 @@ use Rattle.node_core.proofs.Lists.{placed}
 use Rattle.node_core.proofs.OpeningSetups.{are_parties_of}
 use Rattle.node_core.specs.Members.{IsMadeOfRows}
 use Rattle.node_runs.specs.SetupLines.{numbered_setup_in}
-use Rattle.ocpi_text.specs.Text.{key}
 use Rattle.ocpi_text.specs.Whole.{max_whole}
 use Rattle.ocpi_types.specs.Parties.{AreParties}
 use Rattle.ocpi_types.specs.Setups.{party_of}

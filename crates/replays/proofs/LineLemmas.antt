@@ -2,7 +2,6 @@
 use Rattle.std.proofs.Common.{◌≡◌, ◌≢◌, ◌≤◌, ◌<◌, ℕ, suc, ◌+◌, List, [], ◌∷◌, ◌++◌, Option, None, Ok, Err, SomeIff, length, refl, sym, ap, ap₂, subst, ◌∙◌, append-nil, arith}
 use Rattle.json_text.specs.Fault.{Read}
 use Rattle.json_text.specs.declared.fault.JsonFault.{JsonFault}
-use Rattle.line_runs.specs.declared.run.Turn.{Turn}
 use Rattle.node_lines.specs.NodeLines.{node_line_in, one_of}
 use Rattle.node_lines.specs.declared.node_line.NodeLine.TheVariants.{Several}
 use Rattle.node_runs.specs.DoneLines.{all_line, known_line, refused_line}
@@ -12,7 +11,6 @@ use Rattle.ocpi_text.specs.Whole.{max_whole}
 use Rattle.ocpi_types.specs.declared.node_events.NodeEvent.{NodeEvent}
 use Rattle.stored_nodes.specs.Transactions.{changes_of_each}
 use Rattle.world_steps.specs.Steps.{NodeEvent as Deed}
-use Rattle.world_steps.specs.World.{NodeState}
 use Rattle.replays.proofs.AnswerLemmas.{enters_nothing}
 use Rattle.replays.specs.Answering.{AreAllDone, EventDone, IsLineRead, LineDone, shown, turn_of}
 use Rattle.replays.specs.Happenings.{entries_of_line}

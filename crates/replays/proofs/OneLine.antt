@@ -6,7 +6,7 @@ use Rattle.line_runs.specs.declared.run.Turn.{Turn}
 use Rattle.line_runs.specs.declared.run.Turn.TheVariants.{Refused, Taken}
 use Rattle.node_lines.specs.NodeLines.{node_line_in, one_of}
 use Rattle.node_lines.specs.declared.node_line.NodeLine.{NodeLine}
-use Rattle.node_lines.specs.declared.node_line.NodeLine.TheVariants.{One, Several}
+use Rattle.node_lines.specs.declared.node_line.NodeLine.TheVariants.{Several}
 use Rattle.node_runs.specs.DoneLines.{all_line}
 use Rattle.node_runs.specs.LineAnswers as answer
 use Rattle.node_runs.specs.LineAnswers.{Answers, AreDone, PlacedTurn, none_done, one_refused, one_taken}

@@ -7,7 +7,7 @@ use Rattle.ocpi_types.specs.declared.rows.Row.{Row}
 use Rattle.ocpi_types.specs.declared.setup.Node.{Node}
 use Rattle.world_steps.specs.World.{NodeState}
 use Rattle.replays.specs.LineTurns.{Held, Lists, Running, Store, held_in}
-use Rattle.replays.specs.Reading.{Doubt, IsAmong, IsOpenedIn, IsOther, MayBe, Reader, Story, WasOpened, begun_over, left_out, run_over, taken_in, with_parties}
+use Rattle.replays.specs.Reading.{Doubt, IsAmong, IsOpenedIn, IsOther, MayBe, Reader, Story, run_over, with_parties}
 use Rattle.replays.specs.RunParts.{Begins}
 use Rattle.replays.specs.Ways.{IsWay}
 use Rattle.replays.specs.declared.opening.Opened.{Opened}

@@ -5,7 +5,7 @@ use Rattle.json_text.specs.Fault.{Fails as FailsToRead}
 use Rattle.json_text.specs.declared.fault.JsonFault.{JsonFault}
 use Rattle.json_text.specs.declared.fault.JsonFault.TheVariants.{Memory, Syntax}
 use Rattle.line_runs.specs.Numbered as numbered
-use Rattle.line_runs.specs.Numbered.{AreNumbered, IsNumberedBegun, IsNumberedRun}
+use Rattle.line_runs.specs.Numbered.{IsNumberedBegun, IsNumberedRun}
 use Rattle.line_runs.specs.declared.outcome.Ran.{Ran}
 use Rattle.line_runs.specs.declared.run.Turn.{Turn}
 use Rattle.node_keepers.specs.Opening.{Source}

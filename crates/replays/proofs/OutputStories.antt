@@ -11,7 +11,7 @@ use Rattle.node_rows.specs.Laws.{ChangesAreHeld}
 use Rattle.node_runs.specs.DoneLines.{opened_line}
 use Rattle.node_runs.specs.NodeAnswers.{NodeLineGives, NodeTurn}
 use Rattle.node_runs.specs.NodeTurns as turns
-use Rattle.node_runs.specs.NodeTurns.{IsMember, OpensNode, Running as Node, SetupTurn, Stage, number_from, opened_stage, opening}
+use Rattle.node_runs.specs.NodeTurns.{OpensNode, Running as Node, SetupTurn, Stage, number_from, opened_stage, opening}
 use Rattle.node_runs.specs.declared.fault.NodeStop.{NodeStop}
 use Rattle.node_store.specs.Contents.{Content, line_of, rows_of}
 use Rattle.ocpi_text.specs.Text.{key}

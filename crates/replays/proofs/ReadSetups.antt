@@ -9,7 +9,7 @@ use Rattle.ocpi_json.proofs.SetupLemmas.{setup_found}
 use Rattle.ocpi_json.specs.SetupForms.{IsNode, SpellsSetup, setup_in}
 use Rattle.ocpi_text.proofs.Parties.{ci_text_is, party_by_shape}
 use Rattle.ocpi_text.specs.Party.{is_party_shape, party_at}
-use Rattle.ocpi_text.specs.Text.{ci_text, key}
+use Rattle.ocpi_text.specs.Text.{key}
 use Rattle.ocpi_text.specs.declared.fault.TextFault.TheVariants.{TooLong}
 use Rattle.ocpi_types.specs.Setups.{party_of}
 use Rattle.ocpi_types.specs.declared.setup.Node.{Node}

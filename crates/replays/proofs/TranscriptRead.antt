@@ -13,8 +13,8 @@ use Rattle.replays.specs.Fronts.{lines_front}
 use Rattle.replays.specs.Happenings.{Happening, openings_in}
 use Rattle.replays.specs.LineTurns.{Held, IsNumbered, Store, held_in}
 use Rattle.replays.specs.Reading.{Reader, RunRefused, RunTaken, Story, begun_over}
-use Rattle.replays.specs.Telling.{AreRunsOf, AreSourcesOf, Tells}
-use Rattle.replays.specs.Transcripts.{AccusesRightly, HasOwnUrls, IsToldBy, IsTranscriptOf, OpenedNone, PrintedBy, TellsOf, Transcript, line_of}
+use Rattle.replays.specs.Telling.{AreRunsOf, AreSourcesOf}
+use Rattle.replays.specs.Transcripts.{AccusesRightly, HasOwnUrls, IsToldBy, IsTranscriptOf, PrintedBy, TellsOf, Transcript, line_of}
 use Rattle.replays.specs.declared.cutting.RunText.{RunText}
 use Rattle.replays.specs.declared.cutting.Runs.{Runs}
 use Rattle.replays.specs.declared.fault.ReplayFault.{ReplayFault}

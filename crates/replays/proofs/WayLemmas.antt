@@ -9,9 +9,8 @@ use Rattle.world_steps.specs.World.{NodeState}
 use Rattle.replays.proofs.OnlyRuns.{none_within}
 use Rattle.replays.specs.LineTurns.{Held}
 use Rattle.replays.specs.Reading.{AreCut, Fits, MayBe, MayBeOpened, OpensOver, Reader, told_line}
-use Rattle.replays.specs.Ways.{IsOpened, IsPassed, IsTried, IsWay, May, Not, NotThere}
+use Rattle.replays.specs.Ways.{IsOpened, IsPassed, IsWay, May, Not, NotThere}
 use Rattle.replays.specs.declared.opening.Opened.{Opened}
-use Rattle.replays.specs.declared.opening.Tried.TheVariants as tried
 
 module _ (r : Reader) (setup : List Node) (closed : Bool) (piece : List ℕ) (held : Held) where
   -- of these members of the setup the parties have such a one, and no other has; the line of none stands there whole

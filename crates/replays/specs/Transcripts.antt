@@ -1,7 +1,6 @@
 -- What a transcript has, and what it is a transcript of.
 use Rattle.std.specs.Prelude.{◌≡◌, ◌≢◌, ◌<◌, ℕ, zero, suc, List, [], ◌∷◌, ◌++◌, Option, None, Some, Contains, length, slice_get, cond, ◌==◌}
 use Rattle.histories.specs.declared.entry.Entry.{Entry}
-use Rattle.ocpi_text.specs.Text.{key}
 use Rattle.ocpi_types.specs.declared.setup.Node.{Node}
 use Rattle.ocpi_types.specs.Commands.{url_of}
 use Rattle.ocpi_types.specs.Setups.{party_of}
@@ -9,7 +8,7 @@ use Rattle.ocpi_types.specs.declared.rows.Row.{Row}
 use Rattle.ocpi_types.specs.declared.rows.Row.TheVariants as row
 use Rattle.ocpi_types.specs.declared.stored.SentCommand.{SentCommand}
 use Rattle.provider_steps.specs.Acts.{own_url}
-use Rattle.replays.specs.Happenings.{Came, Happening, IsTextAt, Opened, OpenedRun, entries_in, openings_in}
+use Rattle.replays.specs.Happenings.{Happening, openings_in}
 use Rattle.replays.specs.LineTurns.{Store, held_in}
 use Rattle.replays.specs.Fronts.{lines_front}
 use Rattle.replays.specs.Printed.{ArePrinted}

@@ -2,7 +2,7 @@
 use Rattle.std.proofs.Common.{◌≡◌, ◌≢◌, ◌∙◌, ◌↔◌, ℕ, List, [], Option, Bool, IsTrue, inl, refl, sym, ap, subst, Result, Ok, Err, IfOk, IfErr, OnOk, OnErr}
 use Rattle.ocpi_types.specs.declared.node_events.NodeEventKind.{NodeEventKind}
 use Rattle.ocpi_types.specs.declared.rows.Change.{Change}
-use Rattle.node_core.specs.Works.{Does, IsWork, changes_by, node_after, packets_by}
+use Rattle.node_core.specs.Works.{IsWork, changes_by, node_after}
 use Rattle.node_core.specs.declared.input.NodeInput.{NodeInput}
 use Rattle.node_core.specs.declared.work.NodeWork.{NodeWork}
 use Rattle.node_core.proofs.Doing.{does}
@@ -13,7 +13,6 @@ use Rattle.world_steps.specs.Steps.{NodeStep, changes_of, input_of}
 use Rattle.world_steps.specs.World.{NodeState}
 use Rattle.node_inputs.specs.Inputs.{SaysTheSame}
 use Rattle.stored_nodes.specs.Keepers.{Commits, Declines, Keeper}
-use Rattle.stored_nodes.specs.Stored as stored
 use Rattle.stored_nodes.specs.Stored.{Applies, Fails, IsCarriedOut, IsDeclined, IsNotCarriedOut, IsStored, Loses, Stored}
 use Rattle.stored_nodes.specs.declared.fault.ApplyFault.{ApplyFault}
 use Rattle.stored_nodes.specs.declared.fault.ApplyFault.TheVariants as fault

@@ -1,13 +1,13 @@
 -- What holds of a node over its keeper holds after each event, whether its changes were committed or not.
 use Rattle.std.proofs.Common.{◌≡◌, ◌≢◌, ◌⊎◌, ◌∙◌, ℕ, List, [], Option, inl, inr, refl, sym, ap, subst}
 use Rattle.std.specs.FinMap.{empty}
-use Rattle.std.specs.Prelude.{All, Contains, IsSome, None, Some}
+use Rattle.std.specs.Prelude.{Contains, IsSome, None, Some}
 use Rattle.ocpi_types.specs.declared.rows.Change.{Change}
 use Rattle.ocpi_types.specs.declared.rows.Row.{Row}
 use Rattle.ocpi_types.specs.declared.setup.Node.{Node}
 use Rattle.ocpi_types.specs.declared.setup.Node.TheVariants as node
 use Rattle.node_core.specs.Members.{IsMadeOfRows}
-use Rattle.node_store.specs.Contents.{Content, IsReadAgain, changed_all, line_of, marked, rows_of}
+use Rattle.node_store.specs.Contents.{Content, changed_all, line_of, marked, rows_of}
 use Rattle.node_store.proofs.Numbered.{numbers_are_no_rows}
 use Rattle.node_rows.specs.Holds.{HoldsRows, StoresAlike}
 use Rattle.node_rows.specs.Laws.{AreClasses, ChangesAreHeld, RestartsAreHeld}

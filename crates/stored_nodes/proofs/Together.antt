@@ -14,10 +14,10 @@ use Rattle.node_rows.specs.Laws.{AreClasses, ChangesAreHeld, RestartsAreHeld}
 use Rattle.stored_laws.specs.Nodes.{CanStartAgain, NodesCanStartAgain}
 use Rattle.world_steps.specs.Steps.{NodeEvent, NodeStep, changes_of}
 use Rattle.world_steps.specs.World.{NodeState}
-use Rattle.stored_nodes.specs.Keepers.{Commits, Declines, Keeper, Nothing, Taken}
+use Rattle.stored_nodes.specs.Keepers.{Commits, Keeper, Nothing, Taken}
 use Rattle.stored_nodes.specs.Stored.{IsStored, Stored}
 use Rattle.stored_nodes.specs.Transactions as transactions
-use Rattle.stored_nodes.specs.Transactions.{IsAllOrNothing, IsPending, KeepsAllOrNothing, LeavesAllOrNothing, Pending, changes_of_each}
+use Rattle.stored_nodes.specs.Transactions.{IsAllOrNothing, IsPending, LeavesAllOrNothing, Pending, changes_of_each}
 use Rattle.stored_nodes.proofs.Staying.{marked_holds, taken, unasked}
 
 -- ---- lists in two parts

@@ -6,15 +6,12 @@ use Rattle.ocpi_text.specs.Text.{key}
 use Rattle.ocpi_types.specs.Setups.{party_of}
 use Rattle.ocpi_types.specs.declared.node_events.NodeEvent.{NodeEvent}
 use Rattle.ocpi_types.specs.declared.rows.Row.{Row}
-use Rattle.ocpi_types.specs.declared.setup.Node.{Node}
 use Rattle.ocpi_json.specs.NodeEventForms.{node_event_in}
 use Rattle.json_text.specs.Fault.{Read}
-use Rattle.histories.specs.declared.entry.Entry.{Entry}
 use Rattle.histories.proofs.Lists.{got_between, got_left, some_same}
 use Rattle.history_laws.specs.Replays.{Does, EntryStep, Idle}
 use Rattle.line_runs.specs.declared.run.Turn.{Turn}
 use Rattle.node_core.specs.Members.{IsMadeOfRows}
-use Rattle.node_lines.specs.ElementTexts.{AreElementsOf}
 use Rattle.node_lines.specs.NodeLines.{node_line_in, one_of}
 use Rattle.node_lines.specs.declared.node_line.NodeLine.TheVariants.{Several}
 use Rattle.node_lines.proofs.ElementLemmas.{elements_read}

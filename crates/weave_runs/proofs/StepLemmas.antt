@@ -31,7 +31,7 @@ use Rattle.weave.proofs.Places.{got_by}
 use Rattle.weave.proofs.Turning.{one_entry, turn_at}
 use Rattle.weave_runs.specs.Histories.{AreHistories, AreTold, Lived, lived, lived_told}
 use Rattle.weave_runs.specs.Refusals.{spelled}
-use Rattle.weave_runs.specs.Steps.{AddsDelivery, AddsFirst, AddsLine, AddsNew, AddsOtherSetup, AddsRestart, AddsSetups, AddsStep, AddsTurn, AreNamed, AreSourced, AreStepsOf, Came, Delivered, Given, HasFirstSetup, HasNewSetup, HasSources, HasSteps, HasStepsAndSetups, IsEventLine, IsFirst, IsLater, IsNamed, IsNew, IsNone, IsOfRuns, IsSame, IsSourceIn, IsStep, IsStepIn, IsStepOf, IsTakenAsItCame, Names, Restarted, Step, ended, entry_of, lines_text, step_text, step_with_setups, steps_text, steps_with_setups}
+use Rattle.weave_runs.specs.Steps.{AddsDelivery, AddsFirst, AddsLine, AddsNew, AddsOtherSetup, AddsRestart, AddsSetups, AddsStep, AddsTurn, AreNamed, AreSourced, AreStepsOf, Came, Delivered, Given, HasFirstSetup, HasNewSetup, HasSources, HasSteps, HasStepsAndSetups, IsEventLine, IsFirst, IsLater, IsNamed, IsNew, IsNone, IsOfRuns, IsSame, IsSourceIn, IsStep, IsStepIn, IsStepOf, IsTakenAsItCame, Names, Restarted, Step, ended, entry_of, lines_text, step_text, step_with_setups}
 use Rattle.weave_runs.proofs.RunLemmas.{IsOwn}
 
 pub on_ok : {T E P Q : Type 0} (r : Result T E) → (P → Q) → OnOk r P → OnOk r Q

@@ -6,7 +6,6 @@ use Rattle.std.specs.Prelude.{Contains, Some, slice_get}
 use Rattle.std.proofs.lemmas.Option.{slice_get-map, slice_get_within}
 use Rattle.ocpi_text.specs.Text.{key}
 use Rattle.ocpi_types.specs.Setups.{party_of}
-use Rattle.ocpi_types.specs.declared.packet.Packet.{Packet}
 use Rattle.ocpi_types.specs.declared.rows.Row.{Row}
 use Rattle.ocpi_types.specs.declared.setup.Node.{Node}
 use Rattle.histories.specs.Entries.{IsNumbered, sent}
@@ -34,7 +33,7 @@ use Rattle.weave_runs.specs.Outputs.{IsOfOneWorld}
 use Rattle.weave_runs.specs.declared.told.TranscriptFile.{TranscriptFile}
 use Rattle.weave_runs.proofs.NumberLemmas as number
 use Rattle.weave_runs.proofs.RefusalLemmas.{drop_one}
-use Rattle.weave_runs.proofs.SourceLemmas.{OfFile, each_life, life_at, life_told, teller_is, teller_wanted}
+use Rattle.weave_runs.proofs.SourceLemmas.{OfFile, life_at, life_told, teller_is, teller_wanted}
 use Rattle.weave_runs.proofs.WorldLemmas.{opened_first, replays_on}
 
 -- ---- one more

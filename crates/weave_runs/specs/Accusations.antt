@@ -3,7 +3,6 @@ use Rattle.std.specs.Prelude.{◌≡◌, ℕ, List, ◌∷◌, ◌++◌, map}
 use Rattle.replays.specs.Transcripts.{AccusesRightly, BlamesNoLineBefore, Transcript, teller}
 use Rattle.replays.specs.declared.fault.ReplayFault.{ReplayFault}
 use Rattle.weave_runs.specs.Histories.{AreTranscripts, start_of}
-use Rattle.weave_runs.specs.Refusals.{transcript_line}
 use Rattle.weave_runs.specs.declared.told.TranscriptFile.{TranscriptFile}
 
 -- The files before one of that name are transcripts. Where the fault accuses that one, no runs of a node of another party

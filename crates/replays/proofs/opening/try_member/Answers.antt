@@ -2,7 +2,7 @@ use Rattle.std.proofs.Common.{◌++◌, ◌∙◌, ap, ap₂, subst, sym, take, 
 use Rattle.node_runs.specs.DoneLines.{opened_line}
 use Rattle.stored_laws.specs.Nodes.{last_serial}
 use Rattle.replays.specs.Reading.{Fits}
-use Rattle.replays.proofs.FitLemmas.{bad_rows, made_over}
+use Rattle.replays.proofs.FitLemmas.{made_over}
 use Rattle.replays.proofs.opening.try_member.Goals as goal
 
 pub returns-then-not-may_fit : goal.returns-then-not-may_fit

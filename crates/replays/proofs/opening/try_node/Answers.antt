@@ -1,6 +1,5 @@
 use Rattle.std.proofs.Common.{◌∙◌, ap, subst, sym, length}
 use Rattle.node_runs.specs.DoneLines.{opened_line}
-use Rattle.stored_laws.specs.Nodes.{last_serial}
 use Rattle.replays.proofs.FitLemmas.{line_tried, opened_closed}
 use Rattle.replays.specs.LineTurns.{held_in}
 use Rattle.replays.specs.Ways.{IsClosed}

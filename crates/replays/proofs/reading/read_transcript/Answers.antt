@@ -1,7 +1,6 @@
 use Rattle.std.proofs.Common.{refl}
 use Rattle.replays.proofs.ResultLemmas.{if_ok, on_err}
 use Rattle.replays.proofs.TranscriptRead.{fewer, named_real, none_before, none_told, nothing_read, refused_rightly, run_numbers, run_read, transcript_read}
-use Rattle.replays.specs.CutRuns.{HasNumbers}
 use Rattle.replays.specs.Transcripts.{line_of}
 use Rattle.replays.proofs.reading.read_transcript.Goals as goal
 

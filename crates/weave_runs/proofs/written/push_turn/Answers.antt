@@ -1,12 +1,5 @@
 use Rattle.std.proofs.Common.{◌<◌, ◌∙◌, List, [], ap, length, subst, sym}
-use Rattle.std.proofs.lemmas.Option.{slice_get-get_or, slice_get_within}
-use Rattle.std.specs.Prelude.{slice_get}
-use Rattle.histories.specs.declared.entry.Entry.{Entry}
-use Rattle.histories.proofs.Lists.{is_in}
-use Rattle.replays.specs.declared.transcript.Opening.{Opening}
-use Rattle.replays.specs.declared.transcript.Source.{Source}
 use Rattle.replays.specs.declared.transcript.Source.TheVariants.{Echoed}
-use Rattle.weave.proofs.Places.{got_by}
 use Rattle.weave_runs.proofs.StepLemmas.{as_read, on_ok, turn_adds}
 use Rattle.weave_runs.proofs.written.push_turn.Goals as goal
 

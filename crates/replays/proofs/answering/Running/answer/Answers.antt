@@ -2,9 +2,8 @@ use Rattle.std.proofs.Common.{◌≡◌, ◌≤◌, ◌<◌, ◌+◌, ◌++◌, 
 use Rattle.node_runs.specs.DoneLines.{known_line, refused_line}
 use Rattle.node_steps.specs.declared.fault.NodeFault.TheVariants.{NumbersUsedUp}
 use Rattle.ocpi_text.specs.Whole.{max_whole}
-use Rattle.replays.specs.Answering.{IsLineRead}
 use Rattle.replays.proofs.AnswerLemmas.{on_ok}
-use Rattle.replays.proofs.LineLemmas.{at_number, line_beyond, line_known, line_read, no_next}
+use Rattle.replays.proofs.LineLemmas.{line_beyond, line_known, line_read, no_next}
 use Rattle.replays.proofs.answering.Running.answer.Goals as goal
 
 pub returns-in-None : goal.returns-in-None

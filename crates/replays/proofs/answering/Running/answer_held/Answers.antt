@@ -1,5 +1,5 @@
 use Rattle.std.proofs.Common.{◌∙◌, None, Ok, refl, ap, subst, string_bytes}
-use Rattle.replays.specs.Answering.{AreAllDone, EventDone}
+use Rattle.replays.specs.Answering.{EventDone}
 use Rattle.replays.proofs.AnswerLemmas.{on_ok}
 use Rattle.replays.proofs.LineLemmas.{one_event, several_events}
 use Rattle.replays.proofs.answering.Running.answer_held.Goals as goal

@@ -2,7 +2,7 @@ use Rattle.std.proofs.Common.{◌≡◌, ◌∙◌, None, Some, ap, subst, sym}
 use Rattle.replays.proofs.OpenLemmas.{begins_so, some_doubt, way_so}
 use Rattle.replays.proofs.SetupRead.{none_refused, settled_taken}
 use Rattle.replays.specs.Answering.{shown}
-use Rattle.replays.specs.Reading.{Doubt, Reader, Story, taken_in}
+use Rattle.replays.specs.Reading.{Reader, Story, taken_in}
 use Rattle.replays.specs.RunParts.{After}
 use Rattle.replays.specs.Transcripts.{line_of}
 use Rattle.replays.specs.Ways.{AreNoWays, AreWays}

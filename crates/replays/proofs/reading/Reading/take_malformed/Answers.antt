@@ -1,6 +1,6 @@
 use Rattle.std.proofs.Common.{◌≡◌, ◌∙◌, ◌+◌, ◌++◌, ℕ, None, suc, arith, inl, inr, ap, refl, sym, string_bytes}
 use Rattle.node_runs.specs.DoneLines.{malformed_line}
-use Rattle.replays.proofs.FrontLemmas.{begins_with, front_of, not_begun}
+use Rattle.replays.proofs.FrontLemmas.{front_of, not_begun}
 use Rattle.replays.proofs.ResultLemmas.{ok_so}
 use Rattle.replays.proofs.reading.Reading.take_malformed.Goals as goal
 use Rattle.replays.proofs.reading.Reading.take_malformed.Goals.{then-starts_with-2, else-starts_with-2}

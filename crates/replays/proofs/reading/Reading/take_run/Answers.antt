@@ -4,7 +4,7 @@ use Rattle.replays.proofs.AnswerLemmas.{on_ok}
 use Rattle.replays.proofs.ResultLemmas.{on_err}
 use Rattle.replays.proofs.SetupRead.{numbers_behind, rest_of_run, some_behind}
 use Rattle.replays.specs.CutRuns.{HasNumbers}
-use Rattle.replays.specs.Reading.{HasSetup, IsFirstLine, NoSetupThere, RunRefused, RunTaken, SaysElse}
+use Rattle.replays.specs.Reading.{IsFirstLine, NoSetupThere, RunRefused, RunTaken, SaysElse}
 use Rattle.replays.specs.declared.cutting.EchoedLine.{EchoedLine}
 use Rattle.replays.specs.Transcripts.{line_of}
 use Rattle.replays.proofs.reading.Reading.take_run.Goals as goal
