@@ -113,8 +113,8 @@ RunsAreFed {K} keeper source =
 -- ---- runs one after another
 
 -- Runs over one store, each under a setup of its own, and over what the one before left: what its keeper kept at the
--- end, or what a stop left of that. The first is told 1; each other is told at most the number of the last line that the
--- one before answered.
+-- end, or what a stop left of that. The first is told 1; each other is told at most the number of the last line that
+-- the one before answered.
 pub data AreFedRuns {K : Type 0} (keeper : Keeper K) (source : Source K) (lines : ℕ → List ℕ) (first : Content) : ℕ → Content → Type 0 where
   none_fed : AreFedRuns keeper source lines first 1 first
   one_fed : {seen base most : ℕ} {before after : Content} {text : List ℕ} {kept : K} (setup : List Node) (member : Node) → AreFedRuns keeper source lines first seen before

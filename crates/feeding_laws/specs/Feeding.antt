@@ -31,15 +31,15 @@ pub data Leaves (party : List ℕ) (lines : ℕ → List ℕ) (known last : ℕ)
       → (turn : Turn) (out : List ℕ) (more : List Deed) (after : NodeState) → Answers party now (suc last) (lines (suc last)) turn out more after → changes_of_each more ≢ []
       → restarted left.state ≡ restarted after → left.line ≡ suc last → Leaves party lines known last did now left (changed ++ suc last ∷ [])
 
--- The second node was made of the rows of the first, as that member of a setup. So the node starts again: under the setup
--- of before, or under another.
+-- The second node was made of the rows of the first, as that member of a setup. So the node starts again: under the
+-- setup of before, or under another.
 pub record StartsAgain (setup : List Node) (member : Node) (now next : NodeState) : Type 0 where
   pub rows : List Row
   pub are : AreNodeRows rows now
   pub made : IsMadeOfRows setup member rows next
 
--- One run of a node over its store, as that member of a setup. No node was made of what the store had; or one was, which
--- is told a number, is fed the lines behind that one, and answers some of them.
+-- One run of a node over its store, as that member of a setup. No node was made of what the store had; or one was,
+-- which is told a number, is fed the lines behind that one, and answers some of them.
 pub data Ran (setup : List Node) (member : Node) (lines : ℕ → List ℕ) (found : Held) (base : ℕ) : List (List ℕ) → List ℕ → Held → Type 0 where
   NotBegun : Ran setup member lines found base [] [] found
   Began : {read : List (List ℕ)} {changed : List ℕ} {left : Held} (start : NodeState) → StartsAgain setup member found.state start → AreBehind lines base read
@@ -57,8 +57,8 @@ pub data AreRuns (lines : ℕ → List ℕ) (first : Held) : ℕ → List ℕ �
 
 -- ---- what is so of them
 
--- To a node the lines of the numbers from 2 on came, each once and in their order, up to that number. Between some of them
--- the node started again: it is then that member of a setup; before it first did, of none.
+-- To a node the lines of the numbers from 2 on came, each once and in their order, up to that number. Between some of
+-- them the node started again: it is then that member of a setup; before it first did, of none.
 pub data CameOnce (lines : ℕ → List ℕ) (first : NodeState) : Option Node → ℕ → NodeState → Type 0 where
   none_came : CameOnce lines first None 1 first
   next_came : {member : Node} {number : ℕ} {now next : NodeState} {turn : Turn} {out : List ℕ} {did : List Deed} → CameOnce lines first (Some member) number now
