@@ -13,7 +13,7 @@ use Rattle.replays.proofs.Lines.{Same}
 use Rattle.replays.proofs.Only as only
 use Rattle.replays.specs.Laws.{AreGiven, PrintedIsOne, none_given, one_given}
 use Rattle.replays.specs.LineTurns.{Held, Running, echo_of, held_in}
-use Rattle.replays.specs.Openings.{Opens, begun, opening_of}
+use Rattle.replays.specs.Openings.{begun}
 use Rattle.replays.specs.Reading.{OpensOver, begun_over, told_line}
 
 -- of the lines behind an opening
