@@ -170,7 +170,7 @@ module _ (held : ChangesAreHeld) (start : NodesCanStartAgain) {K : Type 0} (keep
           let (rows, are, of_found) = holds.rows in
           let same = sym are ∙ reopens.reads (h.earlier honest) in
           let is : rows ≡ reopens.list = cc same in
-          record { rows = reopens.list; are = subst (λ (l : List Row). AreNodeRows l found.state) is of_found; made = reopens.made }
+          record { rows = reopens.list; are = subst (λ (l : List Row). AreNodeRows l found.state) is of_found; made = reopens.made; again = h.begins.starts.stored.starts }
 
       last_is : h.last ≡ found.line
       last_is = let same = sym (h.begins.starts.reopens.told (h.earlier honest)) ∙ holds.line in cc same
