@@ -115,8 +115,8 @@ RunsAreFed {K} keeper source =
 -- ---- runs one after another
 
 -- Runs of a party's node over one store, each under a setup of its own, and over what the one before left: what its
--- keeper kept at the end, or what a stop left of that. The first is told 1; each other is told at most the number of the
--- last line that the one before answered.
+-- keeper kept at the end, or what a stop left of that. The first is told 1; each other is told at most the number of
+-- the last line that the one before answered.
 pub data AreFedRuns {K : Type 0} (keeper : Keeper K) (source : Source K) (party : List ℕ) (lines : ℕ → List ℕ) (first : Content) : ℕ → Content → Type 0 where
   none_fed : AreFedRuns keeper source party lines first 1 first
   one_fed : {seen base most : ℕ} {before after : Content} {text : List ℕ} {kept : K} (setup : List Node) (member : Node) → key (party_of member) ≡ key party

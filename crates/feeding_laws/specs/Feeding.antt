@@ -48,10 +48,10 @@ pub data Ran (setup : List Node) (member : Node) (lines : ℕ → List ℕ) (fou
       → (did : List Numbered) (now : NodeState) → Carries (party_of member) found.line base start read did now
       → Leaves (party_of member) lines found.line (base + length read) did now left changed → Ran setup member lines found base read changed left
 
--- Runs of a party's node one after another, each over what the one before left, and each under a setup of its own, which
--- has that party in some case. The first is told 1; each other is told at most the number of the last line that the one
--- before answered, which is that of the last `done` that its feeder can have seen. The numbers are those of the lines by
--- which rows were changed, in the order in which that was done.
+-- Runs of a party's node one after another, each over what the one before left, and each under a setup of its own,
+-- which has that party in some case. The first is told 1; each other is told at most the number of the last line that
+-- the one before answered, which is that of the last `done` that its feeder can have seen. The numbers are those of the
+-- lines by which rows were changed, in the order in which that was done.
 pub data AreRuns (party : List ℕ) (lines : ℕ → List ℕ) (first : Held) : ℕ → List ℕ → Held → Type 0 where
   none_ran : AreRuns party lines first 1 [] first
   one_ran : {seen base : ℕ} {before changed : List ℕ} {found left : Held} {read : List (List ℕ)} (setup : List Node) (member : Node) → key (party_of member) ≡ key party
