@@ -19,7 +19,7 @@ use Rattle.replays.specs.Reading.{OpensOver, begun_over, told_line}
 -- of the lines behind an opening
 given_once : (now : Running) (lines : List (List ℕ)) (text also : List ℕ) (last other : Running) → Runs now → AreGiven now lines text last → AreGiven now lines also other → (text ≡ also) × (last ≡ other)
 given_once now [] text also last other runs none_given none_given = (refl, refl)
-given_once now (line ∷ lines) text also last other runs (one_given {text = more} line out entered did next gives later) (one_given {text = rest} line printed came done behind gives_too later_too) =
+given_once now (line ∷ lines) text also last other runs (one_given {text = more} line out entered did next gives later) (one_given {text = rest} again printed came done behind gives_too later_too) =
     let one = line_facts.one now line out printed entered came did done next behind runs gives gives_too in
     let on = given_once next lines more rest last other (line_facts.counting.stays now line out entered did next runs gives) later
     (subst (λ (n : Running). AreGiven n lines rest other) (sym one.nexts) later_too) in
