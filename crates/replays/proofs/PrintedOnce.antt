@@ -17,11 +17,12 @@ use Rattle.replays.specs.Openings.{begun}
 use Rattle.replays.specs.Reading.{OpensOver, begun_over, told_line}
 
 -- of the lines behind an opening
-given_once : (now : Running) (lines : List (List ℕ)) (text also : List ℕ) (last other : Running) → Runs now → AreGiven now lines text last → AreGiven now lines also other → (text ≡ also) × (last ≡ other)
-given_once now [] text also last other runs none_given none_given = (refl, refl)
-given_once now (line ∷ lines) text also last other runs (one_given {text = more} line out entered did next gives later) (one_given {text = rest} line printed came done behind gives_too later_too) =
+given_once : {now : Running} {lines : List (List ℕ)} {text also : List ℕ} {last other : Running} → Runs now → AreGiven now lines text last → AreGiven now lines also other
+    → (text ≡ also) × (last ≡ other)
+given_once runs none_given none_given = (refl, refl)
+given_once {now = now} {other = other} runs (one_given {lines = lines} line out entered did next gives later) (one_given {text = rest} same printed came done behind gives_too later_too) =
     let one = line_facts.one now line out printed entered came did done next behind runs gives gives_too in
-    let on = given_once next lines more rest last other (line_facts.counting.stays now line out entered did next runs gives) later
+    let on = given_once (line_facts.counting.stays now line out entered did next runs gives) later
     (subst (λ (n : Running). AreGiven n lines rest other) (sym one.nexts) later_too) in
     (ap₂ (λ (a b : List ℕ). echo_of line ++ (a ++ b)) one.outs on.0, on.1)
 
@@ -45,5 +46,5 @@ printed_is_one wanted start setup lines o p text also last other own numbered gi
     let member = opening_facts.one_member setup o.setup o.base o.reads o.member p.member a.within b.within (a.same ∙ sym b.same) in
     let one = opened_once setup o.setup o.base o.reads held o.member p.member o.state p.state a.within a.over b.over member in
     let runs = opening_facts.good setup o.setup o.base o.reads o.member a.within held (first_stores start own numbered) o.state a.over in
-    let on = given_once (begun o) lines text also last other (subst Runs (sym a.begins) runs) gives (subst (λ (n : Running). AreGiven n lines also other) (sym (a.begins ∙ one.1 ∙ sym b.begins)) given) in
+    let on = given_once (subst Runs (sym a.begins) runs) gives (subst (λ (n : Running). AreGiven n lines also other) (sym (a.begins ∙ one.1 ∙ sym b.begins)) given) in
     (sym a.tells ∙ one.0 ∙ b.tells, on.0, on.1)

@@ -28,9 +28,9 @@ EventsGiveOneValue = (party : List ℕ) (now : NodeState) (number : ℕ) (place 
     → IsOne turn other out also did done next last
 
 -- Lines that came to a node, one after another: what it printed, of each behind its echo, and what it was then.
-pub data AreGiven (now : Running) : List (List ℕ) → List ℕ → Running → Type 0 where
-  none_given : AreGiven now [] [] now
-  one_given : {lines : List (List ℕ)} {text : List ℕ} {last : Running} (line out : List ℕ) (entered : List Placed) (did : List Deed) (next : Running)
+pub data AreGiven : Running → List (List ℕ) → List ℕ → Running → Type 0 where
+  none_given : {now : Running} → AreGiven now [] [] now
+  one_given : {now last : Running} {lines : List (List ℕ)} {text : List ℕ} (line out : List ℕ) (entered : List Placed) (did : List Deed) (next : Running)
       → LineGives now line out entered did next → AreGiven next lines text last → AreGiven now (line ∷ lines) (echo_of line ++ (out ++ text)) last
 
 -- What a run prints is one value, and so is the node that it leaves, given the rows and the number that its store had, its
