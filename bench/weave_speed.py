@@ -5,7 +5,7 @@
 
 PROGRAM is `ocpi_nodes`. The charge of examples/play/charge/in.jsonl happens again and again, until the transcripts of its operator
 and its provider (`node PARTY --echo`, without stops) have so many lines each, by their mean. It tells the processor time of
-`weave` over both, beside that of `play` over the run that it writes, and the ratio, which is wanted to be at most 2.0. Each
+`weave` over both, beside that of `play` over the run that it writes, and the ratio, which is wanted to be at most 1.5. Each
 figure is a median. It also sees that `play` gives just the packets of the transcripts. The status is 1 where the ratio is
 above. The machine should have nothing else to do.
 """
@@ -23,7 +23,7 @@ TOP = os.path.dirname(os.path.dirname(os.path.abspath(__file__)))
 # The lines of one charge in both transcripts, and the packets that each node sends in it.
 LINES_OF_A_CHARGE, PACKETS_OF_A_CHARGE = 52, 7
 BETWEEN = datetime.timedelta(hours=1)
-WANTED = 2.0
+WANTED = 1.5
 
 
 def dump(value):

@@ -4,7 +4,7 @@
     faults/cut_transcripts.py PROGRAM FILE FILE [--step 1] [--workers 4]
 
 PROGRAM is `ocpi_nodes`. Each answer must be a run (status 0: the setup line and an event a line), or one line that
-refuses (status 1). Standard error has nothing, but for the words that go with the refusals 1 and 2. A run, and a refusal
+refuses (status 1). Standard error has nothing, but for the words that go with the refusals 1, 2 and 5. A run, and a refusal
 1, 2 or 3, must also be what tools/woven_run.py makes of the same files, where that knows. Memory that runs out is none
 of them. With --step cuts come at each so many bytes. The last line says what was tried; the status is 0 where all is so.
 """
@@ -31,7 +31,8 @@ REFUSALS = [
     rf"refused 3 NoOrder\({PLACE}(?: {PLACE})*\)\n",
     rf"refused 5 NotARun\({PLACE}\)\n",
     rf"refused 6 WrongTranscript\({PLACE}\)\n",
-    rf"refused 7 TooManyWays\({PLACE}\)\n",
+    rf"refused 8 BegunLater\({PLACE}\)\n",
+    rf"refused 9 LinesMissing\({PLACE}\)\n",
 ]
 NAMES = ("one.transcript", "other.transcript")
 MOST_TOLD = 20
@@ -69,7 +70,7 @@ def modelled(texts):
 
 def fault_in(texts, ran):
     """What is wrong with an answer, or which kind it is of."""
-    if ran.stderr and not ran.stdout.startswith((b"refused 1 ", b"refused 2 ")):
+    if ran.stderr and not ran.stdout.startswith((b"refused 1 ", b"refused 2 ", b"refused 5 ")):
         return f"standard error has {ran.stderr[:200]!r}", None
     wanted = modelled(texts)
     if ran.returncode == 0:

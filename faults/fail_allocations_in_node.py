@@ -7,15 +7,14 @@ PROGRAM is `ocpi_nodes`, in whose process faults/fail_allocation.c stands before
 INPUT go in one by one. With `--store` each run has a new store. Of each run one of these must hold:
 
 - all is as with ample memory;
-- one line is refused for want of memory. Given once more it gives what it gives with ample memory, and so do all lines
-  behind it: so that refusal left the node and its keeper as they were;
-- the keeper of the node's rows had no memory: status 3, `store: 4 Memory`, nothing is written for that line, and all before
-  it is as with ample memory. A store then has the rows of before that line, or of behind it, as the next run opens it;
-- the same in a line of several events, wherever in it there was no memory. A store then has the rows of before that line;
+- memory ran out at a line: status 3, `memory: 4 Memory`, nothing is written for that line, and all before it is as with
+  ample memory. A store then has rows and number of before that line, or of behind it, as the next run opens it;
+- the same of the keeper of the node's rows, with `store: 4 Memory`;
+- the same in a line of several events, wherever in it there was no memory. A store then has those of before that line;
 - the run ends with status 1 or 2 for want of memory elsewhere, and what it wrote is a beginning of that.
 
-Of the lines of one event some must have been refused, and some runs ended by the keeper behind the setup; so must lines of
-several events, where INPUT has them. The last line says what was tried.
+Some runs must have ended in each of the first two ways at a line of one event, where INPUT has some behind the setup; so
+must some at lines of several events. The last line says what was tried.
 """
 
 import argparse
@@ -23,18 +22,17 @@ import collections
 import concurrent.futures
 import json
 import os
-import re
 import subprocess
 import sys
 import tempfile
 
 from fail_allocations_in_weave import FAILED, build
 
-STORE, LINE = b"store: 4 Memory\n", re.compile(rb',"line":\d+')
+STORE, MEMORY = b"store: 4 Memory\n", b"memory: 4 Memory\n"
 # How many runs are begun before it is seen whether one of them makes so many allocations.
 AT_ONCE = 200
 # What may come of a run.
-REFUSED, KEEPER = "a line was refused and given once more", "the keeper ended the run"
+LINE, KEEPER = "a line ended the run", "the keeper ended the run"
 SEVERAL = "a line of several events ended the run"
 
 
@@ -59,18 +57,12 @@ class Run:
             if not lines[-1].endswith(b"\n"):
                 return b"".join(lines), False
             if lines[-1].startswith(b'{"done":') and "event" not in json.loads(lines[-1]):
-                return LINE.sub(b"", b"".join(lines)), True
+                return b"".join(lines), True
 
     def end(self):
         """The status, what was still written, and what was said, without that an allocation failed."""
         rest, said = self.program.communicate()
         return self.program.returncode, rest, said
-
-
-def is_refused(gives):
-    """Whether a line was refused for want of memory."""
-    told = json.loads(gives.splitlines()[-1])
-    return told.get("name") == "Memory" and told["done"] in ("refused", "malformed")
 
 
 def has_several(line):
@@ -89,7 +81,7 @@ class Node:
         self.parts, self.opened = [], []
         for line in self.lines:
             gives, is_whole = run.answer(line)
-            if not is_whole or is_refused(gives):
+            if not is_whole:
                 sys.exit(f"fail_allocations_in_node: with ample memory: {gives[-200:]!r}, {run.end()}")
             self.parts.append(gives)
         self.status = run.end()[0]
@@ -125,32 +117,25 @@ class Node:
 
     def tried(self, number):
         run = Run(self.given, self.library, self.store(number), number)
-        refused, count = 0, 0
-        for line, wanted in zip(self.lines, self.parts):
+        for count, (line, wanted) in enumerate(zip(self.lines, self.parts)):
             gives, is_whole = run.answer(line)
-            if is_whole and is_refused(gives) and count > 0 and not has_several(line):
-                if gives.count(b"\n") > 1:
-                    return f"WRONG: {gives[:300]!r} in line {count + 1}"
-                refused += 1
-                gives, is_whole = run.answer(line)
-            if not is_whole or (count == 0 and is_refused(gives)):
-                return self.ended(number, run, count, b"" if is_whole else gives, wanted)
+            if not is_whole:
+                return self.ended(number, run, count, gives, wanted)
             if gives != wanted:
                 return f"WRONG: {gives[:300]!r} in line {count + 1}"
-            count += 1
         status, rest, said = run.end()
         fails = said.count(FAILED.strip())
-        if (status, rest, said.replace(FAILED, b"", 1)) == (1 if refused else self.status, b"", b"") and refused <= fails:
-            return "none" if not fails else REFUSED if refused else "whole"
-        if status == 3 and STORE in said and fails == 1 and not refused:
+        if (status, rest, said.replace(FAILED, b"", 1)) == (self.status, b"", b""):
+            return "whole" if fails else "none"
+        if status == 3 and STORE in said and fails == 1:
             return "the keeper could not be closed"
-        return f"WRONG: status {status} behind the last line, {refused} refused, {rest[:200]!r}, {said[:300]!r}"
+        return f"WRONG: status {status} behind the last line, {rest[:200]!r}, {said[:300]!r}"
 
-    def ended_by(self, count):
-        """What ended a run in that line for want of memory of the store."""
+    def ended_by(self, count, said):
+        """What ended a run in that line for want of memory."""
         if count == 0:
             return "no node was made"
-        return SEVERAL if has_several(self.lines[count]) else KEEPER
+        return SEVERAL if has_several(self.lines[count]) else KEEPER if STORE in said else LINE
 
     def ended(self, number, run, count, gives, wanted):
         """What came of a run that ended within a line."""
@@ -158,14 +143,14 @@ class Node:
         gives += rest
         if said.count(FAILED.strip()) != 1:
             return f"WRONG: status {status} in line {count + 1} without a failed allocation, {said[:300]!r}"
-        if status == 3 and STORE in said and not gives:
+        if status == 3 and (STORE in said or MEMORY in said) and not gives:
             if self.given.store and os.path.exists(self.store(number)):
                 left = self.opened_by(self.store(number))
                 ends = (count,) if has_several(self.lines[count]) else (count, count + 1)
                 if left not in map(self.rows_behind, ends):
                     return f"WRONG: {left!r} behind a stop in line {count + 1}"
-            return self.ended_by(count)
-        if status in (1, 2) and (count == 0 or wanted.startswith(gives) or LINE.sub(b"", wanted).startswith(LINE.sub(b"", gives))):
+            return self.ended_by(count, said)
+        if status in (1, 2) and wanted.startswith(gives):
             return "the run ended for want of memory elsewhere"
         return f"WRONG: status {status} in line {count + 1}, {gives[:200]!r}, {said[:300]!r}"
 
@@ -173,7 +158,7 @@ class Node:
 def is_complete(kinds, node):
     """Whether each kind of end was met that the lines can have."""
     behind = node.lines[1:]
-    wanted = [REFUSED, KEEPER] if any(not has_several(line) for line in behind) else []
+    wanted = [LINE, KEEPER] if any(not has_several(line) for line in behind) else []
     wanted += [SEVERAL] if any(map(has_several, behind)) else []
     return all(kinds[kind] for kind in wanted)
 

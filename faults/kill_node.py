@@ -1,32 +1,52 @@
 #!/usr/bin/env python3
-"""Kills `node --store` at moments drawn by chance, starts it again over its store, and feeds it on to the last line.
+"""Kills `node --store`, or what feeds it, at moments drawn by chance, and feeds it on to the last line.
 
     faults/kill_node.py PROGRAM [--runs 50] [--stops 20] [--events 2000] [--most 1] [--seed 1] [--folder FOLDER]
+                        [--transcript] [--old-rule]
 
 PROGRAM is `ocpi_nodes`. For each run the events of two operators and two providers are drawn beside `play`. Those of
 one of them become the lines of `node`, in which a delivery has the packet that its sender wrote in `play`. With --most
 above 1 most lines have several events, at most so many; among them stand some that are malformed, and some that are
-refused. Runs take turns: operator and provider; each line given once the one before has its `done`, and all lines read
-from a file. The program is killed (SIGKILL) as often as --stops says in each run, mostly while it carries out a line,
-at times while it opens its store, or when its input has ended and it closes it. After each stop it is fed on by the
-rule of docs/NODE.md. Then
+refused. Runs take turns: operator and provider; lines fed by a pipe, as far ahead as it has room, and lines read from a
+file. Each run is stopped as often as --stops says, in one of these ways:
 
-- stock SQLite reads a copy of the store, `PRAGMA integrity_check` is ok, and the rows are those before or after the
-  line at which it was stopped, of runs over other stores that end there by themselves;
-- `rows` and `serial` of the next `opened` are those of the store;
-- the packets, and each `done` but for its `line`, are those of one run over a new store that nobody stops, with an
-  event `restart` for each stop: behind the line that it fell in where that was carried out, else before it. A line that
-  was fed again though it had changed rows stands there twice, with the restart between. The last packets of a line that
-  was carried out when it was stopped may be wanting;
-- the rows at the end are those of that run.
+- the node is killed (SIGKILL), and what it had printed is read to the end;
+- the node and its feeder are killed: what the feeder had not read yet it never saw;
+- the feeder is killed, in the middle of a line or not: the input ends, and then nobody reads any more;
+- the node is killed while it opens its store, or when its input has ended and it closes it.
+
+After each stop the node is fed on by the five sentences of docs/NODE.md: the setup line has the number of the last line
+whose `done` was seen. Then
+
+- stock SQLite reads a copy of the store, `PRAGMA integrity_check` is ok, and the rows are those behind the line whose
+  number the store has, of a run over another store that ends there by itself; the number is that run's too;
+- no line that was seen to send or to change something has a higher number;
+- `line`, `rows` and `serial` of the next `opened` are those of the store;
+- lines up to that number are `known`, and no others;
+- the packets of each line, and each `done` but for its `line`, are those of one run over a new store that nobody stops,
+  with an event `restart` for each stop. The last ones may be wanting. What a line gave in a run after which it was
+  fed again is no packet, and no `stepped`;
+- the rows at the end are those of that run, and the number is that of its last line that changed rows.
+
+With --transcript the node keeps a transcript in a file (`node --transcript`). At each stop the file is cut, where the
+last sync of it ended well or somewhere behind that, as a power cut may leave it, and the store is not: so the store may
+have all that the file lost. Then `weave` must read the file, at each stop and at the end, where the run that it makes
+has each event that did something, in its order.
+
+With --old-rule the node is fed ahead all the same, but after a stop by the rule that was right while lines had no
+numbers: of the lines without `done` only the first can have been applied, and it was where it sent something. Then
+only those lines are counted that were seen to send packets in more than one run, and the status is 0 where there are
+some. (PROGRAM may be one from before the numbers: no setup line has one.)
 
 A try of a minute: `--runs 4 --stops 5 --events 200`. Standard error has a line for each run. The last three lines of
-the output tell the stops that passed, where they fell, and what they cost. The status is 0 where all passed.
+the output, or four with --transcript, tell the stops that passed, how they came, and what they cost. The status is 0
+where all passed.
 """
 
 import argparse
 import collections
 import contextlib
+import fcntl
 import json
 import os
 import random
@@ -35,23 +55,23 @@ import sqlite3
 import subprocess
 import sys
 import tempfile
+import threading
 import time
 
-from drawn_lines import draw_lines, in_groups, wide_setup
+from drawn_lines import OTHER_OPERATOR, OTHER_PROVIDER, draw_lines, in_groups, wide_setup
+from kept_transcripts import Transcript, told_of
 from stop_in_store import OPERATOR, PROVIDER, line_of
 
 # Where the stores lie that nobody kills.
 QUICK = "/dev/shm" if os.path.isdir("/dev/shm") else None
 
-BEFORE, INSIDE, AFTER = "before the commit of a line", "in or right behind it", "after its first packet"
-BETWEEN, UNCHANGED = "after its `done`", "in a line that changes no row"
-OPENING, CLOSING = "while the store was opened", "when the input had ended"
-PLACES = (BEFORE, INSIDE, AFTER, BETWEEN, UNCHANGED, OPENING, CLOSING)
+NODE, BOTH, FEEDER = "the node alone", "node and feeder", "the feeder alone"
+OPENING, CLOSING = "the node while it opened its store", "the node while it closed its store"
+WAYS = (NODE, BOTH, FEEDER, OPENING, CLOSING)
 
-
-def is_event_done(line):
-    """Whether that `done` is of one of several events, behind which more of its line comes."""
-    return "event" in json.loads(line)
+# How many bytes a pipe has room for, the command that sets this, and how many bytes are written to it at once.
+ROOMS, SET_ROOM, PIECE = (4096, 16384, 65536), getattr(fcntl, "F_SETPIPE_SZ", 1031), 1000
+NUMBER = ("count", "line")
 
 
 def rows_of(store):
@@ -69,9 +89,14 @@ def rows_of(store):
             return rows, [] if said == [("ok",)] else [f"integrity: {said}"]
 
 
-def serial_of(rows):
-    """The serial of the last packet that the node sent."""
-    return next((json.loads(body)["last"] for kind, name, body in rows if (kind, name) == ("count", "serial")), 0)
+def last_of(rows, name, first):
+    """The number that a counter of the rows has, or the first one where it has none."""
+    return next((json.loads(body)["last"] for kind, it, body in rows if (kind, it) == ("count", name)), first)
+
+
+def of_the_node(rows):
+    """The rows but for the number of the last line that took hold."""
+    return [row for row in rows if row[:2] != NUMBER]
 
 
 def has_open_frames(store):
@@ -88,119 +113,110 @@ def has_open_frames(store):
     return unfinished
 
 
-class Stop:
-    """What was seen when the program had been killed."""
-
-    def __init__(self, feeding, store, place=None):
-        self.at = feeding.done
-        self.given = feeding.given
-        self.seen = bool(feeding.packets) or feeding.cut
-        self.rows, self.wrong = rows_of(store)
-        self.open_frames = has_open_frames(store)
-        self.carried_out = False
-        # Whether the line had changed rows and is fed again.
-        self.is_doubled = False
-        # Of a stop in no line.
-        self.place = place if feeding.is_open else OPENING
+def did_something(said):
+    """Whether that is a packet, or a `done` by which rows changed."""
+    return isinstance(said, bytes) or said["done"] == "stepped"
 
 
-class Feeding:
-    """Lines that are fed to a node. So many of them as `done` says are behind it, and the next may have been given."""
+class Printed:
+    """What a run printed, as far as anybody read it: its `opened`, and what each line gave, by its number."""
 
-    def __init__(self, lines):
-        self.lines = lines
-        self.done, self.given, self.packets, self.cut, self.serial = 0, False, [], False, 0
-        # Of each of the `done` lines its packets, with each `done` of an event, and its own `done` where that came.
-        self.answers = []
-        self.stops, self.open_stops, self.wrong = [], [], []
-        self.is_open = False
+    def __init__(self, base):
+        self.base, self.opened, self.gave = base, None, collections.defaultdict(list)
+        # The line that gives what comes next, those of which something came that changed rows, and what is wrong.
+        self.next, self.changing, self.wrong = base + 1, 0, []
 
-    def take(self, lines):
-        """Takes what the program wrote; a last line without its end was cut."""
-        for line in lines:
-            if not line.endswith(b"\n"):
-                self.cut = line.startswith(b'{"b') or self.is_of_several()
-            elif not line.startswith(b'{"done"'):
-                self.packets.append(line)
-                self.serial = json.loads(line)["serial"]
-            else:
-                self.take_done(json.loads(line))
-
-    def is_of_several(self):
-        """Whether the next line has several events: what comes out of it first is of one of these."""
-        return self.done < len(self.lines) and self.lines[self.done].startswith(b"[")
-
-    def take_done(self, said):
-        del said["line"]
+    def take(self, line):
+        """Takes a line of the output. One without its end was cut."""
+        if not line.endswith(b"\n"):
+            return
+        if not line.startswith(b'{"done"'):
+            self.gave[self.next].append(line)
+            self.changing = self.next
+            return
+        said = json.loads(line)
+        number = said.pop("line")
         if said["done"] == "opened":
-            self.take_opened(said)
+            self.opened = {**said, "line": number}
             return
-        if "event" in said:
-            self.packets.append(said)
-            return
-        self.answers.append((self.packets, said))
-        self.done, self.given, self.packets = self.done + 1, False, []
+        if number != self.next:
+            self.wrong.append(f"a `done` has the number {number} in place of {self.next}")
+        self.gave[self.next].append(said)
+        if said["done"] == "stepped":
+            self.changing = self.next
+        if "event" not in said:
+            self.next += 1
 
-    def take_opened(self, said):
-        """The rule: a line without its `done` was carried out where a packet or the `done` of an event came out, or a
-        serial was given since."""
-        self.is_open = True
-        cut = self.cut and self.is_of_several()
-        carried_out = self.given and (bool(self.packets) or cut or said["serial"] > self.serial)
-        for stop in self.open_stops:
-            stop.carried_out = carried_out
-            if said["rows"] != len(stop.rows) or said["serial"] != serial_of(stop.rows):
-                self.wrong.append(f"line {stop.at}: {said}, and the store has {len(stop.rows)} rows")
-        if carried_out:
-            self.answers.append((self.packets, None))
-            self.done += 1
-        self.open_stops, self.given, self.packets, self.cut, self.serial = [], False, [], False, said["serial"]
-
-    def take_stop(self, store, place=None):
-        """After a kill, and after all that was written has been taken."""
-        stop = Stop(self, store, place)
-        self.stops.append(stop)
-        self.open_stops.append(stop)
+    def seen(self):
+        """The number of the last line whose `done` was read."""
+        return self.next - 1
 
 
 class Node:
-    """A run of `node` over a store."""
+    """A run of `node` over a store, of a file or of a pipe."""
 
-    def __init__(self, given, party, store, source=subprocess.PIPE):
-        words = [given.program, "node", party, "--store", store]
-        self.program = subprocess.Popen(words, stdin=source, stdout=subprocess.PIPE)
+    def __init__(self, given, party, store, source=subprocess.PIPE, transcript=None):
+        words, how = [given.program, "node", party, "--store", store], {"stderr": subprocess.DEVNULL}
+        if transcript:
+            words, how["env"] = words + transcript.words(), transcript.environment()
+        self.program = subprocess.Popen(words, stdin=source, stdout=subprocess.PIPE, **how)
+        self.feeding, self.stopped = None, threading.Event()
 
     def give(self, line):
         self.program.stdin.write(line)
         self.program.stdin.flush()
 
-    def answer(self):
-        """The lines up to the next `done` of a line."""
-        lines = []
-        while not lines or not lines[-1].startswith(b'{"done"') or is_event_done(lines[-1]):
-            lines.append(self.program.stdout.readline())
-            if not lines[-1].endswith(b"\n"):
-                sys.exit(f"kill_node: the program ended by itself with status {self.program.wait()}, after {lines}")
-        return lines
+    def feed_ahead(self, lines, room, ends):
+        """Feeds lines however far the node is behind, by pipes that have so much room. Then the input ends, or not."""
+        for pipe in (self.program.stdin, self.program.stdout):
+            fcntl.fcntl(pipe, SET_ROOM, room)
+        self.feeding = threading.Thread(target=self.feed, args=(b"".join(lines), ends), daemon=True)
+        self.feeding.start()
+
+    def feed(self, text, ends):
+        with contextlib.suppress(BrokenPipeError):
+            for at in range(0, len(text), PIECE):
+                if self.stopped.is_set():
+                    break
+                self.give(text[at:at + PIECE])
+            if not ends:
+                self.stopped.wait()
+        self.end_input()
+
+    def stop_feeding(self):
+        """The feeder feeds no more, also in the middle of a line, and the input ends."""
+        self.stopped.set()
+        if not self.feeding:
+            self.end_input()
+
+    def read(self):
+        """The next line of the output."""
+        line = self.program.stdout.readline()
+        if not line.endswith(b"\n"):
+            sys.exit(f"kill_node: the program ended by itself with status {self.program.wait()}, after {line}")
+        return line
 
     def end_input(self):
         if self.program.stdin:
-            self.program.stdin.close()
+            with contextlib.suppress(BrokenPipeError):
+                self.program.stdin.close()
 
     def kill(self):
         """Kills it, and answers what it had written that was not read yet."""
         self.program.kill()
         rest = self.program.stdout.readlines()
         self.program.wait()
-        if self.program.stdin:
-            with contextlib.suppress(BrokenPipeError):
-                self.program.stdin.close()
+        self.stop_feeding()
         self.program.stdout.close()
         return rest
 
+    def leave(self):
+        """Reads no more, and waits until it has ended."""
+        self.program.stdout.close()
+        self.program.wait()
+
     def end(self):
-        """Ends its input, and answers what it wrote until its end."""
-        self.end_input()
+        """Reads what it writes until it ends, as its input does."""
         rest = self.program.stdout.readlines()
         if self.program.wait() not in (0, 1):
             sys.exit(f"kill_node: the program ended with status {self.program.returncode}")
@@ -214,241 +230,330 @@ def file_with(lines):
     return file
 
 
-class Killer:
-    """Kills a node at moments that are drawn, in the order of its lines."""
+def setup_from(base):
+    """The setup line of a run whose lines are counted on from that number."""
+    return line_of(**json.loads(wide_setup()), line=base)
 
-    def __init__(self, given, draw, party, store, by_file):
+
+class Stop:
+    """What was found when a run had been stopped."""
+
+    def __init__(self, way, store, printed, seen):
+        self.way, self.printed, self.seen = way, printed, seen
+        self.rows, self.wrong = rows_of(store)
+        self.open_frames = has_open_frames(store)
+        self.number = last_of(self.rows, "line", 1)
+        # Up to this line all is behind it: it took hold, or its `done` was seen.
+        self.behind = max(self.number, seen)
+
+
+class Feeder:
+    """Feeds lines by the five sentences. Line n is `lines[n - 2]`."""
+
+    def __init__(self, given, draw, party, store, by_file, transcript=None):
         self.given, self.draw, self.party, self.store, self.by_file = given, draw, party, store, by_file
+        self.transcript = transcript
         lines = draw_lines(given.program, party, given.events, draw)
         if given.most > 1:
             lines = in_groups(lines, party, given.most, draw)
-        self.feeding = Feeding([line for line, _ in lines])
+        self.lines, self.stops = [line for line, _ in lines], []
         self.targets = self.draw_targets([sends for _, sends in lines])
-        self.seconds = 0.002
+        # The last line whose `done` was seen, and the last that was seen to change something.
+        self.seen, self.changing, self.seconds = 1, 1, 0.002
+        # All that each run printed, and what is wrong with that.
+        self.runs, self.wrong = [], []
 
     def draw_targets(self, sends):
-        """The lines at which it is killed: most of them send packets, and so change rows."""
+        """The lines behind which it is stopped: most of them send packets, and so change rows."""
         targets = []
         for k in range(self.given.stops):
             places = range(k * len(sends) // self.given.stops, (k + 1) * len(sends) // self.given.stops)
             sending = [place for place in places[:-1] if sends[place]]
-            targets.append(self.draw.choice(sending if sending and self.draw.random() < 0.9 else places))
+            targets.append(1 + self.draw.choice(sending if sending and self.draw.random() < 0.9 else places))
         return targets
 
-    def pause(self):
-        """At most somewhat more than what a line takes."""
-        time.sleep(self.draw.random() * 1.4 * self.seconds)
+    def pause(self, lines):
+        """At most somewhat more than what so many lines take."""
+        time.sleep(self.draw.random() * lines * 1.4 * self.seconds)
 
-    def took(self, seconds):
-        self.seconds += (seconds - self.seconds) / 20
+    def begin(self, last):
+        """Begins a run behind the last line whose `done` was seen. Of a file all lines are fed up to that one."""
+        printed = Printed(self.seen)
+        self.runs.append(printed)
+        if self.by_file:
+            with file_with([setup_from(self.seen), *self.lines[self.seen - 1:last - 1]]) as source:
+                return Node(self.given, self.party, self.store, source, self.transcript), printed
+        node = Node(self.given, self.party, self.store, transcript=self.transcript)
+        node.give(self.setup_line())
+        return node, printed
 
-    def stop(self, node, place=None):
-        self.feeding.take(node.kill())
-        self.feeding.take_stop(self.store, place)
+    def setup_line(self):
+        return setup_from(self.seen)
 
-    def stop_closing(self, node):
-        """Kills it a little after its input has ended, of which all lines have their `done`."""
-        node.end_input()
-        time.sleep(self.draw.random() * 0.03)
-        self.stop(node, CLOSING)
+    def last_line(self):
+        return len(self.lines) + 1
+
+    def take(self, printed, line):
+        """Sees a line of the output."""
+        printed.take(line)
+        self.seen, self.changing = max(self.seen, printed.seen()), max(self.changing, printed.changing)
+
+    def open(self, node, printed):
+        """Reads what the setup line gave."""
+        self.take(printed, node.read())
+        found = self.stops[-1].rows if self.stops else []
+        wanted = {"done": "opened", "party": self.party, "line": last_of(found, "line", 1),
+                  "rows": len(of_the_node(found)), "serial": last_of(found, "serial", 0)}
+        if printed.opened != wanted:
+            self.wrong.append(f"{printed.opened} in place of {wanted}")
+        if printed.opened["line"] < self.changing:
+            self.wrong.append(f"{printed.opened}, and line {self.changing} was seen to change something")
+
+    def note_stop(self, way, printed):
+        self.stops.append(Stop(way, self.store, printed, self.seen))
+        if self.transcript:
+            self.transcript.cut()
 
     def feed_all(self):
-        """Feeds all lines, and kills the program at each of the targets."""
+        """Feeds all lines, and stops the run behind each of the targets."""
         while self.targets:
-            target, drawn = self.targets.pop(0), self.draw.random()
-            if drawn < 0.1:
+            target = self.targets.pop(0)
+            way = self.draw.choices(WAYS, [30, 30, 20, 10, 10])[0]
+            if way == OPENING:
                 self.stop_opening()
-            elif self.by_file:
-                self.feed_file(target, drawn < 0.2)
             else:
-                self.feed_pipe(target, drawn < 0.2)
-        self.feed_file(None) if self.by_file else self.feed_pipe(None)
+                self.feed_to(target, way)
+        node, printed = self.begin(self.last_line())
+        self.open(node, printed)
+        if not self.by_file:
+            node.feed_ahead(self.lines[self.seen - 1:], ROOMS[-1], True)
+        for line in node.end():
+            self.take(printed, line)
 
     def stop_opening(self):
-        """Starts it without a line behind the setup, and kills it a little later."""
-        node = Node(self.given, self.party, self.store)
-        self.feeding.is_open = False
-        node.give(wide_setup())
+        """Kills the node a little after its setup line was fed."""
+        node, printed = self.begin(self.seen)
         time.sleep(self.draw.random() * 0.02)
-        self.stop(node)
+        for line in node.kill():
+            self.take(printed, line)
+        self.note_stop(OPENING, printed)
 
-    def feed_pipe(self, target, closing=False):
-        """Gives line by line, and kills the program while it carries out the target, or when its input ends before."""
-        feeding, node = self.feeding, Node(self.given, self.party, self.store)
-        feeding.is_open = False
-        node.give(wide_setup())
-        feeding.take(node.answer())
-        while feeding.done < len(feeding.lines):
-            if closing and feeding.done >= target:
-                self.stop_closing(node)
-                return
-            begun = time.perf_counter()
-            node.give(feeding.lines[feeding.done])
-            feeding.given = True
-            if target is not None and feeding.done >= target:
-                self.pause()
-                self.stop(node)
-                return
-            feeding.take(node.answer())
-            self.took(time.perf_counter() - begun)
-        feeding.take(node.end())
+    def feed_to(self, target, way):
+        """Feeds ahead, reads until the target has its `done`, and stops in that way."""
+        target = max(target, self.seen)
+        node, printed = self.begin(target if way == CLOSING else self.last_line())
+        self.open(node, printed)
+        if not self.by_file:
+            last = target if way == CLOSING else self.last_line()
+            node.feed_ahead(self.lines[self.seen - 1:last - 1], self.draw.choice(ROOMS), way == CLOSING)
+        begun, first = time.perf_counter(), self.seen
+        while self.seen < target:
+            self.take(printed, node.read())
+        if self.seen > first:
+            self.seconds += ((time.perf_counter() - begun) / (self.seen - first) - self.seconds) / 4
+        self.stop(node, printed, way)
+        self.note_stop(way, printed)
 
-    def feed_file(self, target, closing=False):
-        """Asks by a run without lines what was carried out. Then gives all other lines in a file, and kills the program
-        when it has gone on a little behind the target; or those before the target, and kills it when they have ended.
-        """
-        feeding = self.feeding
-        feeding.is_open = False
-        with file_with([wide_setup()]) as source:
-            feeding.take(Node(self.given, self.party, self.store, source).end())
-        begun, first = time.perf_counter(), feeding.done
-        last = max(target, first) if closing else len(feeding.lines)
-        with file_with([wide_setup(), *feeding.lines[first:last]]) as source:
-            node = Node(self.given, self.party, self.store, source)
-            feeding.take(node.answer())
-            feeding.given = first < last
-            while target is not None and feeding.done < min(target, last):
-                feeding.take(node.answer())
-                feeding.given = feeding.done < last
-            if feeding.done > first:
-                self.took((time.perf_counter() - begun) / (feeding.done - first))
-            if target is None:
-                feeding.take(node.end())
-            elif closing:
-                self.stop_closing(node)
-            else:
-                self.pause()
-                feeding.take(node.kill())
-                feeding.given = feeding.done < last
-                feeding.take_stop(self.store)
+    def stop(self, node, printed, way):
+        """Stops a run that has been read so far."""
+        ahead = len(self.lines) / self.given.stops / 2
+        if way in (NODE, CLOSING):
+            self.pause(1) if way == NODE else time.sleep(self.draw.random() * 0.03)
+            for line in node.kill():
+                self.take(printed, line)
+        elif way == BOTH:
+            self.pause(ahead * self.draw.random())
+            for line in node.kill():
+                printed.take(line)
+        else:
+            node.stop_feeding()
+            self.pause(ahead * self.draw.random())
+            node.leave()
+
+
+class OldFeeder(Feeder):
+    """Feeds lines ahead, and after a stop by the rule for lines without numbers."""
+
+    def __init__(self, given, draw, party, store):
+        super().__init__(given, draw, party, store, False)
+        # The last serial that was seen, and whether something was of the first line without `done`.
+        self.serial, self.is_applied = 0, False
+
+    def setup_line(self):
+        return wide_setup()
+
+    def take(self, printed, line):
+        super().take(printed, line)
+        if line.endswith(b"\n") and not line.startswith(b'{"done"'):
+            self.serial = json.loads(line)["serial"]
+        of_several = self.seen < self.last_line() and self.lines[self.seen - 1].startswith(b"[")
+        self.is_applied = bool(printed.gave[self.seen + 1]) or of_several and not line.endswith(b"\n")
+
+    def open(self, node, printed):
+        opened = json.loads(node.read())
+        if self.seen < self.last_line() and (self.is_applied or opened["serial"] > self.serial):
+            self.seen += 1
+        printed.base, printed.next = self.seen, self.seen + 1
+        self.serial, self.is_applied = opened["serial"], False
 
 
 def run_to_end(given, party, store, lines):
     """What a run of these lines writes that nobody stops."""
-    with file_with([wide_setup(), *lines]) as source:
+    with file_with(lines) as source:
         return Node(given, party, store, source).end()
 
 
-def copy_of(store, name):
-    """A copy of a store that no program has open, in its folder."""
-    copy = os.path.join(os.path.dirname(store), name)
-    for end in ("", "-wal"):
-        if os.path.exists(copy + end):
-            os.remove(copy + end)
-        if os.path.exists(store + end):
-            shutil.copy(store + end, copy + end)
-    return copy
+def look_at_stops(given, party, feeder, room):
+    """What is wrong with the rows and the number at each stop, by runs over another store that end there."""
+    wrong, store, behind = [], os.path.join(room, "whole.db"), 1
+    rows = []
+    for place, stop in enumerate(feeder.stops):
+        wrong += [f"stop {place}: {it}" for it in stop.wrong]
+        if stop.number > behind:
+            run_to_end(given, party, store, [setup_from(behind), *feeder.lines[behind - 1:stop.number - 1]])
+            rows = rows_of(store)[0]
+        if stop.rows != rows:
+            wrong.append(f"stop {place}, {stop.way}: these are not the rows behind line {stop.number} with its number")
+        if stop.printed.changing > stop.number:
+            wrong.append(f"stop {place}: line {stop.printed.changing} did something, and {stop.number} is kept")
+        wrong += [f"stop {place}: {it}" for it in stop.printed.wrong]
+        behind = stop.behind
+    return wrong
 
 
-def place_of(stop, before, after):
-    """Where a stop fell, by the rows of the store, which are those before its line or those after it. Where a commit
-    stands and nothing of its line came out, the stop fell in its end or right behind it."""
-    if not stop.given:
-        return BETWEEN
-    if before == after:
-        return UNCHANGED
-    if stop.rows == before:
-        return INSIDE if stop.open_frames else BEFORE
-    return AFTER if stop.seen else INSIDE
+def run_whole(given, party, feeder, room):
+    """What one run that nobody stops gives for each line, by its number here, and its rows; with a restart for each
+    stop, behind the lines that are behind it."""
+    restart, lines, places = line_of(event="restart", node=party), [], {}
+    stops = collections.Counter(stop.behind for stop in feeder.stops)
+    for number in range(1, feeder.last_line() + 1):
+        if number > 1:
+            places[number] = len(lines) + 2
+            lines.append(feeder.lines[number - 2])
+        lines += [restart] * stops[number]
+    store, printed = os.path.join(room, "other.db"), Printed(1)
+    for line in run_to_end(given, party, store, [wide_setup(), *lines]):
+        printed.take(line)
+    return {number: printed.gave[place] for number, place in places.items()}, rows_of(store)[0]
 
 
-def look_at_stops(given, party, feeding, room):
-    """Where each stop fell, and what is wrong, by runs over other stores that end at each of them."""
-    places, wrong, base, first = [], [], os.path.join(room, "base.db"), 0
-    last_rows = []
-    for stop in feeding.stops:
-        wrong += [f"line {stop.at}: {it}" for it in stop.wrong]
-        if stop.place == OPENING:
-            places.append(OPENING)
-            if stop.rows != last_rows:
-                wrong.append(f"line {stop.at}: the rows changed while the store was opened")
-            continue
-        rows, stores = [], []
-        for name, end in (("before.db", stop.at), ("after.db", stop.at + stop.given)):
-            store = copy_of(base, name)
-            run_to_end(given, party, store, feeding.lines[first:end])
-            rows.append(rows_of(store)[0])
-            stores.append(store)
-        stop.is_doubled = not stop.carried_out and stop.rows == rows[1] != rows[0]
-        if stop.rows in rows:
-            places.append(stop.place or place_of(stop, *rows))
-        else:
-            wrong.append(f"line {stop.at}: the rows are neither those before the line nor those after it")
-        base = copy_of(stores[stop.carried_out or stop.is_doubled], "base.db")
-        first, last_rows = stop.at + stop.carried_out, stop.rows
-    return places, wrong
+def look_at_answers(feeder, whole):
+    """What differs from one run that nobody stops; how many lines were `known`, and how many packets nobody saw."""
+    wrong, known, packets = [], 0, sum(isinstance(it, bytes) for gave in whole.values() for it in gave)
+    behind = [stop.behind for stop in feeder.stops] + [feeder.last_line()]
+    numbers, first = [1] + [stop.number for stop in feeder.stops], 1
+    for printed, number, last in zip(feeder.runs, numbers, behind):
+        for at, gave in printed.gave.items():
+            if at <= number:
+                known += 1
+                is_right = gave == [{"done": "known"}]
+            elif at <= last:
+                is_right = at > first and gave == whole[at][:len(gave)]
+                packets -= sum(isinstance(it, bytes) for it in gave)
+            else:
+                is_right = not any(map(did_something, gave))
+            if not is_right:
+                wrong.append(f"line {at}: it was answered {gave} in place of {whole[at]}, and {number} was kept before")
+        first = last
+    return wrong, known, packets
 
 
-def with_restarts(party, feeding):
-    """The lines with a restart for each stop, those that were carried out twice too; of each its place among them."""
-    restart, lines, places = line_of(event="restart", node=party), [], []
-    stops = collections.defaultdict(list)
-    for stop in feeding.stops:
-        stops[stop.at + stop.carried_out].append(stop)
-    for at, line in enumerate(feeding.lines):
-        for stop in stops[at]:
-            lines += [line, restart] if stop.is_doubled else [restart]
-        places.append(len(lines))
-        lines.append(line)
-    return lines + [restart] * len(stops[len(feeding.lines)]), places
+def events_that_did(feeder, whole):
+    """The events that changed something or sent packets, in their order."""
+    events = []
+    for number, gave in whole.items():
+        read = json.loads(feeder.lines[number - 2]) if any(map(did_something, gave)) else None
+        events += [read[said["event"]] if "event" in said else read
+                   for said in gave if isinstance(said, dict) and said["done"] == "stepped"]
+    return events
 
 
-def look_at_answers(given, party, feeding, room):
-    """What differs from one run that nobody stops; how many packets were never written, how many lines were fed again;
-    and the rows at the end of that run."""
-    store = os.path.join(room, "whole.db")
-    lines, places = with_restarts(party, feeding)
-    whole = Feeding(lines)
-    whole.take(run_to_end(given, party, store, lines))
-    wrong, lost = [], 0
-    again = {stop.at for stop in feeding.stops if stop.given and not stop.carried_out}
-    for at, (place, (packets, said)) in enumerate(zip(places, feeding.answers)):
-        wanted, wanted_said = whole.answers[place]
-        if said is None:
-            lost += sum(isinstance(it, bytes) for it in wanted[len(packets):])
-            wanted, wanted_said = wanted[:len(packets)], None
-        if packets != wanted or said != wanted_said:
-            wrong.append(f"line {at}: it was answered {packets} {said} in place of {wanted} {wanted_said}")
-    if len(feeding.answers) != len(feeding.lines):
-        wrong.append(f"{len(feeding.answers)} lines were carried out, of {len(feeding.lines)}")
-    return wrong, lost, len(again), rows_of(store)[0]
+def look_at(given, party, feeder, room):
+    """What is wrong with a run, and what it cost."""
+    whole, rows = run_whole(given, party, feeder, room)
+    differs, known, packets = look_at_answers(feeder, whole)
+    wrong = feeder.wrong + look_at_stops(given, party, feeder, room) + differs
+    if feeder.transcript:
+        feeder.transcript.end(events_that_did(feeder, whole))
+        wrong += feeder.transcript.wrong
+    found, said = rows_of(feeder.store)
+    if of_the_node(found) != of_the_node(rows) or said:
+        wrong.append(f"{said}the rows at the end are not those of the run that nobody stopped")
+    changing = max([number for number, gave in whole.items() if any(map(did_something, gave))], default=1)
+    if last_of(found, "line", 1) != changing or feeder.seen != feeder.last_line():
+        wrong.append(f"line {changing} is the last that changed rows; the last seen is {feeder.seen}")
+    return wrong, known, packets
+
+
+def done_twice(feeder):
+    """How many lines were seen to send packets in more than one run."""
+    runs = collections.Counter(number for printed in feeder.runs for number, gave in printed.gave.items()
+                               if any(isinstance(it, bytes) for it in gave))
+    return sum(count > 1 for count in runs.values())
+
+
+def options():
+    words = argparse.ArgumentParser(description=__doc__.split("\n", maxsplit=1)[0])
+    words.add_argument("program")
+    words.add_argument("--runs", type=int, default=50)
+    words.add_argument("--stops", type=int, default=20, help="how often each run is stopped")
+    words.add_argument("--events", type=int, default=2000)
+    words.add_argument("--most", type=int, default=1, help="how many events a line has at most")
+    words.add_argument("--seed", type=int, default=1)
+    words.add_argument("--folder", help="where the stores lie that are killed (its disk is the one that is tried)")
+    words.add_argument("--transcript", action="store_true", help="keep transcripts in files, and cut them at each stop")
+    words.add_argument("--old-rule", action="store_true", help="feed on by the rule for lines without numbers")
+    given = words.parse_args()
+    given.program = os.path.abspath(given.program)
+    return given
+
+
+def try_old_rule(given, draw):
+    """Counts the lines that are done twice by the rule for lines without numbers."""
+    twice, lines, runs = 0, 0, 0
+    for number in range(given.runs):
+        with tempfile.TemporaryDirectory(dir=given.folder) as killed:
+            feeder = OldFeeder(given, draw, (OPERATOR, PROVIDER)[number % 2], os.path.join(killed, "node.db"))
+            feeder.feed_all()
+        here = done_twice(feeder)
+        print(f"run {number + 1}, {feeder.party}: {len(feeder.stops)} stops, {here} lines twice", file=sys.stderr)
+        twice, lines, runs = twice + here, lines + len(feeder.lines), runs + (here > 0)
+    print(f"{twice} of {lines} lines sent packets twice, in {runs} of {given.runs} runs")
+    return 0 if twice else 1
 
 
 def main():
-    options = argparse.ArgumentParser(description=__doc__.split("\n", maxsplit=1)[0])
-    options.add_argument("program")
-    options.add_argument("--runs", type=int, default=50)
-    options.add_argument("--stops", type=int, default=20, help="how often each run is stopped")
-    options.add_argument("--events", type=int, default=2000)
-    options.add_argument("--most", type=int, default=1, help="how many events a line has at most")
-    options.add_argument("--seed", type=int, default=1)
-    options.add_argument("--folder", help="where the stores lie that are killed (its disk is the one that is tried)")
-    given = options.parse_args()
-    given.program = os.path.abspath(given.program)
+    given = options()
     draw = random.Random(given.seed)
-    fell, stops, passed, lost, again = collections.Counter(), 0, 0, 0, 0
+    if given.old_rule:
+        return try_old_rule(given, draw)
+    stops, passed, known, lost, transcripts = [], 0, 0, 0, []
     for number in range(given.runs):
         party, by_file = (OPERATOR, PROVIDER)[number % 2], number % 4 >= 2
-        name = f"run {number + 1}, {party}, {'from a file' if by_file else 'line by line'}"
+        name = f"run {number + 1}, {party}, {'from a file' if by_file else 'by a pipe'}"
         with tempfile.TemporaryDirectory(dir=given.folder) as killed, tempfile.TemporaryDirectory(dir=QUICK) as room:
-            store = os.path.join(killed, "node.db")
-            killer = Killer(given, draw, party, store, by_file)
-            killer.feed_all()
-            places, wrong = look_at_stops(given, party, killer.feeding, room)
-            differs, lost_here, again_here, rows = look_at_answers(given, party, killer.feeding, room)
-            wrong += killer.feeding.wrong + differs
-            if rows_of(store) != (rows, []):
-                wrong.append("the rows at the end are not those of the run that nobody stopped")
+            others = [it for it in (OPERATOR, PROVIDER, OTHER_OPERATOR, OTHER_PROVIDER) if it != party]
+            kept = Transcript(given.program, killed, others, given.seed + number) if given.transcript else None
+            feeder = Feeder(given, draw, party, os.path.join(killed, "node.db"), by_file, kept)
+            feeder.feed_all()
+            wrong, known_here, lost_here = look_at(given, party, feeder, room)
         for it in wrong[:5]:
             print(f"{name}: {it[:600]}", flush=True)
-        print(f"{name}: {len(killer.feeding.stops)} stops, {len(wrong)} wrong", file=sys.stderr, flush=True)
-        fell.update(places)
-        stops, lost, again = stops + len(killer.feeding.stops), lost + lost_here, again + again_here
-        passed += 0 if wrong else len(killer.feeding.stops)
-    print(f"{passed} of {stops} stops, in {given.runs} runs of {given.events} events, at most {given.most} a line, were as wanted")
-    print("They fell " + ", ".join(f"{fell[it]} {it}" for it in PLACES))
-    print(f"{again} lines were fed again, and {lost} packets were never written")
-    return 0 if passed == stops == given.runs * given.stops else 1
+        print(f"{name}: {len(feeder.stops)} stops, {len(wrong)} wrong", file=sys.stderr, flush=True)
+        stops, known, lost = stops + feeder.stops, known + known_here, lost + lost_here
+        transcripts += [kept] if kept else []
+        passed += 0 if wrong else len(feeder.stops)
+    ways = collections.Counter(stop.way for stop in stops)
+    unseen = [stop.number - stop.seen for stop in stops if stop.number > stop.seen]
+    print(f"{passed} of {len(stops)} stops were as wanted, in {given.runs} runs of {given.events} events, "
+          f"at most {given.most} a line")
+    print("They stopped " + ", ".join(f"{ways[way]} {way}" for way in WAYS)
+          + f"; {sum(stop.open_frames for stop in stops)} fell in a commit")
+    print(f"{sum(unseen)} lines took hold unseen, in {len(unseen)} stops; {known} were fed again as `known`, "
+          f"and {lost} packets never seen")
+    if given.transcript:
+        print(told_of(transcripts))
+    return 0 if passed == len(stops) == given.runs * given.stops else 1
 
 
 if __name__ == "__main__":

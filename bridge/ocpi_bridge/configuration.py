@@ -157,6 +157,8 @@ def read_configuration(path: Path, is_restored: bool = False, takes_new_state: b
     state = _file(folder, file["state"], "state")
     _, setup = _read_file(files["setup"], "node.setup")
     sites = _sites(setup)
+    # Where the numbers of lines begin the feeder says.
+    setup.pop("line", None)
     party = spelled(file["node"]["party"], sites) or refuse("node.party", "not in the setup")
     site = sites[party]
     if not os.access(files["program"], os.X_OK):

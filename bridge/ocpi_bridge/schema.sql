@@ -1,8 +1,11 @@
--- What a bridge keeps, at version 1. Each group of tables has a class that alone reads and changes it. A table that is
+-- What a bridge keeps, at version 2. Each group of tables has a class that alone reads and changes it. A table that is
 -- new needs no other version. What changes one of these does: then migrations/ has the way from the version before.
 
 -- Single values under names that are fixed.
 CREATE TABLE IF NOT EXISTS value_of (name TEXT PRIMARY KEY, value TEXT NOT NULL);
+
+-- node/kept.py (a line of a bridge of before has the number 0)
+CREATE TABLE IF NOT EXISTS line_kept (number INTEGER PRIMARY KEY, text TEXT NOT NULL);
 
 -- ocpi/requests.py: Requests (moments are seconds since 1970)
 CREATE TABLE IF NOT EXISTS request_digest (

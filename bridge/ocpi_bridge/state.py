@@ -18,7 +18,7 @@ from .room import Room, has_room
 
 Result = TypeVar("Result")
 FOLDER = Path(__file__).parent
-VERSION = 1
+VERSION = 2
 # After how many changes the log is copied into the file.
 CHANGES_IN_LOG = 500
 # 2020 in seconds since 1970: from then on the numbers of transactions are counted that begin anew.

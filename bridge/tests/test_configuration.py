@@ -61,6 +61,10 @@ class ConfigurationTest(unittest.TestCase):
             self.read(*changes)
         self.assertEqual(refusal, str(caught.exception))
 
+    def test_a_setup_does_not_say_where_numbers_of_lines_begin(self) -> None:
+        (self.folder / "setup.json").write_text(json.dumps(SETUP | {"line": 7}))
+        self.assertEqual(SETUP, json.loads(self.read().node.setup_line))
+
     def test_names_are_spelled_as_in_the_setup_and_paths_are_relative_to_the_file(self) -> None:
         configuration = self.read(("node/transcript", "be.transcript"), ("clock_factor", 20))
         self.assertEqual("BE/BEC", configuration.node.party)

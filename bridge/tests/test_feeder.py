@@ -52,6 +52,14 @@ def charge_of_a_car() -> list[Event]:
             event("meter", 4, evse_uid="E1", kwh=2.5), event("stops", 5, evse_uid="E1")]
 
 
+def tokens(*uids: str) -> list[Event]:
+    """Deliveries of tokens."""
+    packets: list[PacketLine] = [
+        {"from": "NL/TNM", "to": "BE/BEC", "serial": number, "request": number, "kind": "put_token",
+         "body": cast(Body, {**TOKEN, "uid": uid})} for number, uid in enumerate(uids, 1)]
+    return [{"event": "deliver", "node": "BE/BEC", "at": moment_of(time.time()), "packet": it} for it in packets]
+
+
 class Running:
     """A feeder over a folder, which can be begun again there, as a bridge that starts anew."""
 
@@ -61,18 +69,18 @@ class Running:
             program.write_text(text)
             program.chmod(0o755)
         self.settings = NodeSettings(program, party, SETUP, folder / "node.db", folder / "node.transcript")
-        self.folder, self.factor = folder, factor
+        self.folder, self.factor, self.is_restored = folder, factor, False
         self.noted: list[Outcome] = []
         self.metrics = Metrics()
         self.begin()
 
     def begin(self) -> None:
         """Starts a feeder over the state that stands there."""
-        self.state = State(self.folder / "state.db")
+        self.state = State(self.folder / "state.db", self.is_restored)
+        self.opened = asyncio.Event()
         events = Events(self.settings.party, Clock(self.factor))
         self.feeder = RevocableFeeder(self.settings, events, self.state, self.metrics)
         self.feeder.before_commit.append(self.noted.append)
-        self.opened = asyncio.Event()
         self.feeder.after_opening.append(self.opened.set)
         self.task = asyncio.create_task(self.feeder.run())
 
@@ -92,6 +100,18 @@ class Running:
 
 async def within(awaited: Awaitable[T]) -> T:
     return await asyncio.wait_for(awaited, 60)
+
+
+def settled(running: Running) -> str:
+    """What the store of a node that has ended says is owed."""
+    return subprocess.run([PROGRAM, "settle", running.settings.store], capture_output=True, text=True,
+                          timeout=60).stdout
+
+
+def woven(running: Running) -> int:
+    """The status of `weave` over the transcript."""
+    return subprocess.run([PROGRAM, "weave", "--given", "NL/TNM", running.folder / "node.transcript"],
+                          stdout=subprocess.DEVNULL, timeout=60).returncode
 
 
 class FeederCase(unittest.IsolatedAsyncioTestCase):
@@ -131,9 +151,8 @@ class StopTest(FeederCase):
         self.assertEqual(0, await running.end())
         noted = [json.dumps(outcome.event) for outcome in running.noted if outcome.event["event"] != "tick"]
         self.assertEqual(len(set(noted)), len(noted), "an outcome was told twice")
-        settled = subprocess.run([PROGRAM, "settle", running.settings.store], capture_output=True, text=True,
-                                 timeout=60)
-        return seen, settled.stdout
+        self.assertEqual(0, woven(running), "the transcript is none")
+        return seen, settled(running)
 
     async def test_no_stop_loses_a_line_or_has_it_done_twice(self) -> None:
         seen = {("before", "node"): "stepped", ("silent", "node"): "OutcomeLost", ("begun", "node"): "OutcomeLost",
@@ -239,36 +258,23 @@ class ProgramTest(FeederCase):
 class SeveralTest(FeederCase):
     """Several events in one line: those that wait at once."""
 
-    def tokens(self, *uids: str) -> list[Event]:
-        """Deliveries of tokens."""
-        packets: list[PacketLine] = [
-            {"from": "NL/TNM", "to": "BE/BEC", "serial": number, "request": number, "kind": "put_token",
-             "body": cast(Body, {**TOKEN, "uid": uid})} for number, uid in enumerate(uids, 1)]
-        return [{"event": "deliver", "node": "BE/BEC", "at": moment_of(time.time()), "packet": it} for it in packets]
-
-    def services(self) -> list[Event]:
-        """Two events that send nothing."""
-        return [{"event": "service", "node": "BE/BEC", "evse_uid": "E1", "in_service": it} for it in (False, True)]
-
     def fed(self, running: Running) -> list[list[Members]]:
         """The events of each line that the program got, without ticks."""
-        lines = [json.loads(line) for line in (running.folder / "node.transcript").read_text().splitlines()]
+        lines = [json.loads(line) for line in (running.folder / "node.transcript").read_text().split("\n") if line]
         events = [[event for event in (line if isinstance(line, list) else [line])
                    if event.get("event", "tick") != "tick" and "done" not in event] for line in lines]
         return [line for line in events if line]
 
-    async def carry_out(self, events: list[Event], stop: str = "") -> tuple[Running, list[str]]:
-        """Feeds events at once, and may stop the node at a point of their line. Gives what became of each."""
-        running = Running(self.folder(), STOPPING)
+    async def carry_out(self, events: list[Event]) -> tuple[Running, list[str]]:
+        """Feeds events at once. Gives what became of each."""
+        running = Running(self.folder(), PROGRAM)
         await within(running.opened.wait())
-        if stop:
-            (running.folder / "node.db.stop").write_text(f"{stop} node")
         ended = await within(asyncio.gather(*map(running.feeder.feed, events), return_exceptions=True))
         await running.end()
         return running, [outcome.word if isinstance(outcome, Outcome) else type(outcome).__name__ for outcome in ended]
 
     async def test_what_waits_goes_in_lines_of_at_most_256_events_in_their_order(self) -> None:
-        events = self.tokens(*(f"T{number}" for number in range(300)))
+        events = tokens(*(f"T{number}" for number in range(300)))
         running, words = await self.carry_out(events)
         self.assertEqual(["stepped"] * 300, words)
         fed = self.fed(running)
@@ -279,21 +285,13 @@ class SeveralTest(FeederCase):
         self.assertEqual(list(range(1, 301)), packets)
 
     async def test_an_event_that_spoils_its_line_is_found_and_no_other_suffers(self) -> None:
-        _, words = await self.carry_out(self.tokens("T1", "T2", "\x01", "T4"))
+        _, words = await self.carry_out(tokens("T1", "T2", "\x01", "T4"))
         self.assertEqual(["stepped", "stepped", "malformed", "stepped"], words)
 
     async def test_a_malformed_and_a_refused_event_do_nothing_to_the_others(self) -> None:
-        events = self.tokens("T1", "T2", "T3", "T4")
+        events = tokens("T1", "T2", "T3", "T4")
         del events[1]["at"]
         events[2]["packet"]["from"] = "AT/XXX"
         running, words = await self.carry_out(events)
         self.assertEqual(["stepped", "malformed", "refused", "stepped"], words)
         self.assertEqual([events], self.fed(running))
-
-    async def test_a_line_is_fed_again_as_a_whole_or_not_at_all(self) -> None:
-        points = {"before": True, "silent": False, "torn": False, "begun": False, "cut": False}
-        for events, again in ((self.tokens("T1", "T2", "T3"), points), (self.services(), {**points, "silent": True})):
-            for point, is_fed_again in again.items():
-                running, words = await self.carry_out(events, point)
-                self.assertEqual(["stepped" if is_fed_again else "OutcomeLost"] * len(events), words, point)
-                self.assertEqual([events] * (2 if is_fed_again else 1), self.fed(running), point)

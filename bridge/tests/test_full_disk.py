@@ -9,12 +9,8 @@ from pathlib import Path
 from unittest import mock
 
 from ocpi_bridge import room
-from ocpi_bridge.clock import Clock
-from ocpi_bridge.configuration import NodeSettings
-from ocpi_bridge.events import Events, Outcome
-from ocpi_bridge.metrics import Metrics
+from ocpi_bridge.events import Outcome
 from ocpi_bridge.node.feeder import OutcomeLost
-from ocpi_bridge.node.revocable import RevocableFeeder
 from ocpi_bridge.room import NoRoom, when_there_is_room
 from ocpi_bridge.state import State
 
@@ -22,7 +18,7 @@ from .cases import OperatorCase
 from .ocpi_objects import start_session, token
 from .ocpi_party import OcpiParty, now
 from .running import PROGRAM, RunningBridge, eventually
-from .test_feeder import SETUP, FeederCase, charge_of_a_car, within
+from .test_feeder import FeederCase, Running, charge_of_a_car, within, woven
 
 DISK = "size=8m"
 
@@ -106,40 +102,36 @@ class FullDiskOfTranscript(FullDisk):
 
 
 class SettlingWithoutRoom(FeederCase):
-    """The state has no room for what came of a line, when the next one was taken off those that wait."""
+    """The state has no room for what came of a line."""
 
-    async def test_that_is_lost_and_the_next_line_is_fed_once(self) -> None:
-        folder, opened, fails = self.folder(), asyncio.Event(), [True]
-        state = State(folder / "state.db")
-        self.addCleanup(state.close)
-        settings = NodeSettings(PROGRAM, "BE/BEC", SETUP, folder / "node.db", folder / "node.transcript")
-        feeder = RevocableFeeder(settings, Events("BE/BEC", Clock()), state, Metrics())
-        feeder.after_opening.append(opened.set)
-        first, second = charge_of_a_car()[:2]
+    async def test_that_is_lost_and_no_line_is_carried_out_twice(self) -> None:
+        running, fails = Running(self.folder(), PROGRAM), [True]
+        await within(running.opened.wait())
+        state, (first, second) = running.state, charge_of_a_car()[:2]
         keep = state.set_value
 
         def set_value(name: str, value: str) -> None:
-            if name == "node.line" and '"start_session"' in value and fails:
-                fails.clear()
-                raise state.room.lacks("state", folder / "state.db")
             keep(name, value)
+            # (The tick of the opening was line 2.)
+            if (name, value) == ("node.number", "3") and fails:
+                fails.clear()
+                raise state.room.lacks("state", running.folder / "state.db")
 
         with mock.patch.object(state, "set_value", set_value):
-            running = asyncio.create_task(feeder.run())
-            await within(opened.wait())
-            feeding = [asyncio.create_task(feeder.feed(first))]
-            while not any("put_token" in waiting.text for waiting in (feeder._line.waiting if feeder._line else ())):
+            feeding = [asyncio.create_task(running.feeder.feed(first))]
+            while fails:
                 await asyncio.sleep(0)
-            feeding.append(asyncio.create_task(feeder.feed(second)))
+            feeding.append(asyncio.create_task(running.feeder.feed(second)))
             lost, outcome = await within(asyncio.gather(*feeding, return_exceptions=True))
         self.assertIsInstance(lost, OutcomeLost)
         assert isinstance(outcome, Outcome)
         self.assertEqual("stepped", outcome.word)
-        await feeder.stop()
-        await within(running)
-        lines = (folder / "node.transcript").read_text().splitlines()
-        for kind in ("put_token", "start_session"):
-            self.assertEqual(1, len([line for line in lines if '"event":"deliver"' in line and f'"{kind}"' in line]))
+        self.assertEqual(0, await running.end())
+        lines = (running.folder / "node.transcript").read_text().splitlines()
+        for line, times in (('{"done":"stepped","line":3,"packets":1}', 1), ('{"done":"known","line":3}', 1)):
+            self.assertEqual(times, lines.count(line))
+        self.assertEqual(1, len([line for line in lines if '"event":"deliver"' in line and '"start_session"' in line]))
+        self.assertEqual(0, woven(running))
 
 
 class StateRoom(unittest.IsolatedAsyncioTestCase):

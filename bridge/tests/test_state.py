@@ -119,9 +119,9 @@ class FilesOfBefore(unittest.TestCase):
 
     def test_a_file_of_a_later_bridge_is_refused(self) -> None:
         state = self.opened("new.db")
-        state.query("PRAGMA user_version = 2")
+        state.query("PRAGMA user_version = 3")
         state.close()
-        with self.assertRaisesRegex(WrongState, "a later bridge made this file: its version is 2"):
+        with self.assertRaisesRegex(WrongState, "a later bridge made this file: its version is 3"):
             State(self.folder / "new.db")
 
     def test_what_is_settled_for_30_days_goes(self) -> None:
@@ -175,8 +175,7 @@ class SlowDisk(unittest.IsolatedAsyncioTestCase):
         with mock.patch.object(os, "fdatasync", sync_slowly):
             began = time.monotonic()
             self.assertEqual("stepped", (await within(feeder.feed(charge_of_a_car()[0]))).word)
-            # The state and the transcript.
-            self.assertGreater(time.monotonic() - began, 5.9)
+            self.assertGreater(time.monotonic() - began, 2.9)
         watching.cancel()
         self.assertLess(longest, 1.5)
         await feeder.stop()

@@ -1,10 +1,9 @@
-"""Feeds a node, a line at a time with all that waits, so that no stop of the node or of the bridge loses an event or
-has it done twice.
+"""Feeds a node, a few lines ahead of its answers, so that no stop of the node or of the bridge loses an event or has it
+done twice.
 
-Each line, but a tick, is kept in `state` until its `done` came, with the serial of the last packet that was seen by
-then. After a stop a kept line is fed again, but where a packet of it came out or the node's serial has risen: then it
-was carried out, and what it gave is lost, as links lose packets. A line of several events was carried out as a whole,
-or not at all: whatever came out of it, even cut, tells that it was.
+Each line has a number, and is kept in `state` until its `done` came. After a stop those that are kept are fed again
+under their numbers: of one that had taken hold the node says that it is known, and what it gave is lost, as links lose
+packets.
 """
 import asyncio
 import logging
@@ -21,8 +20,9 @@ from ..json_text import write_json
 from ..metrics import Metrics
 from ..records import Event
 from ..state import State
-from .child import Child, ChildEnded
-from .lines import Line, Waiting, kept_line, next_line
+from .child import Child, ChildEnded, TranscriptLocked
+from .kept import Kept
+from .lines import Line, Waiting, next_line
 
 LOG = logging.getLogger("node")
 Result = TypeVar("Result")
@@ -30,6 +30,8 @@ Listener = Callable[[Outcome], None]
 # How long a store is waited for that the node of a killed bridge still has: seconds of real time, until each new try.
 LOCKED_DELAYS = (0.1, 0.2, 0.4, 0.8, 1.5, 2.0, 2.0, 3.0)
 LONGEST_DELAY = 30.0
+# How many lines may be under way. The more there are the fewer events share a line, which is one commit.
+MOST_LINES = 4
 
 
 class OutcomeLost(Exception):
@@ -63,12 +65,14 @@ class Feeder:
         self.after_opening: list[Callable[[], None]] = []
         self._settings, self._events, self._state, self._metrics = settings, events, state, metrics
         self._queue: deque[Waiting] = deque()
-        self._line, self._serial = kept_line(state.value("node.line")), int(state.value("node.serial") or "0")
+        self._kept = Kept(state)
         self._lost: list[Waiting] = []
         self._woken, self._stopping = asyncio.Event(), asyncio.Event()
         # Held while the node runs, and how many wait until it does not.
         self._running, self._closing = asyncio.Lock(), 0
-        self._has_ended = False
+        self._has_ended = self._found_lock = False
+        # The file that the node could not write for want of room.
+        self._lacks: str | None = None
         self._delay = 0.0
         self.is_open = False
         # When a tick was answered last, as time.monotonic tells it.
@@ -87,7 +91,7 @@ class Feeder:
         return await outcome
 
     async def stop(self) -> None:
-        """Ends the node behind the line in flight; `run` then returns."""
+        """Ends the node behind the lines that are under way; `run` then returns."""
         self._stopping.set()
         self._woken.set()
 
@@ -114,7 +118,8 @@ class Feeder:
         finally:
             ticks.cancel()
             self._has_ended = True
-            for waiting in (*(self._line.waiting if self._line else ()), *self._lost, *self._queue):
+            under_way = [waiting for line in self._kept.lines for waiting in line.waiting]
+            for waiting in (*under_way, *self._lost, *self._queue):
                 waiting.fail(NodeEnded())
         return status
 
@@ -132,9 +137,11 @@ class Feeder:
         """
         locked_delays = iter(LOCKED_DELAYS)
         while not self._stopping.is_set():
-            child = await Child.start(self._settings, self._state.value("node.was_opened") is not None)
-            status = await self._run_once(child)
-            if status == 3 and child.found_lock and (delay := next(locked_delays, None)):
+            if not self._kept.next_number:
+                # Another bridge may have been ending until the node could be opened.
+                self._kept = Kept(self._state)
+            status = await self._run_once()
+            if status == 3 and self._found_lock and (delay := next(locked_delays, None)):
                 await asyncio.sleep(delay)
             elif status in (2, 3) or (self._closing and status in (0, 1)):
                 break
@@ -147,34 +154,37 @@ class Feeder:
                 self._delay = min(max(1.0, 2 * self._delay), LONGEST_DELAY)
         return status
 
-    async def _run_once(self, child: Child) -> int:
-        """Opens the node, and feeds it until it ends or has to. Gives its status."""
+    async def _run_once(self) -> int:
+        """Starts the node, and feeds it until it ends or has to. Gives its status."""
+        try:
+            child = await Child.start(self._settings, self._kept.was_opened, self._state)
+        except TranscriptLocked:
+            LOG.warning("node.transcript: another program has it")
+            self._found_lock = True
+            return 3
         try:
             await self._open(child)
-            while not self._has_to_end():
-                line = self._line or next_line(self._queue)
-                if line is not None:
-                    await self._carry_out(child, line)
-                else:
-                    self._woken.clear()
-                    await self._woken.wait()
+            await self._feed_and_read(child)
         except ChildEnded:
-            if self._line is not None and self._line.is_array and child.was_cut:
-                self._line.is_fed_again = False
+            pass
         finally:
             self.is_open = False
             status = await child.end()
+            self._found_lock, self._lacks = child.found_lock, child.lacks_room()
         return status
 
     def _has_to_end(self) -> bool:
         return self._stopping.is_set() or self._closing > 0
 
     async def _open(self, child: Child) -> None:
-        self._judge_kept_line(await child.open(self._serial))
-        if self._line is not None:
-            await self._carry_out(child, self._line)
-        tick = Waiting(self._events.tick())
-        await self._carry_out(child, Line(tick.text, [tick]))
+        """Opens the node, has all carried out that a stop left, and then a tick: it sends again what was lost."""
+        self._kept.open(await child.open(self._kept))
+        for line in tuple(self._kept.lines):
+            await self._feed(child, line)
+            await self._read_answers(child)
+        self._queue.appendleft(Waiting(self._events.tick(), alone=True))
+        await self._feed_next(child)
+        await self._read_answers(child)
         self._delay = 0.0
         self.is_open = True
         _tell(self.after_opening)
@@ -182,58 +192,78 @@ class Feeder:
             waiting.fail(OutcomeLost())
         self._lost.clear()
 
-    def _judge_kept_line(self, serial: int) -> None:
-        """Says of the line that a stop left whether it was carried out, by the serial with which the node opened."""
-        line = self._line
-        if line is not None and (not line.is_fed_again or serial > self._serial):
-            self._lost += line.waiting
-            line = None
-        self._serial = serial
-        with self._state.transaction():
-            self._state.set_value("node.was_opened", "yes")
-            self._keep(line)
+    async def _feed_and_read(self, child: Child) -> None:
+        """Feeds and reads side by side until the node ends. Raises what ended either."""
+        feeding = asyncio.create_task(self._feed_ahead(child))
+        try:
+            while True:
+                await self._read_answers(child)
+        finally:
+            feeding.cancel()
+            await asyncio.wait([feeding])
+            if not feeding.cancelled():
+                feeding.result()
 
-    def _keep(self, line: Line | None) -> None:
-        self._line = line
-        self._state.set_value("node.line", line.text if line is not None and line.is_fed_again else "")
-        self._state.set_value("node.serial", str(self._serial))
+    async def _feed_ahead(self, child: Child) -> None:
+        """Feeds what waits, until the node has to end, and then ends its input. Raises NoRoom."""
+        try:
+            while not self._has_to_end():
+                if self._queue and len(self._kept.lines) < MOST_LINES:
+                    await self._feed_next(child)
+                else:
+                    self._woken.clear()
+                    await self._woken.wait()
+        except ChildEnded:
+            # Whoever reads its answers comes to their end, too.
+            pass
+        finally:
+            child.end_input()
 
-    async def _carry_out(self, child: Child, line: Line) -> None:
-        """Feeds a line and reads all that it gives. Raises ChildEnded."""
-        if line is not self._line:
-            with self._state.transaction():
-                self._keep(line)
-        started = time.monotonic()
+    async def _feed_next(self, child: Child) -> None:
+        line = next_line(self._queue, self._kept.next_number)
+        self._kept.keep(line)
+        for _ in line.waiting:
+            self._queue.popleft()
+        await self._feed(child, line)
+
+    async def _feed(self, child: Child, line: Line) -> None:
+        line.fed = time.monotonic()
         await child.write(line.text)
+
+    async def _read_answers(self, child: Child) -> None:
+        """Reads all that the first line gives which is under way, and settles it. Raises ChildEnded."""
         outcomes: list[Outcome] = []
         packets: list[Packet] = []
         while True:
             output = await child.read()
-            line.is_fed_again = False
             if isinstance(output, Packet):
                 packets.append(output)
-                self._serial = output.serial
                 continue
-            if "event" in output or not line.is_array:
+            line = self._kept.lines[0]
+            assert output["line"] == line.number, output
+            if output["done"] != "known" and ("event" in output or not line.is_array):
                 outcomes.append(Outcome(line.waiting[output.get("event", 0)].event, output, tuple(packets)))
                 packets = []
             if "event" not in output:
                 break
-        self._metrics.observe("ocpi_line_seconds", time.monotonic() - started)
-        self._settle(line, outcomes)
+        self._metrics.observe("ocpi_line_seconds", time.monotonic() - line.fed)
+        self._settle(line, outcomes, output["done"] == "known")
 
-    def _settle(self, line: Line, outcomes: list[Outcome]) -> None:
-        """Forgets a line, keeps what it changed and the next one, and then tells who waits."""
-        if len(outcomes) < len(line.waiting):
+    def _settle(self, line: Line, outcomes: list[Outcome], is_known: bool) -> None:
+        """Forgets a line, keeps what it changed, and then tells who waits."""
+        def keep() -> None:
+            for outcome in outcomes:
+                _tell(self.before_commit, outcome)
+        self._kept.settle(outcomes, keep)
+        self._woken.set()
+        if is_known:
+            self._metrics.count("ocpi_lines_total", done="known")
+            self._lost += line.waiting
+        elif len(outcomes) < len(line.waiting):
             # As a whole the array could not be read: one of its events is at fault, and is found by itself.
             for waiting in reversed(line.waiting):
                 waiting.alone = True
                 self._queue.appendleft(waiting)
-        with self._state.transaction():
-            for outcome in outcomes:
-                _tell(self.before_commit, outcome)
-            goes_on = self.is_open and not self._has_to_end()
-            self._keep(next_line(self._queue) if goes_on else None)
         for waiting, outcome in zip(line.waiting, outcomes):
             self._count(outcome)
             _tell(self.after_commit, outcome)

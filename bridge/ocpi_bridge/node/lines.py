@@ -2,6 +2,7 @@
 from asyncio import Future
 from collections import deque
 from dataclasses import dataclass
+from itertools import islice
 
 from ..events import Outcome
 from ..json_text import read_json, write_json
@@ -10,8 +11,6 @@ from ..records import Event
 # What a node takes in one line.
 MOST_EVENTS = 256
 MOST_BYTES = 1_048_576
-# What may do more when it is fed again than it did. Where nothing stands behind it in its line, the line does not.
-LAST_OF_A_LINE = ("swipe", "tick")
 
 
 @dataclass
@@ -37,40 +36,37 @@ class Waiting:
 
 @dataclass
 class Line:
-    """A line. After a stop it `is_fed_again` unless something came out for it. Of ticks alone none is: others come."""
+    """A line, which has its number for good. It `is_kept` where the state has it, and was fed at `fed`."""
 
+    number: int
     text: str
     waiting: list[Waiting]
-
-    def __post_init__(self) -> None:
-        self.is_fed_again = any(waiting.event["event"] != "tick" for waiting in self.waiting)
+    is_kept: bool = False
+    fed: float = 0.0
 
     @property
     def is_array(self) -> bool:
         return self.text.startswith("[")
 
+    @property
+    def has_ticks_alone(self) -> bool:
+        return all(waiting.event["event"] == "tick" for waiting in self.waiting)
 
-def kept_line(text: str | None) -> Line | None:
-    """The line that an earlier run of the bridge kept, whose events nobody awaits any more."""
-    if not text:
-        return None
+
+def kept_line(number: int, text: str) -> Line:
+    """A line that an earlier run of the bridge kept, whose events nobody awaits any more."""
     kept = read_json(text)
-    return Line(text, [Waiting(event) for event in (kept if isinstance(kept, list) else [kept])])
+    return Line(number, text, [Waiting(event) for event in (kept if isinstance(kept, list) else [kept])], True)
 
 
-def next_line(queue: deque[Waiting]) -> Line | None:
-    """Takes the next line off those that wait: one event alone, or in an array what waits, as far as a line goes.
-
-    A line ends with its first swipe or tick.
-    """
-    if not queue:
-        return None
-    taken = [queue.popleft()]
+def next_line(queue: deque[Waiting], number: int) -> Line:
+    """The next line of those that wait, which is not taken off: one event alone, or in an array as many as it takes."""
+    taken = [queue[0]]
     size = len(taken[0].text) + 2
-    while queue and len(taken) < MOST_EVENTS and not taken[-1].alone and not queue[0].alone:
-        size += len(queue[0].text) + 1
-        if size > MOST_BYTES or taken[-1].event["event"] in LAST_OF_A_LINE:
+    for waiting in islice(queue, 1, MOST_EVENTS):
+        size += len(waiting.text) + 1
+        if size > MOST_BYTES or taken[-1].alone or waiting.alone:
             break
-        taken.append(queue.popleft())
+        taken.append(waiting)
     text = ",".join(waiting.text for waiting in taken)
-    return Line(f"[{text}]" if len(taken) > 1 else text, taken)
+    return Line(number, f"[{text}]" if len(taken) > 1 else text, taken)

@@ -5,14 +5,13 @@ from contextlib import suppress
 from dataclasses import replace
 
 from ..configuration import NodeSettings, refuse
-from ..events import Events, Outcome
+from ..events import Events
 from ..metrics import Metrics
 from ..records import Event
 from ..room import NoRoom
 from ..state import State
 from .child import Child, ChildEnded
 from .feeder import Feeder
-from .lines import Line
 
 # The status of a run that found a disk full: the node is started again, and its store may not be whole without its log.
 WITHOUT_ROOM = 75
@@ -23,7 +22,7 @@ class RevocableFeeder(Feeder):
 
     def __init__(self, settings: NodeSettings, events: Events, state: State, metrics: Metrics) -> None:
         super().__init__(settings, events, state, metrics)
-        # Called with the events of the line that a stop left, before the node is opened anew.
+        # Called with the events of the lines that a stop left, before the node is opened anew.
         self.before_opening: list[Callable[[list[Event]], None]] = []
 
     async def reload(self, settings: NodeSettings, take: Callable[[], None]) -> None:
@@ -32,10 +31,9 @@ class RevocableFeeder(Feeder):
         Raises WrongConfiguration where it does not, and NodeEnded.
         """
         async def change() -> None:
-            child = await Child.start(replace(settings, transcript=None), True)
-            child.state = self._state
+            child = await Child.start(replace(settings, transcript=None), True, self._state)
             with suppress(ChildEnded):
-                await child.open(self._serial)
+                await child.open(self._kept)
             if await child.end() != 0:
                 refuse("node.setup", "; ".join(child.words) or "the node does not take it")
             self._settings = settings
@@ -53,34 +51,25 @@ class RevocableFeeder(Feeder):
         return False
 
     async def _open(self, child: Child) -> None:
-        child.state = self._state
-        child.is_backup = self._state.is_backup and self._line is None
-        left = [waiting.event for waiting in self._line.waiting] if self._line is not None else []
+        left = [waiting.event for line in self._kept.lines for waiting in line.waiting]
         for listener in self.before_opening:
             listener(left)
         await super()._open(child)
-
-    def _judge_kept_line(self, serial: int) -> None:
-        if self._state.is_backup:
-            self._state.restore()
-        super()._judge_kept_line(serial)
 
     async def run(self) -> int:
         status = await super().run()
         return 1 if status == WITHOUT_ROOM else status
 
-    async def _run_once(self, child: Child) -> int:
+    async def _run_once(self) -> int:
         """Feeds the node as a feeder does. Where a disk is full it ends, and is started again when there is room."""
-        room = self._state.room
+        room, self._lacks = self._state.room, None
         try:
-            status = await super()._run_once(child)
+            status = await super()._run_once()
         except NoRoom:
             status = WITHOUT_ROOM
-            if self._line is not None and child.was_cut:
-                self._line.is_fed_again = False
-        if status == 3 and child.found_no_room:
+        if self._lacks is not None:
             status = WITHOUT_ROOM
-            room.lacks("store", self._settings.store)
+            room.lacks(self._lacks, getattr(self._settings, self._lacks))
         if not room.is_there:
             waits = [asyncio.create_task(room.wait()), asyncio.create_task(self._stopping.wait())]
             await asyncio.wait(waits, return_when=asyncio.FIRST_COMPLETED)
@@ -88,13 +77,3 @@ class RevocableFeeder(Feeder):
                 wait.cancel()
             self._delay = 0.0
         return status
-
-    def _settle(self, line: Line, outcomes: list[Outcome]) -> None:
-        """Settles a line. Where there is no room for that, what came of it is lost, and the next line waits again."""
-        try:
-            super()._settle(line, outcomes)
-        except NoRoom:
-            if self._line is not None and self._line is not line:
-                self._queue.extendleft(reversed(self._line.waiting))
-            self._line = line if len(outcomes) == len(line.waiting) else None
-            raise

@@ -1,4 +1,4 @@
-"""Restores the backup of a party that has sent nothing since, as its owner would."""
+"""Restores the backup of a party whose node has changed nothing since, as its owner would."""
 import asyncio
 import shutil
 import sqlite3
@@ -7,8 +7,8 @@ from pathlib import Path
 
 from ..running import RunningBridge
 
-# How often a backup is made anew, since something was sent behind it.
-MOST_BACKUPS = 5
+# How often a backup is made anew, since something was changed behind it.
+MOST_BACKUPS = 20
 REFUSED = 3
 
 
@@ -20,11 +20,11 @@ async def restore(bridge: RunningBridge, folder: Path) -> None:
         assert answer["status"] == 200, answer
         status = await bridge.stop()
         assert status in (0, 1), f"{bridge.party} ended with status {status}"
-        if serial_of(backup / "state.db") == serial_of(bridge.folder / "bridge.db"):
+        if last_seen(backup / "state.db") == last_seen(bridge.folder / "bridge.db"):
             break
         await bridge.start()
     else:
-        raise AssertionError(f"{bridge.party} does not stop sending")
+        raise AssertionError(f"{bridge.party} does not rest")
     for copy, place in ((backup / "store.db", bridge.store), (backup / "state.db", bridge.folder / "bridge.db")):
         file = place.resolve()
         for beside in file.parent.glob(f"{file.name}*"):
@@ -39,7 +39,8 @@ async def restore(bridge: RunningBridge, folder: Path) -> None:
     await asyncio.to_thread(shutil.rmtree, backup)
 
 
-def serial_of(state: Path) -> str:
-    """The serial of the last packet that a bridge saw of its node."""
+def last_seen(state: Path) -> list[str]:
+    """The last line that took hold in a bridge's node, and the serial of its last packet."""
     with closing(sqlite3.connect(f"file:{state.resolve()}?mode=ro", uri=True)) as connection:
-        return str(connection.execute("SELECT value FROM value_of WHERE name = 'node.serial'").fetchone()[0])
+        return [value for value, in connection.execute(
+            "SELECT value FROM value_of WHERE name IN ('node.number', 'node.serial') ORDER BY name")]

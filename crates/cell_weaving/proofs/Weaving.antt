@@ -9,6 +9,7 @@ use Rattle.ocpi_types.specs.declared.events.Event.{Event}
 use Rattle.ocpi_types.specs.declared.setup.Node.{Node}
 use Rattle.histories.specs.declared.entry.Entry.{Entry}
 use Rattle.histories.specs.declared.history.NodeHistory.{NodeHistory}
+use Rattle.histories.specs.Entries.{IsNumbered, sent}
 use Rattle.histories.specs.Weaving.{AreApart, AreNumbered, CanInterleave, IsInterleaving}
 use Rattle.histories.proofs.Lists.{is_in, place_in, some_same, stands, take_one}
 use Rattle.history_laws.specs.Laws.{AreReplayed, InterleavingsAreRuns, IsReplayed, ReplaysAreNumbered}
@@ -80,7 +81,8 @@ module _ {K : Type 0} (keeper : Keeper K) (setup : List Node) (cells : List (Cel
   numbered law h within =
       let at = place_in hs h within in
       let r = replayed.each at.0 h at.1 in
-      law setup are.is_setup h r.0 r.2
+      let none : h.before ≡ 0 = ap (λ (t : Told). t.before) (cell_at at.0 h at.1).2 in
+      (none, subst (λ n. IsNumbered h.party n (sent h.entries.now)) (sym none) (law setup are.is_setup h r.0 r.2))
 
   -- an interleaving of them is a run of the setup's world
   pub runs : InterleavingsAreRuns → (events : List Event) → IsInterleaving hs events → IsRunOfCells setup cells events

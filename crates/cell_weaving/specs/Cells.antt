@@ -35,13 +35,14 @@ pub record AreCellsOf {K : Type 0} (setup : List Node) (cells : List (Cell K)) :
 -- what a history tells, whoever holds its entries
 pub record Told : Type 0 where
   pub party : List ℕ
+  pub before : ℕ
   pub entries : List Entry
 
 abbrev pub told_of : NodeHistory → Told
-told_of h = record { party = h.party; entries = h.entries.now }
+told_of h = record { party = h.party; before = h.before; entries = h.entries.now }
 
 abbrev pub told_of_cell : {K : Type 0} → Cell K → Told
-told_of_cell c = record { party = c.party; entries = c.history }
+told_of_cell c = record { party = c.party; before = 0; entries = c.history }
 
 -- the histories are those of the cells, in their order
 abbrev pub AreTold : {K : Type 0} → List NodeHistory → List (Cell K) → Type 0

@@ -34,10 +34,7 @@ fn history_of<K: Keep>(cell: &NodeCell<K>) -> NodeHistory<'_>
     ensures kept { IsCell (keeper_of K.content K.is_honest K.refusals K.may_leave) cell.now }
 {
     cell.is_replay();
-    NodeHistory {
-        party: *cell.party(),
-        entries: cell.history(),
-    }
+    NodeHistory::new(*cell.party(), cell.history())
 }
 
 /// The histories of cells, in their order. An error is want of memory.

@@ -86,8 +86,9 @@ fn node<'a>(alloc: Global) -> Result<Command<'a>, Error> {
         .after_help(help::NODE);
     let command = with_arg(command, party(alloc))?;
     let command = with_arg(command, store(alloc))?;
-    let command = with_existing(alloc, command)?;
+    let command = with_made(command, existing(alloc))?;
     let command = with_arg(command, echo(alloc))?;
+    let command = with_made(command, transcript(alloc))?;
     with_telling(alloc, command)
 }
 
@@ -106,9 +107,9 @@ fn store<'a>(alloc: Global) -> Arg<'a> {
         .help("Keep the node's rows in this file, and go on from what it has")
 }
 
-/// The command with the word that goes with `store` alone.
-fn with_existing<'a>(alloc: Global, command: Command<'a>) -> Result<Command<'a>, Error> {
-    match existing(alloc) {
+/// The command with one argument more, which was made with others in view.
+fn with_made<'a>(command: Command<'a>, arg: Result<Arg<'a>, Error>) -> Result<Command<'a>, Error> {
+    match arg {
         Ok(arg) => with_arg(command, arg),
         Err(error) => {
             drop(command);
@@ -117,6 +118,7 @@ fn with_existing<'a>(alloc: Global, command: Command<'a>) -> Result<Command<'a>,
     }
 }
 
+/// Goes with `store` alone.
 fn existing<'a>(alloc: Global) -> Result<Arg<'a>, Error> {
     let arg = Arg::new(alloc, "existing")
         .long("existing")
@@ -130,6 +132,15 @@ fn echo<'a>(alloc: Global) -> Arg<'a> {
         .long("echo")
         .action(ArgAction::SetTrue)
         .help("Print each line before what it returns")
+}
+
+/// Goes without `echo` alone.
+fn transcript<'a>(alloc: Global) -> Result<Arg<'a>, Error> {
+    let arg = Arg::new(alloc, "transcript")
+        .long("transcript")
+        .value_name("FILE")
+        .help("Add to this file what --echo would print, and sync it before each commit");
+    Ok(arg.conflicts_with("echo")?)
 }
 
 fn settle<'a>(alloc: Global) -> Result<Command<'a>, Error> {
@@ -152,7 +163,19 @@ fn weave<'a>(alloc: Global) -> Result<Command<'a>, Error> {
         .about("Make one run of the transcripts of several nodes, as input of `play`")
         .after_help(help::WEAVE);
     let command = with_arg(command, given(alloc))?;
+    let command = with_arg(command, stored(alloc))?;
     with_arg(command, files(alloc))
+}
+
+/// The stores of the transcripts of `weave`.
+fn stored<'a>(alloc: Global) -> Arg<'a> {
+    Arg::new(alloc, "store")
+        .long("store")
+        .value_name("STORE")
+        .action(ArgAction::Append)
+        .help(
+            "The store over which the first run of the next FILE was begun: a copy of it, made before",
+        )
 }
 
 fn given<'a>(alloc: Global) -> Arg<'a> {
@@ -169,5 +192,7 @@ fn files<'a>(alloc: Global) -> Arg<'a> {
         .value_name("FILE")
         .required(true)
         .action(ArgAction::Append)
-        .help("The transcript of a node, as `node --echo` printed it")
+        .help(
+            "The transcript of a node, as `node --transcript` wrote it, or `node --echo` printed it",
+        )
 }

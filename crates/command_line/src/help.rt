@@ -89,7 +89,8 @@ Examples, in the folder of the repository:
 /// After the help of `node`.
 pub const NODE: &str =
     r#"Input, on standard input: lines of JSON; docs/PROTOCOL.md has their forms, under "JSON".
-  The first is the setup, as of `play`. PARTY is one of its parties, in any case.
+  The first is the setup, as of `play`. PARTY is one of its parties, in any case. It may have a
+  member `line`, the number of the last line whose `done` you have seen, 1 at first.
   Each other line is an event, as of `play`, but a delivery has the packet itself:
   {"at":"2025-01-01T10:00:00Z","event":"deliver","node":"BE/BEC","packet":{..}}
   Or it is an array of at most 256 such events, which are applied in turn and committed together.
@@ -99,17 +100,27 @@ pub const NODE: &str =
 Output, on standard output:
   Each packet that the node sends, a line of JSON each, and after those of an event one that says
   what became of it. Its first member is `done`:
-    opened     the setup was read: the number of rows that were loaded, and the serial of the last
-               packet that the node sent
+    opened     the setup was read: the number of the last line that took hold, of the rows that were
+               loaded, and of the last packet that the node sent
+    known      the line took hold before this run, and was not read
     stepped    rows were changed or packets sent
     idle       the event was this node's, and did nothing
     skipped    the event is another node's, or of the other role
     malformed  the line was refused as a line; a malformed or absent setup ends the run
     refused    the node refused the event
     all        each event of an array is done: `events` is their number
-  `line` is the number of the line, from 1, empty ones counted. For an event of an array `event` is
-  its place in it, from 0, and `all` stands behind the last. All that a line returns is printed
-  before the next line is applied. With --echo each line is printed before what it returns.
+  `line` is the number of the line. The setup is line 1. Those behind it that are not empty are
+  counted on from its member `line`, or else from the number that `opened` has. A line takes hold
+  where it changes rows, and its number is committed with them. So after a stop begin with that
+  member, and go on with the line behind it: nothing is done twice or left out.
+  For an event of an array `event` is its place in it, from 0, and `all` stands behind the last. All
+  that a line returns is printed before the next line is applied. With --echo two empty lines are
+  printed first, and each line before what it returns.
+
+Transcript: with --transcript FILE what --echo would print is added to that file, which is created
+  where it is missing, for its owner alone (mode 0600); standard output has what it has without
+  --echo. All up to a line is on the disk before that line is committed, so `weave` reads the file
+  whatever stopped the run. Give each node a file of its own.
 
 Explanations, on standard error: with --explain, for each line, or event of one, that was malformed
   or refused: its number, the refusal, the path of the member or the column, what was found, and
@@ -128,13 +139,15 @@ Exit status:
   0  no line, or event of one, was refused
   1  one was refused, or reading or writing failed, which standard error says
   2  the command line is wrong, or the setup has no such party
-  3  the store refused, memory ran out for an array of events, or no such node has just the rows:
-     standard error has `store: N Name`, and then which file or row, why, and what to do. That ends
+  3  the store refused, or no such node has just the rows: standard error has `store: N Name`, and
+     then which file or row, why, and what to do. Or memory ran out: `memory: 4 Memory`. That ends
      the run, and nothing of that line is printed but its echo; where the store could not be closed
-     at the end, all is printed
+     at the end, all is printed. Or the transcript was not opened: `transcript: 1 Refused`, and
+     nothing is read
 
-Example, in the folder of the repository:
-  ./ocpi_nodes node BE/BEC --store be.db < examples/node/operators_day/in.jsonl"#;
+Examples, in the folder of the repository:
+  ./ocpi_nodes node BE/BEC --store be.db < examples/node/operators_day/in.jsonl
+  ./ocpi_nodes node NL/TNM --transcript nl.transcript < examples/node/with_echo/in.jsonl"#;
 
 /// After the help of `settle`.
 pub const SETTLE: &str =
@@ -155,31 +168,36 @@ Example, after `ocpi_nodes play --store stores`:
 
 /// After the help of `weave`.
 pub const WEAVE: &str =
-    r#"Input: each FILE is a transcript, all that `node PARTY --echo` read and printed for one node.
-  Several runs over one store stand in it one behind the other. The setups of all are equal, the
-  parties differ. A last line that has no end was cut, and is left out. Standard input is not read.
+    r#"Input: each FILE is a transcript, all that a node read and printed: `node PARTY --transcript FILE`
+  wrote it, or `node PARTY --echo` printed it. Several runs over one store stand in it one behind the
+  other, wherever they were stopped. The first is over a store without rows; or, behind --store STORE,
+  over STORE, a copy of it that was made before, while no program had it open. The parties differ.
+  Standard input is not read.
   What a party sent that --given names is taken as it was received; it has no FILE. PARTY is one of
-  the setup, in any case. Give --given once for each such party.
+  the setups, in any case. Give --given once for each such party.
 
-Output, on standard output: one run of all that the transcripts have, as input of `play`: the setup
-  line of the first FILE, then an event a line, each delivery after its packet was sent. A delivery
-  from a given party stands as it was received, with its packet, which `play` refuses.
+Output, on standard output: one run of all that the transcripts have. Where none begins with rows, and
+  all setups are equal, it is input of `play`: the setup line of the first FILE, then an event a line,
+  each delivery after its packet was sent. A delivery from a given party stands as it was received,
+  with its packet, which `play` refuses. Else it begins with how each FILE was opened, and each setup
+  line stands before the events of its node; `play` refuses it.
   Or why there is none, and nothing else:
     refused 1 NeverSent(BE/BEC 9 FILE:12)         this line has a packet that its sender never sent
     refused 2 Differs(BE/BEC 9 FILE:31 FILE:12)   for the first line its sender sent another one
     refused 3 NoOrder(FILE:12 FILE:7)             each line needs a packet sent behind another
     refused 4 Memory                              memory ran out
-    refused 5 NotARun(FILE:12)                    the node would have returned something else
-    refused 6 WrongTranscript(FILE:12)            it is no line of one, or of another setup or party
-    refused 7 TooManyWays(FILE:12)                stops leave open more than 64 ways
-  FILE:12 is a line of that file, from 1; at line 0 no run in it was opened. Beside the first two
-  standard error may say more. docs/DISPUTES.md says what follows from each.
+    refused 5 NotARun(FILE:12)                    the node would have printed something else
+    refused 6 WrongTranscript(FILE:12)            it is no line of one, or of another party or STORE
+    refused 8 BegunLater(FILE:12)                 rows stood before it: name STORE, or the file before
+    refused 9 LinesMissing(FILE:12)               the end of a run before it is missing
+  FILE:12 is a line of that file, from 1; at line 0 no run in it was opened. Standard error may say
+  more. docs/DISPUTES.md says what follows from each.
 
 Exit status:
   0  a run was printed
   1  the transcripts were refused, or writing failed, which standard error says
-  2  the command line is wrong, or --given names a party that the setup has not, or one of a FILE
-  3  a file was not read, which standard error says; nothing is said of the others
+  2  the command line is wrong, or --given names a party that no setup has, or one of a FILE
+  3  a file or a STORE was not read, which standard error says; nothing is said of the others
 
 Examples, with the transcripts of two partners, and of one of them and a third:
   ./ocpi_nodes weave be.transcript nl.transcript | ./ocpi_nodes play

@@ -16,4 +16,6 @@ mod commands;
 mod help;
 mod words;
 
-pub use words::{NodeWords, PlayWords, WRONG_WORDS, WeaveWords, Word, status_after, take_words};
+pub use words::{
+    FileWords, NodeWords, PlayWords, WRONG_WORDS, WeaveWords, Word, status_after, take_words,
+};

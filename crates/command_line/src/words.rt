@@ -46,6 +46,8 @@ pub struct NodeWords<'a> {
     pub existing: bool,
     /// Whether each line of the input is written before what it gives.
     pub echo: bool,
+    /// The file to which each line and what it gives is added, where there is one.
+    pub transcript: Option<&'a str>,
     /// What is told of the lines.
     pub telling: Telling,
 }
@@ -55,13 +57,23 @@ pub struct NodeWords<'a> {
 pub struct WeaveWords<'a> {
     /// The parties whose packets are taken as they came, as they were given.
     pub given: Vec<&'a str>,
-    /// The files of transcripts, in their order, as they were given.
-    pub files: Vec<&'a str>,
+    /// The files of transcripts, in their order.
+    pub files: Vec<FileWords<'a>>,
 }
 
-/// Takes the command line `ocpi_nodes [answer | play [--store DIR] | node PARTY [--store FILE [--existing]] [--echo] |
-/// settle FILE | weave [--given PARTY].. FILE.. | help [COMMAND]]`, the first three also with `--explain` and
-/// `--strict`, or gives clap's text: the help or the version that was asked for, or what is wrong.
+/// What the command line says of a transcript.
+#[derive(Clone, Copy, Debug, PartialEq, Eq)]
+pub struct FileWords<'a> {
+    /// The file, as it was given.
+    pub file: &'a str,
+    /// That of the store over which its first run was opened, where it is named.
+    pub store: Option<&'a str>,
+}
+
+/// Takes the command line `ocpi_nodes [answer | play [--store DIR] | node PARTY [--store FILE [--existing]]
+/// [--echo | --transcript FILE] | settle FILE | weave [--given PARTY].. [[--store STORE] FILE].. | help [COMMAND]]`,
+/// the first three also with `--explain` and `--strict`, or gives clap's text: the help or the version that was asked
+/// for, or what is wrong.
 pub fn take_words<'a>(alloc: Global, words: &'a [String]) -> Result<Word<'a>, Error> {
     let command = program(alloc)?;
     let matches = command.try_get_matches_from(words)?;
@@ -86,11 +98,70 @@ fn values_of<'a>(
     Ok(values)
 }
 
+/// The store whose name stands right before the word of an index.
+fn store_before<'a>(stores: &[&'a str], places: &[usize], index: usize) -> Option<&'a str> {
+    for (store, place) in stores.iter().zip(places) {
+        if place.saturating_add(1) == index {
+            return Some(*store);
+        }
+    }
+    None
+}
+
+/// The indices of the values of an argument.
+fn places_of<'m>(matches: &'m ArgMatches<'_>, name: &str) -> &'m [usize] {
+    match matches.indices_of(name) {
+        Some(places) => places,
+        None => &[],
+    }
+}
+
+/// The transcripts of `weave`, each with the store that stands right before it. Without one where a store stands before
+/// none.
+fn files_of<'a>(
+    alloc: Global,
+    matches: &ArgMatches<'a>,
+) -> Result<Option<Vec<FileWords<'a>>>, Error> {
+    let stores = values_of(alloc, matches, "store")?;
+    let places = places_of(matches, "store");
+    let names = values_of(alloc, matches, "files")?;
+    let mut files = Vec::new(alloc);
+    let mut count: usize = 0;
+    for (file, place) in names.iter().zip(places_of(matches, "files")) {
+        let store = store_before(stores.as_slice(), places, *place);
+        if store.is_some() {
+            count = count.saturating_add(1);
+        }
+        files.push(FileWords { file: *file, store })?;
+    }
+    if count == stores.len() {
+        Ok(Some(files))
+    } else {
+        Ok(None)
+    }
+}
+
+/// What is said where no file stands behind a store: as where there is no file.
+fn without_file<'a>(alloc: Global) -> Result<Word<'a>, Error> {
+    let mut words = Vec::new(alloc);
+    words.push(String::from_str(alloc, "ocpi_nodes")?)?;
+    words.push(String::from_str(alloc, "weave")?)?;
+    match program(alloc)?.try_get_matches_from(words.as_slice()) {
+        Ok(_) => Ok(Word::Weave(WeaveWords {
+            given: Vec::new(alloc),
+            files: Vec::new(alloc),
+        })),
+        Err(error) => Err(error),
+    }
+}
+
 /// `weave` with its parties and files.
 fn weave_word<'a>(alloc: Global, matches: &ArgMatches<'a>) -> Result<Word<'a>, Error> {
     let given = values_of(alloc, matches, "given")?;
-    let files = values_of(alloc, matches, "files")?;
-    Ok(Word::Weave(WeaveWords { given, files }))
+    match files_of(alloc, matches)? {
+        Some(files) => Ok(Word::Weave(WeaveWords { given, files })),
+        None => without_file(alloc),
+    }
 }
 
 /// What is to be told of the lines, by the words behind a command.
@@ -115,6 +186,7 @@ fn word_of<'a>(matches: &ArgMatches<'a>) -> Word<'a> {
             store: given.get_str("store"),
             existing: given.get_flag("existing"),
             echo: given.get_flag("echo"),
+            transcript: given.get_str("transcript"),
             telling: telling_of(given),
         });
     }

@@ -10,6 +10,9 @@ use std::alloc::AllocError;
 /// Where a list has no most.
 pub const ANY_NUMBER: usize = usize::MAX;
 
+/// The greatest number from which lines may be counted on.
+const MAX_LINE: u64 = 900_000_000_000_000_000;
+
 /// Among which others an id must be new.
 #[derive(Clone, Copy)]
 pub enum Scope {
@@ -39,6 +42,8 @@ pub enum Form {
     /// A moment later than that of the object before in its list.
     LaterMoment,
     Whole,
+    /// The number of a line, from which those behind the setup are counted on.
+    LineNumber,
     StatusCode,
     Decimal,
     Quantity,
@@ -108,6 +113,10 @@ fn is_text_of(form: Form, text: &str) -> bool {
 fn is_number_of(form: Form, token: &str) -> bool {
     match form {
         Form::Whole => Whole::read(token).is_ok(),
+        Form::LineNumber => match Whole::read(token) {
+            Ok(number) => number.value() >= 1 && number.value() <= MAX_LINE,
+            Err(_) => false,
+        },
         Form::StatusCode => match Whole::read(token) {
             Ok(number) => number.value() >= 1000 && number.value() <= 9999,
             Err(_) => false,
@@ -193,6 +202,7 @@ fn fixed_words(form: Form) -> &'static str {
         Form::NewId(_) => "a text of at most 36 printable ASCII characters",
         Form::Moment | Form::LaterMoment => "a moment in UTC, as 2025-01-01T10:00:00Z",
         Form::Whole => "a whole number of at most 18 digits",
+        Form::LineNumber => "a whole number from 1 to 900000000000000000",
         Form::StatusCode => "a whole number from 1000 to 9999",
         Form::Decimal => "a number without an exponent, below 100000000000 in magnitude",
         Form::Quantity => { "a number without an exponent, not negative and below 100000000000" }

@@ -15,7 +15,7 @@ use std::{fmt, str};
 /// A line of the input, or an event of one.
 #[derive(Clone, Copy)]
 pub struct Place {
-    /// The number of the line, from 1.
+    /// The number of the line, from 1; of `node` as its output has it.
     pub line: u64,
     /// The place of the event in its line, from 0, where the line is a list of several.
     pub event: Option<usize>,

@@ -24,6 +24,8 @@ pub struct Said {
     pub outcome: Outcome,
     /// The place of the event in its line, where the line has several.
     pub event: Option<usize>,
+    /// The number of the line of the input, where it is told.
+    pub line: Option<u64>,
 }
 
 /// What a line of the output of a program says.
@@ -32,12 +34,14 @@ pub fn said_by(alloc: Global, program: Program<'_>, output: &[u8]) -> Said {
         Program::Answer | Program::Play => Said {
             outcome: outcome_of(output),
             event: None,
+            line: None,
         },
         Program::Node(_) => match str::from_utf8(output) {
             Ok(text) if text.starts_with("{\"done\":") => said_by_done(alloc, text),
             _ => Said {
                 outcome: Outcome::Other,
                 event: None,
+                line: None,
             },
         },
     }
@@ -61,10 +65,12 @@ fn said_by_done(alloc: Global, text: &str) -> Said {
         Ok(done) => Said {
             outcome: outcome_of_done(&done),
             event: event_of(&done),
+            line: done.get("line").and_then(Value::as_u64),
         },
         Err(_) => Said {
             outcome: Outcome::Other,
             event: None,
+            line: None,
         },
     }
 }

@@ -19,7 +19,11 @@ pub(crate) const SITE_LINE: [Member; 4] = [
     Needed(Field::Site, Form::Object(Shape::Site)),
 ];
 
-pub(crate) const SETUP: [Member; 1] = [Needed(Field::Nodes, Form::Objects(Shape::Node, 1, 64))];
+/// (`line` is read by `node` alone.)
+pub(crate) const SETUP: [Member; 2] = [
+    Needed(Field::Nodes, Form::Objects(Shape::Node, 1, 64)),
+    Maybe(Field::Line, Form::LineNumber),
+];
 
 pub(crate) const NODE: [Member; 2] = [
     Needed(Field::Party, Form::NewId(Scope::Nodes)),

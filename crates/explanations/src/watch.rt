@@ -10,6 +10,7 @@ use node_lines::{element_texts, read_node_line};
 use ocpi_json::{
     JsonFault, Scratch, read_event, read_node_event, read_packet, read_setup, read_site,
 };
+use ocpi_types::Field;
 use std::alloc::{AllocError, Global};
 use std::io::Write;
 use std::str;
@@ -39,7 +40,7 @@ pub struct Watch<'p, E> {
     /// Whether each line is written before what it gives.
     echoes: bool,
     known: Known,
-    /// The number of the line that is read, or that was read last.
+    /// The place of the line that is read, or that was read last, from 1.
     number: u64,
     /// Its first bytes, without what ends it once it ended.
     line: Vec<u8>,
@@ -220,6 +221,7 @@ impl<'p, E: Write> Watch<'p, E> {
             self.judge(Said {
                 outcome: Outcome::Idle,
                 event: None,
+                line: None,
             });
         }
     }
@@ -277,7 +279,7 @@ impl<'p, E: Write> Watch<'p, E> {
         output: &mut String,
     ) -> Result<bool, AllocError> {
         let place = Place {
-            line: self.number,
+            line: said.line.unwrap_or(self.number),
             event: said.event,
         };
         if said.outcome == Outcome::Refused {
@@ -303,7 +305,8 @@ impl<'p, E: Write> Watch<'p, E> {
         match (self.program, self.is_first) {
             (Program::Answer, true) => read_site(alloc, &mut scratch, text).err(),
             (Program::Answer, false) => read_packet(alloc, &mut scratch, text).err(),
-            (_, true) => read_setup(alloc, &mut scratch, text).err(),
+            (Program::Play, true) => read_setup(alloc, &mut scratch, text).err(),
+            (Program::Node(_), true) => Some(setup_fault(alloc, &mut scratch, text)),
             (Program::Play, false) => read_event(alloc, &mut scratch, text).err(),
             (Program::Node(_), false) if is_element => {
                 read_node_event(alloc, &mut scratch, text).err()
@@ -352,5 +355,16 @@ impl<'p, E: Write> Watch<'p, E> {
                 Ok(true)
             }
         }
+    }
+}
+
+/// Why `node` refuses a text as its setup. One that can be read has no number from which lines may be counted on.
+fn setup_fault(alloc: Global, scratch: &mut Scratch, text: &[u8]) -> JsonFault {
+    match read_setup(alloc, scratch, text) {
+        Ok(setup) => {
+            drop(setup);
+            JsonFault::WrongForm(Field::Line)
+        }
+        Err(fault) => fault,
     }
 }

@@ -10,6 +10,7 @@ use node_steps::NodeFault;
 use node_store::StoreFault;
 use ocpi_text::TextFault;
 use outbox::OutboxFault;
+use replays::ReplayFault;
 use reservation_book::ReservationFault;
 use session_state::SessionFault;
 use site_book::SiteFault;
@@ -17,7 +18,6 @@ use std::error::Error;
 use std::fmt::InlineText;
 use stored_rows::RowsFault;
 use token_desk::TokenFault;
-use transcript_parts::TranscriptFault;
 use weave_runs::GivenFault;
 
 /// Fails with that error, as a program does.
@@ -71,7 +71,7 @@ fn errors_of_nodes_and_programs_are_passed_on(rt: HostRuntime) {
         "weave: BE/BEC has a file"
     );
     assert_eq!(rt;
-        said(TranscriptFault::NotARun(7)).as_str(),
-        "the node would have answered line 7 otherwise"
+        said(ReplayFault::NotARun(7)).as_str(),
+        "the node would have printed something else for line 7"
     );
 }

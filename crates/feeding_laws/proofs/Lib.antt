@@ -1,15 +1,7 @@
-pub mod Sending
-pub mod OperatorFeeding
-pub mod OperatorTicks
-pub mod OperatorEvents
-pub mod ProviderFeeding
-pub mod ProviderEvents
-pub mod Feeding
-pub mod AnswerBodies
-pub mod OperatorSilent
-pub mod OperatorSettling
-pub mod OperatorPassive
-pub mod OperatorLines
-pub mod ProviderSettling
-pub mod ProviderLines
-pub mod Lines
+mod Chain
+mod Ends
+mod Exactly
+mod Fed
+mod Left
+mod Members
+mod Parts

@@ -1,41 +1,38 @@
-//! The laws of events that are fed again.
+//! The laws of a node that is fed lines by their numbers.
 
-ghost use Rattle.feeding_laws.specs.Feeding.{FeedingAgainDoesTheSame, FeedingAgainRefusesTheSame, SerialTellsOfSending};
-ghost use Rattle.feeding_laws.specs.Lines.{LinesMayBeFedAgain, SerialTellsOfLines};
+ghost use Rattle.stored_nodes.specs.Keepers.{keeper_of};
+ghost use Rattle.node_keepers.specs.Opening.{source_of};
+ghost use Rattle.feeding_laws.specs.Fed.{FedRunsAreExact, RunsAreFed};
+ghost use Rattle.feeding_laws.specs.Feeding.{FeedingIsExact};
 
-/// Where a step sends nothing, the same event does from the restart of the node after it what it does from the restart
-/// of the node before it: the packets are the same, and so is the node that is left. A `token` at a provider without
-/// operators is the one exception: it is stored once more.
-pub fn feeding_again_does_the_same()
-    ensures { FeedingAgainDoesTheSame }
-{}
+use node_keepers::Keeps;
+use node_rows::laws::{alike_are_classes, changes_are_held, restarts_are_held};
+use stored_laws::laws::nodes_can_start_again;
 
-/// And what the node refuses after it, it refuses before it, for the same reason.
-pub fn feeding_again_refuses_the_same()
-    ensures { FeedingAgainRefusesTheSame }
-{}
+/// Runs of a node over one store, each under a setup of its own, fed the lines behind the one whose number it is told, and
+/// stopped anywhere: each line takes hold once, and in order.
+pub fn feeding_is_exact()
+    ensures { FeedingIsExact }
+{
+    restarts_are_held();
+    alike_are_classes();
+}
 
-/// Whether a step sent anything is told by the serial of the last packet: it rises then, and only then.
-pub fn serial_tells_of_sending()
-    ensures { SerialTellsOfSending }
-{}
+/// Each run of `run_node` that is fed so is such a run, wherever it ended: by the end of its input, by a stop of the
+/// node, by a commit that was refused, by want of memory, by a failed read or write. What it wrote tells what became
+/// of no line behind those that it answered.
+pub fn runs_are_fed<S: Keeps>()
+    ensures { RunsAreFed (keeper_of S.Kept.content S.Kept.is_honest S.Kept.refusals S.Kept.may_leave) (source_of S.may_refuse S.found) }
+{
+    changes_are_held();
+    nodes_can_start_again();
+}
 
-/// Where no event of a line sends anything, the line does from the restart of the node behind it what it does from that
-/// of the node before it. Each event is answered alike, with the same packets, and the node that is left is the same.
-///
-/// It holds for lines in order: behind a `tick` or a swipe stands no acknowledgement, no response to a command, no
-/// `service`, and no `tick` of an operator. No event of it may be refused because numbers, later moments or memory are
-/// lacking. A `token` at a provider without operators is the one exception.
-///
-/// In another order it may fail. Take a swipe at an EVSE that is out of service, and behind it the `service` by which
-/// it comes back: neither sends anything. Once both are carried out, the same swipe begins a session. Or take a `tick`
-/// before an acknowledgement: from the restart before the line it sends the push that the acknowledgement ends.
-pub fn lines_may_be_fed_again()
-    ensures { LinesMayBeFedAgain }
-{}
-
-/// In whatever order its events stand, the serial of the last packet rises by just the packets of a line. So it tells
-/// whether any event of the line sent one.
-pub fn serial_tells_of_lines()
-    ensures { SerialTellsOfLines }
-{}
+/// So runs of `run_node` over one store, each under a setup of its own, and fed so over what the one before left or a stop
+/// left of that, leave what each line made that came once and in order.
+pub fn fed_runs_are_exact<S: Keeps>()
+    ensures { FedRunsAreExact (keeper_of S.Kept.content S.Kept.is_honest S.Kept.refusals S.Kept.may_leave) (source_of S.may_refuse S.found) }
+{
+    restarts_are_held();
+    alike_are_classes();
+}

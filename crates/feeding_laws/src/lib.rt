@@ -1,20 +1,21 @@
-//! What a line does that is fed to a node once more after a stop. A stop leaves a node as it starts again: before the
-//! line, or behind all of its events. Where none of these sent anything, the line does the same from both, if it has
-//! one event or its events stand in order.
+//! A node that is fed lines by their numbers, in runs over one store that may stop anywhere.
 //!
 //! # Promises
 //!
-//! - Where a step sends nothing, its event does from the restart of the node after it what it does from the restart of
-//!   the node before it. Packets, rows and all else are the same. Only a `token` at a provider without operators is
-//!   stored once more. By law `feeding_again_does_the_same` (`specs/Feeding`).
-//! - And what is refused then would have been refused before. By law `feeding_again_refuses_the_same`.
-//! - Whether a step sent anything is told by the serial of the last packet alone. By law `serial_tells_of_sending`.
-//! - The same of a line of several events that sends nothing, where they are in order: behind a tick or a swipe stands
-//!   no acknowledgement, no response to a command, no `service`, and no tick of an operator. No event of it is refused
-//!   since numbers, later moments or memory are lacking. In another order it may fail. By law `lines_may_be_fed_again`
-//!   (`specs/Lines`: `LinesMayBeFedAgain`).
-//! - In any order the serial of the last packet rises by the packets of a line. So it tells whether any was sent. By
-//!   law `serial_tells_of_lines`.
+//! - A run is told the number of a line, and is fed those behind it. What is kept at any end are the rows of a node
+//!   to which each line came once and in order: up to the last line that was answered, and up to the last that took
+//!   hold. Between lines the node may start again, each time under another setup of which its rows can be. By law
+//!   `feeding_is_exact` (`IsExact` of `specs/Feeding`).
+//! - No line changes rows twice, in whichever runs it is fed. So what a line sent was sent by one run alone. By the
+//!   same: `once`.
+//! - Each run of `run_node` that is fed so is such a run, wherever it ends: with its input, which may end within a
+//!   line; at a line, for want of memory or because its commit is refused; or where reading or writing fails. This is
+//!   of the node's store: of what its keeper keeps at the end, and of what a stop leaves of that. By law
+//!   `runs_are_fed` (`FedRun` of `specs/Fed`), from the clauses `output`, `node` and `begun` of `run_node`.
+//! - What such a run writes tells of no line that was fed to its end, behind those that it answered. So a feeder has
+//!   seen the `done` of none. By the same: `tells`.
+//! - Such runs over one store, each over what the one before left, leave each line once and in order. By law
+//!   `fed_runs_are_exact`.
 #![tactic(auto)]
 
 pub mod laws;

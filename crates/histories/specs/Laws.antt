@@ -3,7 +3,7 @@ use Rattle.std.specs.Prelude.{ℕ, List}
 use Rattle.ocpi_types.specs.declared.packet.Packet.{Packet}
 use Rattle.histories.specs.Causes.{IsBlock, IsDifferent, IsNeverSent}
 use Rattle.histories.specs.declared.history.NodeHistory.{NodeHistory}
-use Rattle.histories.specs.Weaving.{AreApart, AreNumbered, CanInterleave}
+use Rattle.histories.specs.Weaving.{AreApart, AreNumberedBehind, CanInterleave}
 
 -- where a front is a block
 abbrev pub BlocksExclude : Type 0
@@ -15,4 +15,4 @@ NeverSentExcludes = (hs : List NodeHistory) (q : Packet) → IsNeverSent hs q �
 
 -- and where one came that differs from the one that was sent
 abbrev pub DifferentExcludes : Type 0
-DifferentExcludes = (hs : List NodeHistory) (q : Packet) → AreNumbered hs → IsDifferent hs q → CanInterleave hs → ⊥
+DifferentExcludes = (hs : List NodeHistory) (q : Packet) → AreNumberedBehind hs → IsDifferent hs q → CanInterleave hs → ⊥

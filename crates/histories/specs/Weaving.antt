@@ -71,6 +71,10 @@ IsInterleaving hs events = (xs : List Woven) × Interleaves hs xs × (events ≡
 abbrev pub AreApart : List NodeHistory → Type 0
 AreApart hs = (i j : ℕ) (h g : NodeHistory) → slice_get hs i ≡ Some h → slice_get hs j ≡ Some g → key h.party ≡ key g.party → i ≡ j
 
--- each node numbers its packets from 1
+-- each node numbers its packets behind that of the last one that it had sent before
+abbrev pub AreNumberedBehind : List NodeHistory → Type 0
+AreNumberedBehind hs = (h : NodeHistory) → Contains hs h → IsNumbered h.party h.before (sent h.entries.now)
+
+-- and where it had sent none, from 1
 abbrev pub AreNumbered : List NodeHistory → Type 0
-AreNumbered hs = (h : NodeHistory) → Contains hs h → IsNumbered h.party (sent h.entries.now)
+AreNumbered hs = (h : NodeHistory) → Contains hs h → (h.before ≡ 0) × IsNumbered h.party h.before (sent h.entries.now)

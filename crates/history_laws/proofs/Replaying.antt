@@ -1,5 +1,5 @@
 -- A replayed history as a run of its node: its party stays, what comes is for it, and its packets are numbered.
-use Rattle.std.proofs.Common.{◌≡◌, ℕ, List, [], ◌∷◌, ◌++◌, refl, sym, ap, subst, ◌∙◌}
+use Rattle.std.proofs.Common.{◌≡◌, ℕ, ◌+◌, List, [], ◌∷◌, ◌++◌, refl, sym, ap, subst, ◌∙◌, arith}
 use Rattle.std.specs.Prelude.{Some, Contains, slice_get}
 use Rattle.ocpi_text.specs.Text.{key}
 use Rattle.ocpi_types.specs.Setups.{party_of}
@@ -99,22 +99,24 @@ module _ (setup : List Node) (is_setup : IsSetup setup) where
   unfolding ended
   went n xs t run = record { run = run; party = refl; sent_is = refl; versions_is = refl }
 
-  run_numbered : (n : Node) → Contains setup n → (xs : List NodeEvent) (t : NodeState) → Run NodeStep (opening_of setup n) xs t → IsNumbered (party_of n) (traces.sent xs)
+  run_numbered : (n : Node) → Contains setup n → (xs : List NodeEvent) (t : NodeState) → Run NodeStep (opening_of setup n) xs t → IsNumbered (party_of n) 0 (traces.sent xs)
   unfolding ended
   run_numbered (node.Operator party site) member xs t run k q at =
       let line = line_of setup party site in
       let g = operator_goes (place_of setup (node.Operator party site)) (ended (node.Operator party site) xs t) xs (operator.opening line) (went (node.Operator party site) xs t run) refl in
       let there = subst (λ l. slice_get l k ≡ Some q) g.sent_is at in
       let by_form = is_setup.parties (node.Operator party site) member in
-      ((operator_proofs.packets_are_addressed line g.events g.state by_form g.run q (is_in _ k q there)).0, operator_proofs.numbered line g.events g.state g.run k q there)
+      let serial : q.serial ≡ k + 1 = operator_proofs.numbered line g.events g.state g.run k q there in
+      (ap key (operator_proofs.packets_are_addressed line g.events g.state by_form g.run q (is_in _ k q there)).0, omega (arith, serial))
   run_numbered (node.Provider party) member xs t run k q at =
       let peering = peering_of setup party in
       let g = provider_goes (place_of setup (node.Provider party)) (ended (node.Provider party) xs t) xs (provider.opening peering) (went (node.Provider party) xs t run) refl in
       let there = subst (λ l. slice_get l k ≡ Some q) g.sent_is at in
-      ((provider_proofs.packets_are_addressed peering g.events g.state g.run q (is_in _ k q there)).0, provider_proofs.numbered peering g.events g.state g.run k q there)
+      let serial : q.serial ≡ k + 1 = provider_proofs.numbered peering g.events g.state g.run k q there in
+      (ap key (provider_proofs.packets_are_addressed peering g.events g.state g.run q (is_in _ k q there)).0, omega (arith, serial))
 
 pub replays_are_numbered : laws.ReplaysAreNumbered
 replays_are_numbered setup is_setup h t replayed k q at =
     let r = ran h.entries.now (opening_of setup replayed.node) t replayed.replays in
     let numbered = run_numbered setup is_setup replayed.node replayed.in_setup r.xs t r.run k q (ap (λ l. slice_get l k) r.sent_is ∙ at) in
-    (numbered.0 ∙ sym replayed.party, numbered.1)
+    (numbered.0 ∙ sym (ap key replayed.party), numbered.1)

@@ -21,7 +21,7 @@ use Rattle.world_steps.specs.Steps.{WorldRun}
 use Rattle.world_steps.specs.World.{NodeState, Place, World, opened, opening_of, place_of}
 use Rattle.world_steps.proofs.Places.{of_mapped}
 use Rattle.history_laws.specs.Laws as laws
-use Rattle.history_laws.specs.Laws.{AreReplayed, HasNoHistory, IsReplayed, IsRunOf, StandsAs}
+use Rattle.history_laws.specs.Laws.{AreReplayed, HasNoHistory, IsRunOf, StandsAs}
 use Rattle.history_laws.specs.Replays.{Replays}
 use Rattle.history_laws.proofs.Replaying.{opens_as, replays_are_numbered}
 use Rattle.history_laws.proofs.Standing.{Standing, Stands, next}
@@ -59,7 +59,8 @@ module _ (setup : List Node) (hs : List NodeHistory) (states : List NodeState) (
       let (i, here) = place_in hs g within in
       let (t, there, is) = replayed.each i g here in
       let own : sent (history k ws) ≡ sent g.entries.now = ap (λ z. sent (history z ws)) (sym same) ∙ ap sent (woven.order g within) in
-      (replays_are_numbered setup replayed.is_setup g t is n q (ap (λ l. slice_get l n) (sym own) ∙ at)).1
+      let serial = (replays_are_numbered setup replayed.is_setup g t is n q (ap (λ l. slice_get l n) (sym own) ∙ at)).1 in
+      omega (arith, serial)
 
   module _ (w : World) (size : length w ≡ length setup) (before xs : List Woven) (is : before ++ xs ≡ ws) (standing : Standing setup replayed.is_setup Ends first w before xs) where
     -- the place of an entry's party

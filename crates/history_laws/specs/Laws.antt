@@ -54,4 +54,4 @@ InterleavingsAreRuns = (setup : List Node) (hs : List NodeHistory) (states : Lis
 
 -- a node of a setup numbers its packets from 1, whatever happened to it since its opening
 abbrev pub ReplaysAreNumbered : Type 0
-ReplaysAreNumbered = (setup : List Node) → IsSetup setup → (h : NodeHistory) (t : NodeState) → IsReplayed setup h t → IsNumbered h.party (sent h.entries.now)
+ReplaysAreNumbered = (setup : List Node) → IsSetup setup → (h : NodeHistory) (t : NodeState) → IsReplayed setup h t → IsNumbered h.party 0 (sent h.entries.now)

@@ -63,4 +63,4 @@ pub use lines::{KEPT_BYTES, LineReader};
 pub use numbered::{AnswerNumbered, run_numbered};
 pub use outcome::{Ran, RunFault, status_of};
 pub use run::{AnswerLines, Turn, run_whole};
-pub use writing::{flush, write_whole};
+pub use writing::{flush, write_flushed, write_whole};

@@ -1,12 +1,11 @@
 -- What comes of an event at a node over its keeper is a step of the event's entry.
-use Rattle.std.proofs.Common.{◌≡◌, ◌∙◌, sym, subst, Result, Ok, Err, IfOk, OnOk}
+use Rattle.std.proofs.Common.{◌≡◌, ◌∙◌, sym, subst, None, Result, Ok, Err, IfOk, OnOk}
 use Rattle.ocpi_types.specs.declared.node_events.NodeEventKind.{NodeEventKind}
-use Rattle.ocpi_types.specs.declared.rows.Change.{Change}
 use Rattle.node_core.specs.Works.{IsWork, changes_by, node_after, packets_by}
 use Rattle.node_core.specs.declared.input.NodeInput.{NodeInput}
 use Rattle.node_core.specs.declared.work.NodeWork.{NodeWork}
 use Rattle.node_core.proofs.Doing.{does}
-use Rattle.world_steps.specs.Steps.{NodeStep, changes_of, input_of}
+use Rattle.world_steps.specs.Steps.{NodeStep, input_of}
 use Rattle.node_inputs.specs.Inputs.{SaysTheSame}
 use Rattle.stored_nodes.specs.Keepers.{Commits, Keeper}
 use Rattle.stored_nodes.specs.Stored.{Stored}
@@ -17,7 +16,7 @@ use Rattle.node_cells.specs.declared.stepping.Sent.{Sent}
 
 -- work that was carried out
 pub done : {K : Type 0} (keeper : Keeper K) (old new : Stored K) (k : NodeEventKind) (i : NodeInput) (x : NodeWork) (r : Result Sent ApplyFault) → SaysTheSame i k → IsWork old.state i x →
-    OnOk r (new.state ≡ node_after x old.state) → IfOk r (λ sent. sent.entered ≡ packets_by x) → OnOk r (Commits keeper (changes_by x) old.keep new.keep) →
+    OnOk r (new.state ≡ node_after x old.state) → IfOk r (λ sent. sent.entered ≡ packets_by x) → OnOk r (Commits keeper None (changes_by x) old.keep new.keep) →
     IfOk r (λ sent. StoredStep keeper old (record { event = k; packets = sent.entered }) new)
 done keeper old new k i x (Ok sent) says is after entered commits =
     let w = does old.state i x is in
@@ -27,5 +26,5 @@ done keeper old new k i x (Ok sent) says is after entered commits =
       step = subst (NodeStep old.state w.event) (sym after) w.step;
       sends = entered ∙ sym w.packets;
     })
-    (subst (λ l. Commits keeper l old.keep new.keep) (sym w.changes) commits)
+    (subst (λ l. Commits keeper None l old.keep new.keep) (sym w.changes) commits)
 done keeper old new k i x (Err f) says is after entered commits = tt

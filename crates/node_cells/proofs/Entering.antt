@@ -1,15 +1,14 @@
 -- What holds of a cell holds from its opening on, after each event, whether it was entered or refused.
 use Rattle.std.proofs.Common.{◌≡◌, ◌⊎◌, ◌∙◌, ◌+◌, ◌≤◌, ◌<◌, ◌++◌, ◌∷◌, ℕ, List, [], inl, inr, refl, sym, ap, subst, arith, length, length-append, append_assoc, append-nil, Result, Ok, Err, IfOk, IfErr, OnErr}
-use Rattle.std.specs.Prelude.{Bool, suc, true}
+use Rattle.std.specs.Prelude.{Bool, None, suc, true}
 use Rattle.ocpi_types.specs.declared.node_events.NodeEventKind.{NodeEventKind}
 use Rattle.ocpi_types.specs.declared.packet.Packet.{Packet}
-use Rattle.node_laws.specs.Runs.{Run}
 use Rattle.node_laws.proofs.Runs.{run_join}
 use Rattle.node_store.specs.Contents.{Content}
 use Rattle.node_rows.specs.Holds.{HoldsRows}
 use Rattle.node_rows.specs.Laws.{ChangesAreHeld}
 use Rattle.stored_laws.specs.Nodes.{CanStartAgain, NodesCanStartAgain}
-use Rattle.world_steps.specs.Steps.{NodeEvent, NodeStep, changes_of}
+use Rattle.world_steps.specs.Steps.{NodeEvent, NodeStep}
 use Rattle.world_steps.specs.World.{NodeState}
 use Rattle.stored_nodes.specs.Keepers.{IsSettled, Keeper, KeepsOn, Nothing, Taken}
 use Rattle.stored_nodes.specs.Stored.{Fails, IsStored, Loses, Stored}
@@ -107,7 +106,7 @@ module _ {K : Type 0} (keeper : Keeper K) where
 
   -- ---- an event was refused
 
-  pub not_done : (old new : Stored K) (history : List Entry) (k : NodeEventKind) (f : ApplyFault) → Fails keeper old k f new → IsNotDone keeper old history k (cell_fault f) new
+  pub not_done : (old new : Stored K) (history : List Entry) (k : NodeEventKind) (f : ApplyFault) → Fails keeper None old k f new → IsNotDone keeper old history k (cell_fault f) new
   not_done old new history k (apply.Store (store.Refused cause)) fails = fails
   not_done old new history k (apply.Store store.BadRow) fails = absurd fails.0
   not_done old new history k (apply.Store store.OldLayout) fails = absurd fails.0
@@ -117,7 +116,7 @@ module _ {K : Type 0} (keeper : Keeper K) where
 
   module _ (held : ChangesAreHeld) (start : NodesCanStartAgain) where
     lost : (party : List ℕ) (first : NodeState) (history : List Entry) (is_fresh : Bool) (old new : Stored K) (k : NodeEventKind) (rise : ℕ → ℕ) → IsCell keeper (at party first history is_fresh old) → IsStored keeper new →
-        Loses keeper old k rise new → IsCell keeper (at party first history is_fresh new)
+        Loses keeper None old k rise new → IsCell keeper (at party first history is_fresh new)
     lost party first history is_fresh old new k rise h stored l = record {
       stored = stored;
       opens = h.opens;

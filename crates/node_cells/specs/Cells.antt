@@ -1,5 +1,5 @@
 -- A node over its keeper with its history: what holds of it at any time, and what an event makes of it.
-use Rattle.std.specs.Prelude.{◌≡◌, ◌⊎◌, suc, ◌<◌, ◌≤◌, ℕ, List, [], ◌∷◌, ◌++◌, Bool, true, false, Contains, length}
+use Rattle.std.specs.Prelude.{◌≡◌, ◌⊎◌, suc, ◌<◌, ◌≤◌, ℕ, List, [], ◌∷◌, ◌++◌, Bool, true, false, None, Contains, length}
 use Rattle.ocpi_types.specs.Setups.{party_of}
 use Rattle.ocpi_types.specs.declared.node_events.NodeEventKind.{NodeEventKind}
 use Rattle.ocpi_types.specs.declared.setup.Node.{Node}
@@ -69,7 +69,7 @@ pub record IsCell {K : Type 0} (keeper : Keeper K) (c : Cell K) : Type 0 where
 
 -- the step of an entry, and what was committed by it: without changes the keeper was not asked
 pub data StoredStep {K : Type 0} (keeper : Keeper K) (old : Stored K) (e : Entry) (new : Stored K) : Type 0 where
-  Does : (x : NodeEvent) → Did old.state e x new.state → Commits keeper (changes_of x) old.keep new.keep → StoredStep keeper old e new
+  Does : (x : NodeEvent) → Did old.state e x new.state → Commits keeper None (changes_of x) old.keep new.keep → StoredStep keeper old e new
   Idle : WasIdle old.state e new.state → new.keep ≡ old.keep → StoredStep keeper old e new
 
 -- one entry more
@@ -114,9 +114,9 @@ IsRefusal store.Memory = ⊥
 -- why nothing was done: want of memory may be the node's own, or its keeper's
 abbrev pub IsNotDone : {K : Type 0} → Keeper K → Stored K → List Entry → NodeEventKind → CellFault → Stored K → Type 0
 IsNotDone keeper old history k TraceFull new = (most_entries ≤ length history) × (new ≡ old)
-IsNotDone keeper old history k (Store refusal) new = IsRefusal refusal × Loses keeper old k suc new
+IsNotDone keeper old history k (Store refusal) new = IsRefusal refusal × Loses keeper None old k suc new
 IsNotDone keeper old history k (Core refusal) new = Refuses old k refusal new
-IsNotDone keeper old history k Memory new = (new ≡ old) ⊎ Loses keeper old k (λ n. n) new
+IsNotDone keeper old history k Memory new = (new ≡ old) ⊎ Loses keeper None old k (λ n. n) new
 
 -- why an event was not entered; the cell is as it was, but for its keeper
 pub record IsNotEntered {K : Type 0} (keeper : Keeper K) (old : Cell K) (k : NodeEventKind) (fault : CellFault) (new : Cell K) : Type 0 where
@@ -132,7 +132,8 @@ pub record IsNotEntered {K : Type 0} (keeper : Keeper K) (old : Cell K) (k : Nod
 -- a node of the setup that has just the rows that are kept, at which nothing has happened since
 pub record OpensAgain {K : Type 0} (keeper : Keeper K) (setup : List Node) (member : Node) (before : K) (c : Cell K) : Type 0 where
   pub rows : ℕ
-  pub reopens : Reopens keeper setup member before rows (stored_of c)
+  pub line : ℕ
+  pub reopens : Reopens keeper setup member before rows line (stored_of c)
   pub party : c.party ≡ party_of member
   pub first : c.first ≡ c.state
   pub history : c.history ≡ []

@@ -140,7 +140,11 @@ impl<K: Keep> NodeCell<K> {
     {
         match StoredNode::reopen(alloc, seed, nodes, member, keep) {
             Ok(reopened) => {
-                let Reopened { node, rows: _ } = reopened;
+                let Reopened {
+                    node,
+                    rows: _,
+                    line: _,
+                } = reopened;
                 node.is_stored();
                 let first = Past::new().note(&node);
                 Ok(NodeCell {

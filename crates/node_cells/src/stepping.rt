@@ -1,6 +1,6 @@
 //! What an event makes of a node over its keeper, with all memory for its entry taken before.
 
-ghost use Rattle.std.specs.Prelude.{◌≡◌, ◌<◌, ◌≤◌, ◌+◌, ◌++◌, ◌∷◌, [], IfErr, IfOk, OnErr, OnOk, length, vec_capacity};
+ghost use Rattle.std.specs.Prelude.{◌≡◌, ◌<◌, ◌≤◌, ◌+◌, ◌++◌, ◌∷◌, [], IfErr, IfOk, None, OnErr, OnOk, length, vec_capacity};
 ghost use Rattle.stored_nodes.specs.Keepers.{Commits, keeper_of};
 ghost use Rattle.stored_nodes.specs.Stored.{Fails, IsNotCarriedOut};
 ghost use Rattle.node_core.specs.Works.{IsWork, changes_by, node_after, packets_by};
@@ -47,14 +47,14 @@ fn carry_out<K: Keep>(
     ensures state { OnOk result (stored.new.state ≡ node_after work stored.old.state) }
     ensures packets { IfOk result (λ x. x.packets ≡ packets_by work) }
     ensures entered { IfOk result (λ x. x.entered ≡ packets_by work) }
-    ensures commits { OnOk result (Commits (keeper_of K.content K.is_honest K.refusals K.may_leave) (changes_by work) stored.old.keep stored.new.keep) }
+    ensures commits { OnOk result (Commits (keeper_of K.content K.is_honest K.refusals K.may_leave) None (changes_by work) stored.old.keep stored.new.keep) }
     ensures same { OnErr result (stored.new.state ≡ stored.old.state) }
-    ensures err { IfErr result (λ f. IsNotCarriedOut (keeper_of K.content K.is_honest K.refusals K.may_leave) work stored.old.keep f stored.new.keep) }
+    ensures err { IfErr result (λ f. IsNotCarriedOut (keeper_of K.content K.is_honest K.refusals K.may_leave) None work stored.old.keep f stored.new.keep) }
 {
     let Ok(entered) = copies(alloc, work.packets()) else {
         return Err(ApplyFault::Memory);
     };
-    match stored.carry_out(work) {
+    match stored.carry_out(work, None) {
         Ok(Applied::Stepped { packets, .. }) => Ok(Sent {
             packets: Packets::new(packets),
             entered: Packets::new(entered),
@@ -72,7 +72,7 @@ fn step<K: Keep>(
 ) -> Result<Sent, ApplyFault>
     ensures ok { IfOk result (λ x. StoredStep (keeper_of K.content K.is_honest K.refusals K.may_leave) stored.old (record { event = event.now; packets = x.entered }) stored.new) }
     ensures alike { IfOk result (λ x. x.packets ≡ x.entered) }
-    ensures err { IfErr result (λ f. Fails (keeper_of K.content K.is_honest K.refusals K.may_leave) stored.old event.now f stored.new) }
+    ensures err { IfErr result (λ f. Fails (keeper_of K.content K.is_honest K.refusals K.may_leave) None stored.old event.now f stored.new) }
 {
     let Some(input) = input_of(event) else {
         return Ok(nothing_sent(alloc));

@@ -4,23 +4,25 @@ use Rattle.std.proofs.lemmas.Bool.{cases_lt}
 use Rattle.std.proofs.lemmas.List.{length-take, take_more}
 use Rattle.std.proofs.lemmas.Option.{slice_get_read, slice_get_within}
 use Rattle.std.proofs.lemmas.Result.{err_from_is_err_and}
-use Rattle.std.specs.FinMap.{empty, entries}
+use Rattle.std.specs.FinMap.{empty, entries, get, remove}
 use Rattle.std.specs.Prelude.{IsSome}
 use Rattle.std.specs.Result.{IsErrAnd}
 use Rattle.tables.proofs.Ordered.{no_first}
-use Rattle.tables.specs.Keys.{text_pair_cmp}
+use Rattle.tables.specs.Keys.{text_pair_cmp, text_pair_total, text_pair_exact}
+use Rattle.tables.proofs.Maps.{remove_absent}
 use Rattle.json_text.specs.Fault.{Read}
 use Rattle.ocpi_text.specs.Text.{key}
 use Rattle.ocpi_json.specs.RowForms.{row_in}
 use Rattle.ocpi_types.specs.declared.rows.Change.{Change}
 use Rattle.ocpi_types.specs.declared.rows.Row.{Row}
 use Rattle.ocpi_types.specs.declared.setup.Node.{Node}
-use Rattle.node_store.specs.Contents.{Content, RowPlace, after_row, changed_all, rows_after, rows_of}
+use Rattle.node_store.specs.Contents.{Content, RowPlace, after_row, changed_all, line_of, line_place, rows_after, rows_of}
+use Rattle.node_store.proofs.Numbered.{no_first_number}
 use Rattle.node_store.specs.Faults.{IsCommitFault, counted}
 use Rattle.node_store.specs.declared.fault.Cause.TheVariants.{NotEmpty}
 use Rattle.node_store.specs.declared.fault.StoreFault.{StoreFault}
 use Rattle.node_store.specs.declared.fault.StoreFault.TheVariants.{Refused}
-use Rattle.node_keepers.specs.Keeping.{AreOpened, AreUnopened, IsKeeperOf, IsOpened, CannotLoad, IsUnopened, KeeperRefuses, KeeperTakes, Keeping, KeepsRows, Made, Not_loaded, Not_made, Not_new}
+use Rattle.node_keepers.specs.Keeping.{AreOpened, AreUnopened, IsKeeperOf, IsOpened, CannotLoad, IsUnopened, KeeperRefuses, KeeperTakes, Keeping, KeepsSomething, Made, Not_loaded, Not_made, Not_new}
 use Rattle.node_keepers.specs.declared.keeping.KeptNode.{KeptNode}
 
 read_on : (read : Read Row) (f : Row → Option (List Row)) (v : List Row) (n : ℕ) → after_row read f ≡ Some v → ((r : Row) → f r ≡ Some v → n ≤ length v) → n ≤ length v
@@ -40,9 +42,12 @@ no_entries (e ∷ es) is =
     let some : 1 ≤ 0 = read_on (row_in e.0.0 e.0.1 e.1) (λ r. rows_after (r ∷ []) es) [] 1 is (λ r h. as_many (r ∷ []) [] es h) in
     absurd (omega (arith, some))
 
--- a content of no rows is empty
-pub keeps_nothing : (c : Content) (v : List Row) → rows_of c ≡ Some v → v ≡ [] → c ≡ empty
-keeps_nothing c v is none = no_first text_pair_cmp c (no_entries (entries c) (is ∙ ap Some none))
+-- a content of no rows in which no line took hold is empty
+pub keeps_nothing : (c : Content) (v : List Row) (n : ℕ) → rows_of c ≡ Some v → line_of c ≡ Some n → v ≡ [] → n ≡ 1 → c ≡ empty
+keeps_nothing c v n is number none first =
+    let bare = remove c line_place in
+    sym (remove_absent text_pair_total text_pair_exact c line_place (no_first_number (get c line_place) (number ∙ ap Some first)))
+    ∙ no_first text_pair_cmp bare (no_entries (entries bare) (is ∙ ap Some none))
 
 -- one more keeper
 pub one_more : {K : Type 0} (keeping : Keeping K) (xs : List Node) (ns : List (KeptNode K)) (x : Node) (n : KeptNode K) →
@@ -162,6 +167,6 @@ one_unopened keeping may_refuse setup kept i place fault within are next unopene
 
 -- a keeper that was opened and could not be taken is why there is none
 pub not_taken : {K : Type 0} (keeping : Keeping K) (may_refuse : ℕ → StoreFault → Type 0) (place : ℕ) (fault : StoreFault) (before after : K) →
-    CannotLoad keeping fault before after ⊎ (KeepsRows keeping after × (fault ≡ Refused NotEmpty)) → IsUnopened keeping may_refuse place fault
+    CannotLoad keeping fault before after ⊎ (KeepsSomething keeping after × (fault ≡ Refused NotEmpty)) → IsUnopened keeping may_refuse place fault
 not_taken keeping may_refuse place fault before after (inl cannot) = Not_loaded before after cannot
 not_taken keeping may_refuse place fault before after (inr keeps) = Not_new after keeps.0 keeps.1

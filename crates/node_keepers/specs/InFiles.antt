@@ -1,5 +1,5 @@
 -- What is known of a keeper in a file: what it was made of, and what it leaves.
-use Rattle.std.specs.Prelude.{◌≡◌, ℕ, List, Option}
+use Rattle.std.specs.Prelude.{◌≡◌, ◌≢◌, ◌⊎◌, ℕ, List, Option, Some, None}
 use Rattle.std.specs.FinMap.{empty}
 use Rattle.sqlite_disk.specs.declared.Disk.{Ghosts}
 use Rattle.sqlite_disk.specs.declared.Files.{Files}
@@ -10,7 +10,7 @@ use Rattle.sqlite.specs.Closing.{IsCopied}
 use Rattle.sqlite.specs.Files.{over_files}
 use Rattle.ocpi_types.specs.declared.rows.Row.{Row}
 use Rattle.row_table.specs.Kept.{Kept, IsClean, content, texts}
-use Rattle.node_store.specs.Contents.{Content, rows_of}
+use Rattle.node_store.specs.Contents.{Content, line_of, rows_of}
 use Rattle.node_store.specs.Opened.{FindsInFile}
 
 -- it has what was found in a file that held this
@@ -21,20 +21,26 @@ IsFoundIn image k = IsClean over_files k.0 → FindsInFile image k.0.conn (conte
 abbrev pub IsBlank : {D : Type 0} {g : Ghosts D} → Kept (FileStore D g) × ℕ → Type 0
 IsBlank k = IsClean over_files k.0 → texts over_files k.0 ≡ empty
 
--- A keeper that had these rows, or none where a text of it was no row, was ended, and left this.
+-- what is told of a content: its rows; or none, where a text of it is no row, or that of the number of the last line is
+-- no such number
+abbrev pub Tells : Content → Option (List Row) → Type 0
+Tells c (Some rows) = (rows_of c ≡ Some rows) × (line_of c ≢ None)
+Tells c None = (rows_of c ≡ None) ⊎ (line_of c ≡ None)
+
+-- A keeper of which these rows were told, or none where a text of it was no row or no number, was ended, and left this.
 pub record HadRows {K E : Type 0} (content_now : K → Content) (is_honest : K → Type 0) (leaves : K → E → Type 0) (k : K) (rows : Option (List Row)) (ended : E) : Type 0 where
   pub last : K
   pub left : leaves last ended
   pub earlier : is_honest last → is_honest k
-  pub are : is_honest last → rows_of (content_now k) ≡ rows
+  pub are : is_honest last → Tells (content_now k) rows
   pub same : is_honest last → content_now last ≡ content_now k
 
--- These rows were found in a file that held this, or none where a text was no row. The keeper that had them was ended,
--- and what it had is in the database file alone.
+-- These rows were found in a file that held this, or none where a text was no row or no number. The keeper that had them
+-- was ended, and what it had is in the database file alone.
 pub record WereFound {D : Type 0} (g : Ghosts D) (image : Image) (rows : Option (List Row)) (files : Files D) : Type 0 where
   pub first : Kept (FileStore D g)
   pub found : FindsInFile image first.conn (content over_files first)
-  pub are : rows_of (texts over_files first) ≡ rows
+  pub are : Tells (texts over_files first) rows
   pub last : Kept (FileStore D g)
   pub same : texts over_files last ≡ texts over_files first
   pub copied : IsCopied last.conn files

@@ -7,7 +7,7 @@ use Rattle.ocpi_types.specs.Setups.{party_of}
 use Rattle.ocpi_types.specs.declared.rows.Change.{Change}
 use Rattle.ocpi_types.specs.declared.rows.Row.{Row}
 use Rattle.ocpi_types.specs.declared.setup.Node.{Node}
-use Rattle.node_store.specs.Contents.{Content, changed_all, rows_of}
+use Rattle.node_store.specs.Contents.{Content, changed_all, line_of, rows_of}
 use Rattle.node_store.specs.Faults.{IsCommitFault, counted_fault}
 use Rattle.node_store.specs.declared.fault.Cause.TheVariants.{NoKeeper, NotEmpty}
 use Rattle.node_store.specs.declared.fault.StoreFault.{StoreFault}
@@ -42,24 +42,26 @@ AreOpened keeping [] (n ∷ ns) = ⊥
 AreOpened keeping (x ∷ xs) [] = ⊥
 AreOpened keeping (x ∷ xs) (n ∷ ns) = IsOpened keeping x n × AreOpened keeping xs ns
 
--- a keeper refused to tell its rows
+-- a keeper refused to tell what it keeps
 pub record CannotLoad {K : Type 0} (keeping : Keeping K) (fault : StoreFault) (before after : K) : Type 0 where
   pub counted : keeping.refusals after ≡ counted_fault fault (keeping.refusals before)
-  pub bad : keeping.is_honest after → fault ≡ BadRow → rows_of (keeping.content before) ≡ None
+  pub bad : keeping.is_honest after → fault ≡ BadRow → (rows_of (keeping.content before) ≡ None) ⊎ (line_of (keeping.content before) ≡ None)
   pub layout : fault ≢ OldLayout
 
--- a keeper keeps a row
-pub record KeepsRows {K : Type 0} (keeping : Keeping K) (k : K) : Type 0 where
+-- a keeper keeps a row, or a line took hold in it
+pub record KeepsSomething {K : Type 0} (keeping : Keeping K) (k : K) : Type 0 where
   pub rows : List Row
+  pub line : ℕ
   pub are : keeping.is_honest k → rows_of (keeping.content k) ≡ Some rows
-  pub some : rows ≢ []
+  pub number : keeping.is_honest k → line_of (keeping.content k) ≡ Some line
+  pub some : (rows ≢ []) ⊎ (line ≢ 1)
 
 -- Why the node at that place got no keeper: none could be opened, for a fault that the opening at that place may have;
--- or one was opened, but could not tell its rows; or it kept a row already.
+-- or one was opened, but could not tell what it keeps; or it kept a row already, or the number of a line.
 pub data IsUnopened {K : Type 0} (keeping : Keeping K) (may_refuse : ℕ → StoreFault → Type 0) (place : ℕ) (fault : StoreFault) : Type 0 where
   Not_opened : may_refuse place fault → IsUnopened keeping may_refuse place fault
   Not_loaded : (before after : K) → CannotLoad keeping fault before after → IsUnopened keeping may_refuse place fault
-  Not_new : (k : K) → KeepsRows keeping k → fault ≡ Refused NotEmpty → IsUnopened keeping may_refuse place fault
+  Not_new : (k : K) → KeepsSomething keeping k → fault ≡ Refused NotEmpty → IsUnopened keeping may_refuse place fault
 
 -- one of a setup's nodes, whose places are counted from 1, got no keeper, or memory ran out for the list of them
 abbrev pub AreUnopened : {K : Type 0} → Keeping K → (ℕ → StoreFault → Type 0) → List Node → StoreFault → Type 0

@@ -27,6 +27,7 @@ ghost use Rattle.sqlite.specs.Files.{over_files};
 ghost use Rattle.sqlite.specs.WalFiles.{image_at};
 
 use crate::keeps::Keeps;
+use crate::loading::load_rows;
 use crate::system_files::{
     Identity, LOG_OF_A_PAGE, Locked, Standing, find_file, find_folder, find_or_make_file,
     make_file, remove_empty_log,
@@ -435,7 +436,7 @@ fn open_new(
 #[derive(Drop)]
 pub struct Found<F> {
     /// Its rows, ordered by kind and key, or why they were not told: `BadRow` where a text is no row of its kind and
-    /// key, and never `OldLayout`.
+    /// key, or that of the number of the last line is no such number, and never `OldLayout`.
     pub rows: Result<Vec<Row>, StoreFault>,
     /// The file and its log, which was closed once these were read, so that the file holds all rows alone. Both are
     /// locked until they are dropped. After a refusal the rows are in the file and its log together, as before.
@@ -458,7 +459,7 @@ fn rows_of<K: InFile>(
     ensures fault { IfErr opened (λ e. result ≡ Err e) }
 {
     let mut keep = opened?;
-    let rows = keep.load();
+    let rows = load_rows(&mut keep);
     let closed = keep.end(rt, path, identity);
     Ok(Found { rows, closed })
 }

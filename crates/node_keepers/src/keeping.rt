@@ -1,6 +1,6 @@
 //! The keepers of a world's nodes: they are opened, given what each event changes, and closed.
 
-ghost use Rattle.std.specs.Prelude.{◌≡◌, ◌≢◌, ◌⊎◌, ℕ, [], IfErr, IfNone, IfOk, IfSome, OnOk};
+ghost use Rattle.std.specs.Prelude.{◌≡◌, ◌≢◌, ◌⊎◌, ℕ, [], false, true, IfErr, IfNone, IfOk, IfSome, OnOk};
 ghost use Rattle.node_keepers.specs.Keeping.{
   AreOpened,
   AreUnopened,
@@ -10,7 +10,7 @@ ghost use Rattle.node_keepers.specs.Keeping.{
   IsUnopened,
   KeeperRefuses,
   KeeperTakes,
-  KeepsRows,
+  KeepsSomething,
   keeping_of,
 };
 ghost use Rattle.node_keepers.specs.declared.keeping.KeptNode.{KeptNode as KeptNodeOf};
@@ -20,7 +20,7 @@ ghost use Rattle.node_store.specs.declared.fault.StoreFault.TheVariants.{Refused
 ghost use Rattle.ocpi_types.specs.Setups.{party_of};
 
 use crate::keeps::Keeps;
-use node_store::{Cause, Keep, StoreFault};
+use node_store::{Cause, Keep, Kept, StoreFault};
 use ocpi_text::Party;
 use ocpi_types::{Change, Node};
 use std::alloc::Global;
@@ -32,22 +32,30 @@ pub struct KeptNode<K> {
     keep: K,
 }
 
-/// Refuses a keeper that keeps a row already as `NotEmpty`.
+/// Whether no row is kept, and no line took hold.
+fn is_new(kept: &Kept) -> bool
+    ensures new { result ≡ true → (kept.now.rows.items ≡ []) × (kept.now.line ≡ 1) }
+    ensures used { result ≡ false → (kept.now.rows.items ≢ []) ⊎ (kept.now.line ≢ 1) }
+{
+    kept.rows.is_empty() && kept.line.value() == 1
+}
+
+/// Refuses a keeper that keeps a row already, or in which a line took hold, as `NotEmpty`.
 fn try_empty<K: Keep>(keep: &mut K) -> Result<(), StoreFault>
     ensures ok { OnOk result (IsEmpty (keeping_of K.content K.is_honest K.refusals) keep.new) }
     ensures err { IfErr result (λ fault. CannotLoad (keeping_of K.content K.is_honest K.refusals) fault keep.old keep.new
-        ⊎ (KeepsRows (keeping_of K.content K.is_honest K.refusals) keep.new × (fault ≡ Refused NotEmpty))) }
+        ⊎ (KeepsSomething (keeping_of K.content K.is_honest K.refusals) keep.new × (fault ≡ Refused NotEmpty))) }
 {
-    let rows = keep.load()?;
-    if rows.is_empty() {
+    let kept = keep.load()?;
+    if is_new(&kept) {
         Ok(())
     } else {
         Err(StoreFault::Refused(Cause::NotEmpty))
     }
 }
 
-/// Opens the keeper of the node at a place of the setup. One that keeps a row already is refused as `NotEmpty`. A
-/// keeper that is refused once it was opened is closed.
+/// Opens the keeper of the node at a place of the setup. One that keeps a row already, or the number of a line, is
+/// refused as `NotEmpty`. A keeper that is refused once it was opened is closed.
 fn open_one<S: Keeps>(keeps: &mut S, place: usize) -> Result<S::Kept, StoreFault>
     ensures ok { IfOk result (IsEmpty (keeping_of S.Kept.content S.Kept.is_honest S.Kept.refusals)) }
     ensures err { IfErr result (IsUnopened (keeping_of S.Kept.content S.Kept.is_honest S.Kept.refusals) S.may_refuse place) }
@@ -140,8 +148,9 @@ fn find<K>(kept: &[KeptNode<K>], party: &Party) -> Option<usize>
     None
 }
 
-/// Gives the changes of an event to the keeper of that party's node, where there are any. A refusal is that of the
-/// keeper, and changes nothing; `NoKeeper` comes where there are changes and no keeper for them.
+/// Gives the changes of an event, which is of no numbered line, to the keeper of that party's node, where there are any.
+/// A refusal is that of the keeper, and changes nothing; `NoKeeper` comes where there are changes and no keeper for
+/// them.
 pub fn commit<K: Keep>(
     kept: &mut Vec<KeptNode<K>>,
     party: &Party,
@@ -158,7 +167,7 @@ pub fn commit<K: Keep>(
         return Err(StoreFault::Refused(Cause::NoKeeper));
     };
     match kept.get_mut(i) {
-        Some(node) => node.keep.commit(changes),
+        Some(node) => node.keep.commit(changes, None),
         None => Err(StoreFault::Refused(Cause::NoKeeper)),
     }
 }

@@ -15,10 +15,11 @@
 //!   it is honest, keeps no row. By `open_all`: `ok`.
 //! - Where it fails one of the nodes got no keeper, for a fault that the opening at its place may have (`may_refuse` of
 //!   `Keeps`). By `open_all`: `err` (`AreUnopened`).
-//! - Or a keeper could not tell its rows (its count of refusals is raised as the fault says), or keeps a row already
-//!   (`Refused(NotEmpty)`); or the fault is `Memory`. By `open_all`: `err`.
+//! - Or a keeper could not tell its rows (its count of refusals is raised as the fault says), or keeps a row already or
+//!   the number of a line (`Refused(NotEmpty)`); or the fault is `Memory`. By `open_all`: `err`.
 //! - A commit gives the changes to the keeper of the node of that party, compared without case. It keeps, if it is
-//!   honest, what just these changes make of what it kept, and every other is as it was. By `commit`: `ok`.
+//!   honest, what just these changes make of what it kept, and every other is as it was. No number of a line is kept.
+//!   By `commit`: `ok`.
 //! - No changes change nothing, and are never refused. By `commit`: `some`.
 //! - Where a commit is refused that keeper refused, with its count raised as the fault says, or the party has no keeper
 //!   (`Refused(NoKeeper)`). What each keeps, if it is honest, is as it was. By `commit`: `err` (`KeeperRefuses`).
@@ -28,8 +29,8 @@
 //!   held, as it is in layout 2, whatever that was (`FindsInFile`). By `Keeps::open`: `found` (`specs/InFiles`).
 //! - What a closing leaves is handed out: the files, locked until they are dropped, which were copied as `node_store`
 //!   says. A `StoreFile` is opened once. By `Keeps::close`: `closed`; that it is opened once: by its type.
-//! - The rows of a file are those that it held; a text that is no row is told only where it held one. The file was
-//!   copied as it was closed. By `rows_in` (`specs/InFiles`).
+//! - The rows of a file are those that it held; a text that is no row, or no number of a line, is told only where it
+//!   held one. The file was copied as it was closed. By `rows_in` (`specs/InFiles`).
 //! - A log is removed only while this program holds the locks of its file, and where its name still leads to that file.
 //!   No clause says what lies on a disk (tested by `tools/try_stores`, `faults/open_at_once.py`).
 //! - A closing is refused for what a commit may be refused, `Refused` or `Memory`. All keepers are closed, also where
@@ -48,17 +49,20 @@
 //! # How it is built
 //!
 //! Where keepers of rows come from is a trait, `Keeps`: in memory (`ListKeeps`), or in new files of a folder
-//! (`FileKeeps`). `open_all` opens one for each node of a setup, loads it, and refuses one that has a row; `commit`
+//! (`FileKeeps`). `open_all` opens one for each node of a setup, loads it, and refuses one that is not new; `commit`
 //! finds the keeper by the party and hands it the changes; `close_all` ends them. All of it is said of any type of
 //! keepers. What ends a keeper in a file is a trait of `files.rt` (`InFile`), so that the bodies which hold one are
 //! generic.
 #![tactic(auto)]
 
+mod copies;
 mod files;
 mod keeping;
 mod keeps;
+mod loading;
 mod system_files;
 
+pub use copies::kept_in_copy;
 pub use files::{FileKeeps, Found, StoreFile, rows_in};
 pub use keeping::{KeptNode, close_all, commit, open_all};
 pub use keeps::{Keeps, ListKeeps};

@@ -182,6 +182,39 @@ pub(crate) fn find_file(rt: &HostRuntime, path: &str) -> Result<Standing, StoreF
     }
 }
 
+/// All bytes of the file at a path.
+pub(crate) fn find_readable(rt: &HostRuntime, path: &str) -> Result<Vec<u8>, StoreFault> {
+    match fs::metadata(rt, path) {
+        Ok(found) => {
+            if !found.is_file() {
+                return Err(StoreFault::Refused(Cause::NotAFile));
+            }
+        }
+        Err(error) => return Err(fault_from(error.kind(), Cause::NotFound)),
+    }
+    match fs::read(rt, path) {
+        Ok(bytes) => Ok(bytes),
+        Err(error) => Err(fault_from(error.kind(), Cause::NotFound)),
+    }
+}
+
+/// All bytes of the log of the file at a path: none where there is none.
+pub(crate) fn log_beside(rt: &HostRuntime, path: &str) -> Result<Vec<u8>, StoreFault> {
+    if is_without_log(rt, path) {
+        return Ok(Vec::new(rt.alloc()));
+    }
+    match read_log(rt, path) {
+        Ok(bytes) => Ok(bytes),
+        Err(error) => Err(fault_from(error.kind(), Cause::NotFound)),
+    }
+}
+
+fn read_log(rt: &HostRuntime, path: &str) -> io::Result<Vec<u8>> {
+    let real = fs::canonicalize(rt, path)?;
+    let log = log_of(rt, real.as_str())?;
+    fs::read(rt, log.as_str())
+}
+
 /// What is told of an error of the system at a file, where `missing` is told of a name that leads nowhere.
 fn fault_from(kind: ErrorKind, missing: Cause) -> StoreFault {
     match kind {

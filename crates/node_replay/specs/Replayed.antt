@@ -1,41 +1,20 @@
--- A node of a setup with all that happened at it: what holds of it at any time, and what an event makes of it.
-use Rattle.std.specs.Prelude.{◌≡◌, ◌≢◌, ◌↔◌, List, [], ◌∷◌, ◌++◌, Option, None, Some, Bool, false, IsTrue, Contains}
+-- What an event makes of a node, and what is entered of it.
+use Rattle.std.specs.Prelude.{◌≡◌, ◌≢◌, ◌↔◌, List, [], ◌∷◌, ◌++◌, Option, None, Some, Bool, IsTrue}
 use Rattle.ocpi_types.specs.declared.node_events.NodeEventKind.{NodeEventKind}
 use Rattle.ocpi_types.specs.declared.node_events.NodeEventKind.TheVariants as event
 use Rattle.ocpi_types.specs.declared.packet.Packet.{Packet}
-use Rattle.ocpi_types.specs.declared.setup.Node.{Node}
 use Rattle.node_steps.specs.declared.fault.NodeFault.{NodeFault}
 use Rattle.node_steps.specs.declared.fault.NodeFault.TheVariants.{Memory}
-use Rattle.world_laws.specs.Laws.{IsSetup}
 use Rattle.world_steps.specs.Network.{Input}
 use Rattle.world_steps.specs.Steps.{NodeRefuses, changes_of}
-use Rattle.world_steps.specs.World.{NodeState, opening_of}
+use Rattle.world_steps.specs.World.{NodeState}
 use Rattle.histories.specs.declared.entry.Entry.{Entry}
-use Rattle.history_laws.specs.Replays.{Brings, Does, EntryStep, Idle, Replays}
-use Rattle.stored_laws.specs.Nodes.{CanStartAgain, IsOfOpening, restarted}
+use Rattle.history_laws.specs.Replays.{Brings, Does, EntryStep, Idle}
 use Rattle.node_replay.specs.declared.outcome.ReplayFault.{ReplayFault}
 use Rattle.node_replay.specs.declared.outcome.ReplayFault.TheVariants as fault
 use Rattle.node_replay.specs.declared.stepping.Done.{Done}
 use Rattle.node_replay.specs.declared.outcome.Replayed.{Replayed}
 use Rattle.node_replay.specs.declared.outcome.Replayed.TheVariants.{Skipped, Stepped}
-
--- the nodes of a setup, the one of them that is replayed, the state in which it is, and what happened at it since it was
--- opened, oldest first
-pub record Replay : Type 0 where
-  pub setup : List Node
-  pub member : Node
-  pub state : NodeState
-  pub entries : List Entry
-
--- ---- what holds at any time
-
--- the node is what its entries made of it since it was opened, and it can be made again of its rows
-pub record IsReplay (r : Replay) : Type 0 where
-  pub is_setup : IsSetup r.setup
-  pub among : Contains r.setup r.member
-  pub replays : Replays (opening_of r.setup r.member) r.entries r.state
-  pub of_member : IsOfOpening (opening_of r.setup r.member) r.state
-  pub starts : CanStartAgain r.state
 
 -- ---- what an event comes to
 
@@ -65,41 +44,14 @@ pub record Refuses (s : NodeState) (k : NodeEventKind) (why : NodeFault) : Type 
 
 -- ---- what becomes of a node
 
--- one entry more, whose packets are what the node sent
-pub record Enters (old : Replay) (k : NodeEventKind) (changed : Bool) (new : Replay) : Type 0 where
-  pub packets : List Packet
-  pub leads : Leads old.state k packets changed new.state
-  pub entries : new.entries ≡ old.entries ++ record { event = k; packets = packets } ∷ []
-  pub setup : new.setup ≡ old.setup
-  pub member : new.member ≡ old.member
-
 -- a node starts again, which sends nothing
 abbrev pub restart_entry : Entry
 restart_entry = record { event = event.Restart; packets = [] }
-
--- the same node, at which that is entered
-abbrev pub started_again : Replay → Replay
-started_again r = record { setup = r.setup; member = r.member; state = restarted r.state; entries = r.entries ++ restart_entry ∷ [] }
-
--- what is answered of an event
-abbrev pub Answers : Replay → NodeEventKind → Replayed → Replay → Type 0
-Answers old k Skipped new = Passes old.state k × (new ≡ old)
-Answers old k (Stepped changed) new = Enters old k changed new
 
 -- why an event is not entered
 abbrev pub Fails : NodeState → NodeEventKind → ReplayFault → Type 0
 Fails s k (fault.Core why) = Refuses s k why
 Fails s k fault.Memory = Unit {0}
-
--- why it is not entered; nothing changed
-abbrev pub IsNotEntered : Replay → NodeEventKind → ReplayFault → Replay → Type 0
-IsNotEntered old k why new = Fails old.state k why × (new ≡ old)
-
--- whether the event, if it is carried out, changes a row: none does that is refused or of the other role
-pub data Foretells (s : NodeState) (k : NodeEventKind) (changes : Bool) : Type 0 where
-  Carried : (packets : List Packet) (t : NodeState) → Leads s k packets changes t → Foretells s k changes
-  Refused : (why : NodeFault) → Refuses s k why → changes ≡ false → Foretells s k changes
-  Passed : Passes s k → changes ≡ false → Foretells s k changes
 
 -- ---- within an event
 

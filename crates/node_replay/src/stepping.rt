@@ -1,11 +1,10 @@
 //! What an event makes of a node, with all memory for its entry taken before.
 
-ghost use Rattle.std.specs.Prelude.{◌≡◌, ◌≢◌, ◌≤◌, ◌+◌, ◌++◌, ◌∷◌, ◌↔◌, [], IfErr, IfOk, IsTrue, List, OnErr, OnOk, length, vec_capacity};
+ghost use Rattle.std.specs.Prelude.{◌≡◌, ◌≢◌, ◌≤◌, ◌+◌, ◌++◌, ◌∷◌, ◌↔◌, [], IfErr, IfOk, IsTrue, OnErr, OnOk, length, vec_capacity};
 ghost use Rattle.node_core.specs.States.{state_of};
 ghost use Rattle.node_core.specs.Works.{IsWork, changes_by, node_after, packets_by};
 ghost use Rattle.node_core.specs.declared.input.NodeInput.{NodeInput as NodeInputOf};
-ghost use Rattle.node_replay.specs.Replayed.{Adds, Fails, Foretells, IsStep, restart_entry};
-ghost use Rattle.stored_laws.specs.Nodes.{restarted};
+ghost use Rattle.node_replay.specs.Replayed.{Adds, Fails, IsStep};
 
 use crate::outcome::{ReplayFault, Replayed};
 use histories::{Entry, Packets};
@@ -120,68 +119,4 @@ pub(crate) fn enter(
             Err(fault)
         }
     }
-}
-
-/// Whether an event, if it is carried out, changes a row. An error is want of memory.
-pub(crate) fn foretell(node: &Node, event: &NodeEventKind) -> Result<bool, AllocError>
-    ensures { IfOk result (Foretells (state_of node.now) event.now) }
-{
-    let Some(input) = input_of(event) else {
-        return Ok(false);
-    };
-    match node.plan(&input) {
-        Ok(NodePlan::Skipped) => Ok(false),
-        Ok(NodePlan::Refused(_)) => Ok(false),
-        Ok(NodePlan::Acts(work)) => {
-            let changes = changes_rows(&work);
-            drop(work);
-            Ok(changes)
-        }
-        Err(_) => Err(AllocError),
-    }
-}
-
-/// Adds an equal entry.
-fn push_copy(copies: &mut Vec<Entry>, entry: &Entry) -> Result<(), AllocError>
-    ensures { OnOk result (copies.new.items ≡ copies.old.items ++ entry.now ∷ []) }
-{
-    let event = entry.event.copy()?;
-    match entry.packets.copy() {
-        Ok(packets) => {
-            copies.push(Entry { event, packets })?;
-            Ok(())
-        }
-        Err(_) => {
-            drop(event);
-            Err(AllocError)
-        }
-    }
-}
-
-/// Equal entries, in order, and behind them that the node starts again. An error is want of memory.
-pub(crate) fn restarted_copies(alloc: Global, entries: &[Entry]) -> Result<Vec<Entry>, AllocError>
-    ensures { IfOk result (λ v. v.items ≡ entries.now ++ restart_entry ∷ []) }
-{
-    let mut copies = Vec::new(alloc);
-    for entry in entries {
-        push_copy(&mut copies, entry)?;
-    }
-    copies.push(Entry {
-        event: NodeEventKind::Restart,
-        packets: Packets::new(Vec::new(alloc)),
-    })?;
-    Ok(copies)
-}
-
-/// A node starts again, which is entered. It sends nothing. An error is want of memory, and changes nothing.
-pub(crate) fn enter_restart(node: &mut Node, entries: &mut Vec<Entry>) -> Result<(), AllocError>
-    ensures state { OnOk result (state_of node.new ≡ restarted (state_of node.old)) }
-    ensures entered { OnOk result (entries.new.items ≡ entries.old.items ++ restart_entry ∷ []) }
-    ensures same { OnErr result (state_of node.new ≡ state_of node.old) }
-    ensures entries { OnErr result (entries.new.items ≡ entries.old.items) }
-{
-    entries.reserve(1)?;
-    let packets = Packets::new(node.apply(NodeWork::Restart));
-    push_entry(entries, NodeEventKind::Restart, packets);
-    Ok(())
 }

@@ -4,3 +4,4 @@ pub mod Held
 pub mod Steps
 pub mod Restarts
 pub mod Telling
+pub mod Numbers

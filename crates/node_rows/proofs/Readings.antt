@@ -2,7 +2,7 @@
 use Rattle.std.proofs.Common.{◌≡◌, ◌≢◌, ℕ, List, [], ◌∷◌, ◌++◌, map, true, Option, Some, None, Result, Ok, Err, inl, inr, refl, sym, ap, subst, ◌∙◌}
 use Rattle.std.specs.Prelude.{◌↔◌, Contains}
 use Rattle.std.specs.List.{AllPairs}
-use Rattle.std.specs.FinMap.{entries, get}
+use Rattle.std.specs.FinMap.{entries, get, remove}
 use Rattle.std.proofs.lemmas.List.{append_assoc, append-nil}
 use Rattle.std.proofs.lemmas.List.Elements.{All-contains}
 use Rattle.std.proofs.lemmas.List.Kept.{AllPairs-cons}
@@ -10,12 +10,14 @@ use Rattle.std.proofs.lemmas.Option.{same_Some}
 use Rattle.tables.specs.Keys.{text_pair_cmp, text_pair_total, text_pair_exact}
 use Rattle.tables.proofs.Elements.{all_of, first_pairs, in_front, in_map, in_none, later_pairs, no_pairs}
 use Rattle.tables.proofs.Entries.{all_apart, listed, listed_only}
+use Rattle.tables.proofs.Maps.{get-remove_other, of_remove}
 use Rattle.json_text.specs.Fault.{Read}
 use Rattle.ocpi_types.specs.Rows.{key_of}
 use Rattle.ocpi_types.specs.declared.rows.Row.{Row}
 use Rattle.ocpi_json.specs.RowForms.{row_in}
 use Rattle.ocpi_json.proofs.RowLemmas.{row_found}
-use Rattle.node_store.specs.Contents.{AreRows, Content, RowPlace, after_row, is_row, place_of, rows_after, rows_of}
+use Rattle.node_store.specs.Contents.{AreRows, Content, RowPlace, after_row, is_row, line_place, place_of, rows_after, rows_of}
+use Rattle.node_store.proofs.Numbered.{no_row_place}
 use Rattle.operator_rows.proofs.RowChanges.{in_later, of_cons}
 
 abbrev Entry : Type 0
@@ -53,8 +55,12 @@ read_after before (x ∷ es) rows e =
     let (rs, all, read) = read_after (before ++ r ∷ []) es rows rest in
     (r ∷ rs, all ∙ append_assoc before (r ∷ []) rs, (is, read))
 
-all_read : (c : Content) (rows : List Row) → rows_of c ≡ Some rows → AreRead (entries c) rows
-all_read c rows e = let (rs, all, read) = read_after [] (entries c) rows e in subst (AreRead (entries c)) (sym all) read
+-- what stands at the places of rows
+abbrev of_rows : Content → Content
+of_rows c = remove c line_place
+
+all_read : (c : Content) (rows : List Row) → rows_of c ≡ Some rows → AreRead (entries (of_rows c)) rows
+all_read c rows e = let (rs, all, read) = read_after [] (entries (of_rows c)) rows e in subst (AreRead (entries (of_rows c))) (sym all) read
 
 of_entry : (es : List Entry) (rs : List Row) → AreRead es rs → (r : Row) → Contains rs r → (e : Entry) × Contains es e × (read_at e.0 e.1 ≡ Ok r)
 of_entry [] [] h r i = absurd (in_none r i)
@@ -99,24 +105,27 @@ keys_apart (r ∷ rs) h =
 
 -- the rows of a content are those that it keeps, each once
 module _ (c : Content) (rows : List Row) (is : rows_of c ≡ Some rows) where
+  -- of what stands at the place of a row one of them is read
+  read_from : (p : RowPlace) (t : List ℕ) → p ≢ line_place → get c p ≡ Some t → (q : Row) × Contains rows q × (read_at p t ≡ Ok q)
+  read_from p t other stands =
+      to_row (entries (of_rows c)) rows (all_read c rows is) (p, t) (listed text_pair_total text_pair_exact (of_rows c) p t (get-remove_other text_pair_total text_pair_exact c line_place p other ∙ stands))
+
   pub rows_kept : (r : Row) → Contains rows r ↔ IsKept c r
   rows_kept r = (
     λ i.
-        let (e, among, read) = of_entry (entries c) rows (all_read c rows is) r i in
-        let here = listed_only text_pair_total text_pair_exact c e.0 e.1 among in
+        let (e, among, read) = of_entry (entries (of_rows c)) rows (all_read c rows is) r i in
+        let here = listed_only text_pair_total text_pair_exact (of_rows c) e.0 e.1 among in
+        let stands = (of_remove text_pair_total text_pair_exact c line_place e.0 e.1 here).1 in
         let place = read_place e.0 e.1 r read in
-        record { text = e.1; stands = subst (λ p. get c p ≡ Some e.1) place here; is_read = subst (λ p. read_at p e.1 ≡ Ok r) place read },
+        record { text = e.1; stands = subst (λ p. get c p ≡ Some e.1) place stands; is_read = subst (λ p. read_at p e.1 ≡ Ok r) place read },
     λ h.
-        let at = place_of (key_of r) in
-        let (q, among, read) = to_row (entries c) rows (all_read c rows is) (at, h.text) (listed text_pair_total text_pair_exact c at h.text h.stands) in
+        let (q, among, read) = read_from (place_of (key_of r)) h.text (no_row_place (key_of r)) h.stands in
         subst (Contains rows) (same_ok q r (sym read ∙ h.is_read)) among,
   )
 
   pub texts_are_rows : AreRows c
-  texts_are_rows p t stands =
-      let (q, among, read) = to_row (entries c) rows (all_read c rows is) (p, t) (listed text_pair_total text_pair_exact c p t stands) in
-      ap is_row read
+  texts_are_rows p t other stands = let (q, among, read) = read_from p t other stands in ap is_row read
 
   pub rows_apart : AllPairs (λ a b. key_of a ≢ key_of b) rows
   rows_apart = keys_apart rows
-      (subst (AllPairs Differ) (same_places (entries c) rows (all_read c rows is)) (all_apart text_pair_total text_pair_exact (λ (e : Entry). e.0) c Differ (λ a b x y differ. differ)))
+      (subst (AllPairs Differ) (same_places (entries (of_rows c)) rows (all_read c rows is)) (all_apart text_pair_total text_pair_exact (λ (e : Entry). e.0) (of_rows c) Differ (λ a b x y differ. differ)))

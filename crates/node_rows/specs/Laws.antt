@@ -1,12 +1,12 @@
 -- The laws of contents that hold the rows of a node.
-use Rattle.std.specs.Prelude.{◌≡◌, ℕ, ◌+◌, List, [], All, Some, length, slice_get}
+use Rattle.std.specs.Prelude.{◌≡◌, ℕ, ◌+◌, List, [], All, Option, Some, length, slice_get}
 use Rattle.std.specs.FinMap.{empty}
 use Rattle.ocpi_types.specs.declared.packet.Packet.{Packet}
 use Rattle.ocpi_types.specs.declared.rows.Row.{Row}
 use Rattle.ocpi_types.specs.declared.setup.Node.{Node}
 use Rattle.ocpi_types.specs.declared.site.SiteLine.{SiteLine}
 use Rattle.node_steps.specs.Drafts.{Step}
-use Rattle.node_store.specs.Contents.{Content, IsReadAgain, changed_all, rows_of}
+use Rattle.node_store.specs.Contents.{Content, IsReadAgain, changed_all, marked, rows_of}
 use Rattle.operator_rows.specs.Sound as operator_sound
 use Rattle.operator_rows.specs.State as operator
 use Rattle.operator_rows.specs.Steps as operator_steps
@@ -30,6 +30,11 @@ pub record PlansAreHeld : Type 0 where
       HoldsRows (changed_all c x.changes) (Operates (operator_steps.after x s))
   pub providers : (c : Content) (s : provider.State) (x : Step) → HoldsRows c (Provides s) → provider_steps.MayFollow s x → All IsReadAgain x.changes →
       HoldsRows (changed_all c x.changes) (Provides (provider_steps.after x s))
+
+-- whether a content holds the rows of a node does not depend on the number of a line that took hold
+pub record NumbersAreApart : Type 0 where
+  pub numbered : (c : Content) (n : NodeState) (m : Option ℕ) → HoldsRows c n → HoldsRows (marked m c) n
+  pub without : (c : Content) (n : NodeState) (m : Option ℕ) → HoldsRows (marked m c) n → HoldsRows c n
 
 -- the empty content holds the rows of each node before its first event, and of no node in which a row stands
 pub record EmptyIsHeld : Type 0 where

@@ -5,6 +5,7 @@ ghost use Rattle.node_rows.specs.Laws.{
   ChangesAreHeld,
   EmptyIsHeld,
   HeldRowsStartAgain,
+  NumbersAreApart,
   PlansAreHeld,
   RestartsAreHeld,
   RowsAreOfOne,
@@ -19,6 +20,11 @@ pub fn changes_are_held()
 /// And so do those of a step that is planned, and may be carried out.
 pub fn plans_are_held()
     ensures { PlansAreHeld }
+{}
+
+/// A content holds the rows of a node whatever number of a line it has, and with none.
+pub fn numbers_are_apart()
+    ensures { NumbersAreApart }
 {}
 
 /// The empty content holds the rows of each node before its first event, and of no node in which a row stands.

@@ -9,6 +9,7 @@
 //! - Where a content holds the rows of a node, the changes of a step make of it one that holds those of the node after
 //!   the step. Each row that they put is read again, and each key fits its types. By laws `changes_are_held`,
 //!   `plans_are_held`.
+//! - A content holds the rows of a node whatever number of a line it has, and with none. By law `numbers_are_apart`.
 //! - The empty content holds the rows of each node before its first event, and of no node in which a row stands. By law
 //!   `empty_is_held`.
 //! - Nodes that start again as one node store alike, and a content holds the rows of both or of neither. A node does so

@@ -1,5 +1,6 @@
 mod NodeLemmas
 mod ListLemmas
 mod AfterLemmas
+mod BeginLemmas
 mod EndLemmas
-mod HistoryLemmas
+pub mod HistoryLemmas

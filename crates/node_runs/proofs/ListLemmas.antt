@@ -22,15 +22,14 @@ use Rattle.stored_nodes.specs.declared.stored_node.Applied.TheVariants.{Skipped,
 use Rattle.program_lines.specs.Writing.{packet_lines}
 use Rattle.node_runs.specs.Afters.{DoesAll, DoesPlaced, TellsRefusal, turn_behind, turn_of}
 use Rattle.node_runs.specs.DoneLines.{all_line, idle_line, malformed_line, refused_line, skipped_line}
-use Rattle.node_runs.specs.ListTurns.{AreDone, IsOwn, PlacedTurn, none_done, one_refused, one_taken}
-use Rattle.node_runs.specs.ListTurns as lists
-use Rattle.node_runs.specs.NodeTurns.{applied_lines, step_line}
+use Rattle.node_runs.specs.LineAnswers.{AreDone, IsOwn, PlacedTurn, applied_lines, none_done, one_refused, one_taken, step_line}
+use Rattle.node_runs.specs.LineAnswers as lists
 
 -- ---- one event
 
 module _ {K : Type 0} (party : List ℕ) (old new : Pending K) (number place : ℕ) (read : Read NodeEvent) (before after : List ℕ) where
   -- nothing was done
-  idly : (taken : Bool) (out : List ℕ) → new ≡ old → after ≡ before ++ out → PlacedTurn party old.state number place read (turn_of taken) out [] new.state
+  idly : (taken : Bool) (out : List ℕ) → new ≡ old → after ≡ before ++ out → PlacedTurn party old.state number (Some place) read (turn_of taken) out [] new.state
       → DoesPlaced party old number place read taken before after new
   idly taken out same wrote is = record {
     did = [];
@@ -110,10 +109,10 @@ none_yet party p number events before = record {
 
 module _ {K : Type 0} (party : List ℕ) (first old new : Pending K) (number : ℕ) (events : List (Read NodeEvent)) (place : ℕ) (d : Read NodeEvent)
     (before between after : List ℕ) (within : place < length events) where
-  at_place : (turn : Turn) (out : List ℕ) (did : List Deed) → PlacedTurn party old.state number place (get_or events place d) turn out did new.state
-      → PlacedTurn party old.state number (length (take place events)) (get_or events place d) turn out did new.state
+  at_place : (turn : Turn) (out : List ℕ) (did : List Deed) → PlacedTurn party old.state number (Some place) (get_or events place d) turn out did new.state
+      → PlacedTurn party old.state number (Some (length (take place events))) (get_or events place d) turn out did new.state
   at_place turn out did is =
-      subst (λ (n : ℕ). PlacedTurn party old.state number n (get_or events place d) turn out did new.state) (sym (length-take-le place events (omega (arith, within)))) is
+      subst (λ (n : ℕ). PlacedTurn party old.state number (Some n) (get_or events place d) turn out did new.state) (sym (length-take-le place events (omega (arith, within)))) is
 
   more : (turn later : Turn) (taken : Bool) (so : DoneSoFar party first number events place turn before between old)
       (one : DoesPlaced party old number place (get_or events place d) taken between after new)

@@ -18,8 +18,8 @@ place_member (Some place) = codes ",\"event\":" ++ decimal place
 abbrev pub text_json : List ℕ → List ℕ
 text_json text = print (string text ∷ [])
 
--- the setup was read: the party as JSON has it, how many rows were loaded, and the serial of the last packet that the
--- node sent
+-- the setup was read: the number of the last line that had taken hold, the party as JSON has it, how many rows were
+-- loaded, and the serial of the last packet that the node sent
 abbrev pub opened_as : ℕ → List ℕ → ℕ → ℕ → List ℕ
 opened_as line party rows serial =
     codes "{\"done\":\"opened\",\"line\":" ++ (decimal line ++ (codes ",\"party\":" ++ (party ++
@@ -78,3 +78,7 @@ refused_line line place fault = line_of_refusal line place (event_fault_name fau
 abbrev pub all_line : ℕ → ℕ → List ℕ
 all_line line events =
     codes "{\"done\":\"all\",\"events\":" ++ (decimal events ++ (codes ",\"line\":" ++ (decimal line ++ codes "}\n")))
+
+-- the line is one of those that had taken hold before the run, and was not read
+abbrev pub known_line : ℕ → List ℕ
+known_line line = codes "{\"done\":\"known\",\"line\":" ++ (decimal line ++ codes "}\n")

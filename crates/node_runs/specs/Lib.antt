@@ -1,9 +1,12 @@
 pub mod DoneLines
 pub mod Stops
+pub mod SetupLines
 pub mod NodeTurns
-pub mod ListTurns
+pub mod LineAnswers
+pub mod NumberedRuns
 pub mod NodeAnswers
 pub mod Afters
+pub mod Stages
 pub mod NodeCut
 pub mod NodeOutputs
 pub mod NodeHistories

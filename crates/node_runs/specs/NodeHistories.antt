@@ -1,10 +1,8 @@
 -- What a run made of its node, told by the steps that the node did: each run is a chain of them, and two runs over one
 -- store are one chain with a restart between.
-use Rattle.std.specs.Prelude.{◌≡◌, ℕ, Bool, List, [], ◌∷◌, ◌++◌, Option, Some, Ok}
-use Rattle.json_text.specs.Fault.{Read}
-use Rattle.node_lines.specs.NodeLines.{node_line_in}
-use Rattle.node_lines.specs.declared.node_line.NodeLine.TheVariants.{Several}
-use Rattle.ocpi_types.specs.declared.node_events.NodeEvent.{NodeEvent as Event}
+use Rattle.std.specs.Prelude.{◌≡◌, ◌≢◌, ◌⊎◌, ℕ, ◌+◌, Bool, List, [], ◌∷◌, ◌++◌, Option, Some, Ok, length}
+use Rattle.std.specs.List.{flat_map}
+use Rattle.ocpi_text.specs.Whole.{max_whole}
 use Rattle.line_runs.specs.declared.run.Turn.{Turn}
 use Rattle.node_laws.specs.Runs.{Run}
 use Rattle.ocpi_types.specs.Setups.{party_of}
@@ -16,36 +14,66 @@ use Rattle.world_steps.specs.World.{NodeState, Operates, Provides}
 use Rattle.line_runs.specs.Numbered.{AreNumbered}
 use Rattle.line_runs.specs.declared.outcome.Ran.{Ran}
 use Rattle.node_keepers.specs.Opening.{Source}
-use Rattle.stored_nodes.specs.Keepers.{Keeper}
+use Rattle.node_store.specs.Contents.{Content, line_of}
+use Rattle.stored_nodes.specs.Keepers.{IsSettled, Keeper}
 use Rattle.stored_nodes.specs.Stored.{IsStored, Stored}
-use Rattle.node_rows.specs.Holds.{StoresAlike}
+use Rattle.stored_nodes.specs.Transactions.{changes_of_each}
 use Rattle.stored_laws.specs.Nodes.{restarted}
-use Rattle.node_runs.specs.ListTurns.{CarriesOut}
-use Rattle.node_runs.specs.NodeAnswers.{Ends, NodeLineGives}
-use Rattle.node_runs.specs.NodeTurns.{IsMember, Running, Stage, Starts, opening}
+use Rattle.node_runs.specs.LineAnswers.{Answers}
+use Rattle.node_runs.specs.NodeAnswers.{LosesLine, NodeLineGives}
+use Rattle.node_runs.specs.NodeTurns.{IsMember, Running, Stage, Starts, number_from, opening}
+use Rattle.node_runs.specs.NumberedRuns.{Carries, Changed, Numbered, all_done}
+use Rattle.node_runs.specs.SetupLines.{numbered_setup_in}
+use Rattle.node_runs.specs.declared.fault.NodeStop.{NodeStop}
 
--- The node of that member of the setup was made of what a keeper kept, and then did these one after another, and nothing
--- else.
+-- The node of that member of the setup was made of what a keeper kept, where `last` was the number of the last line that
+-- had taken hold. Then it did these one after another, and nothing else. A stop leaves just what its keeper keeps.
 pub record WasRun {K : Type 0} (keeper : Keeper K) (setup : List Node) (member : Node) (xs : List NodeEvent) (now : Running K) : Type 0 where
   pub rows : ℕ
+  pub last : ℕ
   pub start : Stored K
-  pub starts : Starts keeper setup member rows start
+  pub starts : Starts keeper setup member rows last start
   pub did : Run NodeStep start.state xs now.node.state
+  pub settled : IsSettled keeper now.node.keep
   pub party : now.party ≡ party_of member
 
--- what the lines of a run up to any one made of its node
-pub record HasHistory {K : Type 0} (keeper : Keeper K) (source : Source K) (wanted : Option (List ℕ)) (now : Running K) : Type 0 where
+-- the lines that hold something
+abbrev pub kept_line : List ℕ → List (List ℕ)
+kept_line [] = []
+kept_line (c ∷ cs) = (c ∷ cs) ∷ []
+
+abbrev pub some_lines : List (List ℕ) → List (List ℕ)
+some_lines all = flat_map kept_line all
+
+-- What the lines of a run up to any one made of its node. The first that holds something is the setup, and the others are
+-- counted on from the number that it tells, else from that of the last line that had taken hold; so they are numbered, as
+-- long as there are numbers. The keeper has that of the last line that changed rows.
+pub record HasHistory {K : Type 0} (keeper : Keeper K) (source : Source K) (wanted : Option (List ℕ)) (all : List (List ℕ)) (s : Stage K) (now : Running K) : Type 0 where
+  pub first : List ℕ
   pub setup : List Node
+  pub base : Option ℕ
+  pub reads : numbered_setup_in first ≡ Ok (setup, base)
   pub member : Node
   pub asked : IsMember setup wanted member
-  pub events : List NodeEvent
-  pub was : WasRun keeper setup member events now
+  pub did : List Numbered
+  pub was : WasRun keeper setup member (all_done did) now
   pub found : source.found 1 was.starts.fresh
+  pub numbered : List (List ℕ)
+  pub others : List (List ℕ)
+  pub carries : Carries now.party was.last (number_from base was.last) was.start.state numbered did now.node.state
+  pub are : some_lines all ≡ first ∷ (numbered ++ others)
+  pub number : s.number ≡ number_from base was.last + length numbered
+  pub beyond : others ≢ [] → s.number ≡ max_whole
+  pub known : s.known ≡ was.last
+  pub changed : List ℕ
+  pub last_change : ℕ
+  pub changes : Changed was.last did changed last_change
+  pub marked : keeper.is_honest now.node.keep → line_of (keeper.content now.node.keep) ≡ Some last_change
 
 abbrev pub RunsAreHistories : {K : Type 0} → Keeper K → Source K → Type 0
 RunsAreHistories {K} keeper source =
     (echo : Bool) (wanted : Option (List ℕ)) (opened : List ℕ) (all : List (List ℕ)) (ran : Ran) (out : List ℕ) (s : Stage K) (now : Running K)
-    → AreNumbered (NodeLineGives keeper source) echo (opening wanted opened) all ran out s → s.running ≡ Some now → HasHistory keeper source wanted now
+    → AreNumbered (NodeLineGives keeper source) echo (opening wanted opened) all ran out s → s.running ≡ Some now → HasHistory keeper source wanted all s now
 
 -- ---- two runs
 
@@ -54,56 +82,41 @@ abbrev pub restart_of : NodeState → NodeEvent
 restart_of (Operates s) = AtOperator (record { input = operator.Restarts; changes = []; packets = [] })
 restart_of (Provides s) = AtProvider (record { input = provider.Restarts; changes = []; packets = [] })
 
--- Of two runs of one node of a setup, the second of which was made of what the keeper of the first kept at its end: the
--- node of the second goes on where that of the first ended, as after a restart.
+-- what is found of a keeper later is what it keeps, or what a stop left of it
+abbrev pub IsLeftBy : {K : Type 0} → Keeper K → K → Content → Type 0
+IsLeftBy keeper k c = (c ≡ keeper.content k) ⊎ keeper.may_leave k c
+
+-- the second run goes on where the first ended, as after a restart, and knows the last line that took hold
+pub record GoesOnFrom {K : Type 0} (keeper : Keeper K) (setup : List Node) (member : Node) (xs ys : List NodeEvent) (ended now : Running K)
+    (first : WasRun keeper setup member xs ended) (second : WasRun keeper setup member ys now) : Type 0 where
+  pub state : second.start.state ≡ restarted ended.node.state
+  pub line : line_of (keeper.content ended.node.keep) ≡ Some second.last
+  pub one : Run NodeStep first.start.state (xs ++ restart_of ended.node.state ∷ ys) now.node.state
+
+-- Of two runs of one node of a setup, the second of which was made of what the keeper of the first kept at its end, or of
+-- what a stop between two lines left of it: the node of the second goes on where that of the first ended.
 abbrev pub TwoRunsAreOne : {K : Type 0} → Keeper K → Type 0
 TwoRunsAreOne {K} keeper =
     (setup : List Node) (member : Node) (xs ys : List NodeEvent) (ended now : Running K) (first : WasRun keeper setup member xs ended) (second : WasRun keeper setup member ys now)
     → IsStored keeper ended.node → keeper.is_honest ended.node.keep → keeper.is_honest second.start.keep
-    → keeper.content second.starts.fresh ≡ keeper.content ended.node.keep
-    → Run NodeStep first.start.state (xs ++ restart_of ended.node.state ∷ ys) now.node.state
+    → IsLeftBy keeper ended.node.keep (keeper.content second.starts.fresh)
+    → GoesOnFrom keeper setup member xs ys ended now first second
 
--- The node starts again where the other stood; or where one event more had brought it, which was asked of one that
--- stored what that one stores.
-pub data GoesOnFrom (left start : NodeState) : Type 0 where
-  As_left : start ≡ restarted left → GoesOnFrom left start
-  One_more : (u v : NodeState) (x : NodeEvent) → StoresAlike u left → NodeStep u x v → start ≡ restarted v → GoesOnFrom left start
+-- ---- a line at which a run ended
 
--- Of two runs of one node of a setup, the second of which was made of what a stop left of the keeper of the first: the
--- node of the second goes on as after the lines that the first carried out, or as after one more.
-abbrev pub StopsGoOn : {K : Type 0} → Keeper K → Type 0
-StopsGoOn {K} keeper =
-    (setup : List Node) (member : Node) (xs ys : List NodeEvent) (stopped now : Running K) (first : WasRun keeper setup member xs stopped) (second : WasRun keeper setup member ys now)
-    → IsStored keeper stopped.node → keeper.is_honest stopped.node.keep → keeper.is_honest second.start.keep
-    → keeper.may_leave stopped.node.keep (keeper.content second.starts.fresh)
-    → GoesOnFrom stopped.node.state second.start.state
+-- The node starts again where the other stood before the line, with the number of before; or behind the whole of a line
+-- that changed rows, with its number. A part of it is never had alone.
+pub data GoesOnAtLine {K : Type 0} (keeper : Keeper K) (left : Running K) (number : ℕ) (line : List ℕ) (start : NodeState) (last : ℕ) : Type 0 where
+  Before_line : start ≡ restarted left.node.state → line_of (keeper.content left.node.keep) ≡ Some last → GoesOnAtLine keeper left number line start last
+  Behind_line : (turn : Turn) (out : List ℕ) (did : List NodeEvent) (after : NodeState) → Answers left.party left.node.state number line turn out did after
+      → changes_of_each did ≢ [] → start ≡ restarted after → last ≡ number → GoesOnAtLine keeper left number line start last
 
--- ---- lines of several events
-
--- The node starts again where the other stood before the line, or where one event that was refused earlier had brought
--- it; or behind all events of the line. A part of them is never had alone.
-pub data GoesOnAtLine (party : List ℕ) (left : NodeState) (number : ℕ) (line : List ℕ) (start : NodeState) : Type 0 where
-  Before_line : GoesOnFrom left start → GoesOnAtLine party left number line start
-  Behind_line : (events : List (Read Event)) → node_line_in line ≡ Ok (Several events)
-      → (turn : Turn) (out : List ℕ) (did : List NodeEvent) (after : NodeState) → CarriesOut party left number events turn out did after
-      → start ≡ restarted after → GoesOnAtLine party left number line start
-
--- Of two runs of one node of a setup, the first of which ended at a line of several events of which nothing was kept, and
--- the second of which was made of what a stop left of the keeper: the node of the second goes on as before that line, or
--- as behind the whole of it.
+-- Of two runs of one node of a setup, the first of which ended at a line of which nothing was written, and the second of
+-- which was made of what its keeper kept then, or of what a stop left of that.
 abbrev pub LostLinesGoOn : {K : Type 0} → Keeper K → Type 0
 LostLinesGoOn {K} keeper =
-    (setup : List Node) (member : Node) (xs ys : List NodeEvent) (stopped now : Running K) (first : WasRun keeper setup member xs stopped) (second : WasRun keeper setup member ys now)
-    (s t : Stage K) (number : ℕ) (line : List ℕ) (turn : Turn) (out : List ℕ) (ends : Ends keeper stopped s number line turn out t)
-    → keeper.is_honest ends.keep → keeper.is_honest second.start.keep
-    → keeper.may_leave ends.keep (keeper.content second.starts.fresh)
-    → GoesOnAtLine stopped.party stopped.node.state number line second.start.state
-
--- And where the second was made of what the keeper of the first kept at its end, the node goes on as before that line.
-abbrev pub LostLinesKeepRows : {K : Type 0} → Keeper K → Type 0
-LostLinesKeepRows {K} keeper =
-    (setup : List Node) (member : Node) (xs ys : List NodeEvent) (stopped now : Running K) (first : WasRun keeper setup member xs stopped) (second : WasRun keeper setup member ys now)
-    (s t : Stage K) (number : ℕ) (line : List ℕ) (turn : Turn) (out : List ℕ) (ends : Ends keeper stopped s number line turn out t)
-    → keeper.is_honest ends.keep → keeper.is_honest second.start.keep
-    → keeper.content second.starts.fresh ≡ keeper.content ends.keep
-    → second.start.state ≡ restarted stopped.node.state
+    (setup : List Node) (member : Node) (xs ys : List NodeEvent) (left now : Running K) (first : WasRun keeper setup member xs left) (second : WasRun keeper setup member ys now)
+    (number : ℕ) (line : List ℕ) (stop : NodeStop) (keep : K) → LosesLine keeper left number line stop keep
+    → IsStored keeper left.node → keeper.is_honest keep → keeper.is_honest second.start.keep
+    → IsLeftBy keeper keep (keeper.content second.starts.fresh)
+    → GoesOnAtLine keeper left number line second.start.state second.last

@@ -1,58 +1,48 @@
--- What the program `node` writes for a setup, which names the node among others, and for a line that is one event, and
--- what each makes of the node.
-use Rattle.std.specs.Prelude.{◌≡◌, ◌≢◌, ◌⊎◌, ℕ, List, [], ◌∷◌, ◌++◌, Bool, true, false, Option, None, Some, Ok, Contains, length}
+-- What the program `node` has behind its lines, and what it writes for the first one: a setup, which names the node
+-- among others.
+use Rattle.std.specs.Prelude.{◌≡◌, ◌≢◌, ℕ, List, [], ◌∷◌, ◌++◌, Option, None, Some, Ok, Contains}
 use Rattle.ocpi_text.specs.Text.{key}
 use Rattle.ocpi_types.specs.Setups.{party_of}
-use Rattle.ocpi_types.specs.declared.node_events.NodeEvent.{NodeEvent}
-use Rattle.ocpi_types.specs.declared.node_events.NodeEventKind.TheVariants as event
-use Rattle.ocpi_types.specs.declared.packet.Packet.{Packet}
 use Rattle.ocpi_types.specs.declared.setup.Node.{Node}
 use Rattle.json_text.specs.declared.fault.JsonFault.{JsonFault}
 use Rattle.json_text.specs.declared.fault.JsonFault.TheVariants.{Memory as LineMemory}
 use Rattle.json_text.specs.Fault.{Fails as FailsToRead}
-use Rattle.node_lines.specs.ListLines.{IsListLine}
-use Rattle.node_lines.specs.NodeLines.{node_line_in}
-use Rattle.node_lines.specs.declared.node_line.NodeLine.TheVariants.{One}
-use Rattle.ocpi_json.specs.SetupForms.{setup_in}
-use Rattle.node_steps.specs.declared.fault.NodeFault.{NodeFault}
-use Rattle.node_steps.specs.declared.fault.NodeFault.TheVariants.{Memory}
 use Rattle.line_runs.specs.declared.run.Turn.{Turn}
-use Rattle.line_runs.specs.declared.run.Turn.TheVariants.{Taken, Refused, Ended}
+use Rattle.line_runs.specs.declared.run.Turn.TheVariants.{Taken, Ended}
 use Rattle.node_store.specs.declared.fault.StoreFault.{StoreFault}
 use Rattle.node_keepers.specs.Opening.{Source}
 use Rattle.stored_nodes.specs.Keepers.{IsSettled, Keeper, KeepsOn}
-use Rattle.stored_nodes.specs.Stored.{Does, Fails, IsKeptFor, IsNotBad, IsReopenFault, Passes, Refuses, Reopens, Stored}
-use Rattle.stored_nodes.specs.declared.fault.ApplyFault.{ApplyFault}
-use Rattle.stored_nodes.specs.declared.fault.ApplyFault.TheVariants as apply
-use Rattle.stored_nodes.specs.declared.stored_node.Applied.{Applied}
-use Rattle.stored_nodes.specs.declared.stored_node.Applied.TheVariants.{Skipped, Stepped}
+use Rattle.stored_nodes.specs.Stored.{IsKeptFor, IsNotBad, IsReopenFault, IsStored, Reopens, Stored}
 use Rattle.stored_nodes.specs.declared.fault.ReopenFault.{ReopenFault}
-use Rattle.program_lines.specs.Writing.{packet_lines}
 use Rattle.stored_laws.specs.Nodes.{last_serial, restarted}
 use Rattle.world_steps.specs.World.{NodeState}
-use Rattle.node_runs.specs.DoneLines.{idle_line, malformed_line, opened_line, refused_line, skipped_line, stepped_line}
+use Rattle.node_runs.specs.SetupLines.{numbered_setup_in}
+use Rattle.node_runs.specs.DoneLines.{malformed_line, opened_line}
 use Rattle.node_runs.specs.Stops.{stop_of}
 use Rattle.node_runs.specs.declared.fault.NodeStop.{NodeStop}
-use Rattle.node_runs.specs.declared.fault.NodeStop.TheVariants.{UnknownParty, Store}
+use Rattle.node_runs.specs.declared.fault.NodeStop.TheVariants.{UnknownParty, Store, Memory}
 
 -- a node over its keeper, which is of type K, and its party as the setup spells it
 pub record Running (K : Type 0) : Type 0 where
   pub party : List ℕ
   pub node : Stored K
 
--- what the lines so far have made: the node that runs, from the first on, or a keeper that was opened and of which no
+-- What the lines so far have made: the node that runs, from the first on, or a keeper that was opened and of which no
 -- node was made; the party that was asked for, where the word is one; the places whose keepers were to be opened; and
--- what stopped the run, where the node did
+-- what stopped the run, where the node did. `number` is the number of the last line that was read, or that from which
+-- lines are counted on, and `known` that of the last line that had taken hold as the node was opened; both 0 before.
 pub record Stage (K : Type 0) : Type 0 where
   pub wanted : Option (List ℕ)
   pub opened : List ℕ
   pub running : Option (Running K)
   pub spare : Option K
   pub stop : Option NodeStop
+  pub number : ℕ
+  pub known : ℕ
 
 -- before the first line
 abbrev pub opening : {K : Type 0} → Option (List ℕ) → List ℕ → Stage K
-opening wanted opened = record { wanted = wanted; opened = opened; running = None; spare = None; stop = None }
+opening wanted opened = record { wanted = wanted; opened = opened; running = None; spare = None; stop = None; number = 0; known = 0 }
 
 -- the keeper then, where one was opened
 abbrev pub keep_in : {K : Type 0} → Option (Running K) → Option K → Option K
@@ -68,16 +58,18 @@ pub record IsMember (setup : List Node) (wanted : Option (List ℕ)) (member : N
   pub within : Contains setup member
   pub same : key (party_of member) ≡ key party
 
--- what is known of a node that was made of what a keeper keeps, from which a stop leaves just that
-pub record Starts {K : Type 0} (keeper : Keeper K) (setup : List Node) (member : Node) (rows : ℕ) (node : Stored K) : Type 0 where
+-- what is known of a node that was made of what a keeper keeps, from which a stop leaves just that: it is stored there, so
+-- it can start again
+pub record Starts {K : Type 0} (keeper : Keeper K) (setup : List Node) (member : Node) (rows line : ℕ) (node : Stored K) : Type 0 where
   pub fresh : K
   pub settled : IsSettled keeper fresh
-  pub reopens : Reopens keeper setup member fresh rows node
+  pub reopens : Reopens keeper setup member fresh rows line node
+  pub stored : IsStored keeper node
   pub again : keeper.is_honest node.keep → (s : NodeState) → IsKeptFor setup member (keeper.content fresh) s → node.state ≡ restarted s
 
 -- the same, of a keeper that is made of what was found for the node at the first place
-pub record Begins {K : Type 0} (keeper : Keeper K) (source : Source K) (setup : List Node) (member : Node) (rows : ℕ) (node : Stored K) : Type 0 where
-  pub starts : Starts keeper setup member rows node
+pub record Begins {K : Type 0} (keeper : Keeper K) (source : Source K) (setup : List Node) (member : Node) (rows line : ℕ) (node : Stored K) : Type 0 where
+  pub starts : Starts keeper setup member rows line node
   pub found : source.found 1 starts.fresh
 
 -- what is known where none was made of it
@@ -103,97 +95,61 @@ pub data IsUnbegun {K : Type 0} (keeper : Keeper K) (source : Source K) (setup :
   NotMade : (member : Node) → IsMember setup wanted member → (fault : ReopenFault) (k : K) (unmade : Unmade keeper setup member fault k) → source.found 1 unmade.fresh
       → asked ≡ first_place → spare ≡ Some k → stop ≡ stop_of fault → IsUnbegun keeper source setup wanted asked spare stop
 
+-- The line is a setup, and the node that was asked for was opened: `line` is the number of the last line that had taken
+-- hold.
+pub record OpensNode {K : Type 0} (keeper : Keeper K) (source : Source K) (wanted : Option (List ℕ)) (line : List ℕ) : Type 0 where
+  pub setup : List Node
+  pub base : Option ℕ
+  pub reads : numbered_setup_in line ≡ Ok (setup, base)
+  pub member : Node
+  pub asked : IsMember setup wanted member
+  pub rows : ℕ
+  pub last : ℕ
+  pub node : Stored K
+  pub begins : Begins keeper source setup member rows last node
+
+-- the number from which the lines behind the setup are counted on: the one that it tells, else that of the last line that
+-- had taken hold
+abbrev pub number_from : Option ℕ → ℕ → ℕ
+number_from None last = last
+number_from (Some base) last = base
+
+-- the node runs
+abbrev pub opened_stage : {K : Type 0} {keeper : Keeper K} {source : Source K} {line : List ℕ} → (s : Stage K) → OpensNode keeper source s.wanted line → Option NodeStop → Stage K
+opened_stage s o stop = record {
+  wanted = s.wanted;
+  opened = s.opened ++ first_place;
+  running = Some (record { party = party_of o.member; node = o.node });
+  spare = s.spare;
+  stop = stop;
+  number = number_from o.base o.last;
+  known = o.last;
+}
+
+-- what is left of the stage where the first line ends the run, and no node runs
+abbrev pub ended_stage : {K : Type 0} → Stage K → List ℕ → Option K → Option NodeStop → Stage K
+ended_stage s asked spare stop =
+    record { wanted = s.wanted; opened = s.opened ++ asked; running = None; spare = spare; stop = stop; number = s.number; known = s.known }
+
+abbrev pub starved_stage : {K : Type 0} → Stage K → Stage K
+starved_stage s = record { wanted = s.wanted; opened = s.opened; running = None; spare = s.spare; stop = Some Memory; number = s.number; known = s.known }
+
 -- The first line opens the keeper and the node, and says so. Where it is no setup, or the node does not begin, it is
--- the last line.
+-- the last line; so it is where memory runs out for reading it or for what is to be written, of which nothing is.
 pub data SetupTurn {K : Type 0} (keeper : Keeper K) (source : Source K) (s : Stage K)
-    (number : ℕ) (line : List ℕ) (turn : Turn) (out : List ℕ) (next : Stage K) : Type 0 where
-  Opened : (setup : List Node) → setup_in line ≡ Ok setup → (member : Node) → IsMember setup s.wanted member
-      → (rows : ℕ) (node : Stored K) → Begins keeper source setup member rows node
-      → turn ≡ Taken → out ≡ opened_line number (party_of member) rows (last_serial node.state)
-      → next ≡ record { wanted = s.wanted; opened = s.opened ++ first_place; running = Some (record { party = party_of member; node = node }); spare = s.spare; stop = s.stop }
-      → SetupTurn keeper source s number line turn out next
-  Unbegun : (setup : List Node) → setup_in line ≡ Ok setup
+    (line : List ℕ) (turn : Turn) (out : List ℕ) (next : Stage K) : Type 0 where
+  Opened : (o : OpensNode keeper source s.wanted line)
+      → turn ≡ Taken → out ≡ opened_line o.last (party_of o.member) o.rows (last_serial o.node.state) → next ≡ opened_stage s o s.stop
+      → SetupTurn keeper source s line turn out next
+  Untold : (o : OpensNode keeper source s.wanted line)
+      → turn ≡ Ended → out ≡ [] → next ≡ opened_stage s o (Some Memory)
+      → SetupTurn keeper source s line turn out next
+  Unbegun : (setup : List Node) (base : Option ℕ) → numbered_setup_in line ≡ Ok (setup, base)
       → (asked : List ℕ) (spare : Option K) (stop : NodeStop) → IsUnbegun keeper source setup s.wanted asked spare stop
-      → turn ≡ Ended → out ≡ [] → next ≡ record { wanted = s.wanted; opened = s.opened ++ asked; running = None; spare = spare; stop = Some stop }
-      → SetupTurn keeper source s number line turn out next
-  NoSetup : (fault : JsonFault) → FailsToRead fault (setup_in line)
-      → turn ≡ Ended → out ≡ malformed_line number None fault → next ≡ s
-      → SetupTurn keeper source s number line turn out next
-
--- ---- each event
-
--- the line behind the packets that a node sent for an event, by whether rows were changed
-abbrev pub step_line : ℕ → Option ℕ → List Packet → Bool → List ℕ
-step_line number place [] false = idle_line number place
-step_line number place [] true = stepped_line number place 0
-step_line number place (p ∷ ps) changed = stepped_line number place (length (p ∷ ps))
-
--- what is written of an event that was not refused
-abbrev pub applied_lines : ℕ → Option ℕ → Applied → List ℕ
-applied_lines number place Skipped = skipped_line number place
-applied_lines number place (Stepped packets changed) = packet_lines packets.items ++ step_line number place packets.items changed
-
--- what is written of one that was and is a line of its own, how that was answered, and what then stopped the run
-abbrev pub fault_lines : ℕ → ApplyFault → List ℕ
-fault_lines number (apply.Store fault) = []
-fault_lines number (apply.Core fault) = refused_line number None fault
-fault_lines number apply.Memory = refused_line number None Memory
-
-abbrev pub fault_turn : ApplyFault → Turn
-fault_turn (apply.Store fault) = Ended
-fault_turn (apply.Core fault) = Refused
-fault_turn apply.Memory = Refused
-
-abbrev pub stop_after : Option NodeStop → ApplyFault → Option NodeStop
-stop_after stop (apply.Store fault) = Some (Store fault)
-stop_after stop (apply.Core fault) = stop
-stop_after stop apply.Memory = stop
-
--- the line is one event, and that is one of this node
-pub record IsOfNode (party line : List ℕ) (x : NodeEvent) : Type 0 where
-  pub read : node_line_in line ≡ Ok (One x)
-  pub same : key x.node ≡ key party
-
--- A line that is one event, or is refused as a text. What a step changes is committed before anything of it is
--- written; where the keeper does not take that, for want of memory too, nothing is written, the node is as before, and it
--- is the last line.
-pub data EventTurn {K : Type 0} (keeper : Keeper K) (now : Running K) (stop : Option NodeStop) (number : ℕ) (line : List ℕ)
-    (turn : Turn) (out : List ℕ) (next : Running K) (stopped : Option NodeStop) : Type 0 where
-  -- the node did it, and rows were changed or packets sent
-  DidStep : (x : NodeEvent) → IsOfNode now.party line x → (packets : List Packet) (changed : Bool)
-      → Does keeper now.node x.kind packets changed next.node → (changed ≡ true) ⊎ (packets ≢ [])
-      → turn ≡ Taken → out ≡ packet_lines packets ++ stepped_line number None (length packets) → next.party ≡ now.party → stopped ≡ stop
-      → EventTurn keeper now stop number line turn out next stopped
-  -- the node did it, and no row was changed and no packet sent
-  WasIdle : (x : NodeEvent) → IsOfNode now.party line x
-      → Does keeper now.node x.kind [] false next.node
-      → turn ≡ Taken → out ≡ idle_line number None → next.party ≡ now.party → stopped ≡ stop
-      → EventTurn keeper now stop number line turn out next stopped
-  -- the storing of the event was refused, where it was carried out
-  WasUnstored : (x : NodeEvent) → IsOfNode now.party line x → x.kind ≡ event.Refused
-      → turn ≡ Taken → out ≡ idle_line number None → next ≡ now → stopped ≡ stop
-      → EventTurn keeper now stop number line turn out next stopped
-  -- it is another node's
-  IsElsewhere : (x : NodeEvent) → node_line_in line ≡ Ok (One x) → key x.node ≢ key now.party
-      → turn ≡ Taken → out ≡ skipped_line number None → next ≡ now → stopped ≡ stop
-      → EventTurn keeper now stop number line turn out next stopped
-  -- it is one of the other role
-  IsOfOtherRole : (x : NodeEvent) → IsOfNode now.party line x → Passes now.node x.kind next.node
-      → turn ≡ Taken → out ≡ skipped_line number None → next.party ≡ now.party → stopped ≡ stop
-      → EventTurn keeper now stop number line turn out next stopped
-  -- the line is no event, and no array of events; want of memory ends the run where an array was begun
-  IsMalformed : (fault : JsonFault) → FailsToRead fault (node_line_in line) → (fault ≡ LineMemory → IsListLine line → ⊥)
-      → turn ≡ Refused → out ≡ malformed_line number None fault → next ≡ now → stopped ≡ stop
-      → EventTurn keeper now stop number line turn out next stopped
-  -- the node refuses it
-  IsRefused : (x : NodeEvent) → IsOfNode now.party line x → (fault : NodeFault) → Refuses now.node x.kind fault next.node
-      → turn ≡ Refused → out ≡ refused_line number None fault → next.party ≡ now.party → stopped ≡ stop
-      → EventTurn keeper now stop number line turn out next stopped
-  -- memory ran out for it in the node, before its keeper was asked
-  IsStarved : (x : NodeEvent) → IsOfNode now.party line x
-      → turn ≡ Refused → out ≡ refused_line number None Memory → next ≡ now → stopped ≡ stop
-      → EventTurn keeper now stop number line turn out next stopped
-  -- the keeper did not take its changes, whatever the fault of its commit
-  IsLost : (x : NodeEvent) → IsOfNode now.party line x → (fault : StoreFault) → Fails keeper now.node x.kind (apply.Store fault) next.node
-      → turn ≡ Ended → out ≡ [] → next.party ≡ now.party → stopped ≡ Some (Store fault)
-      → EventTurn keeper now stop number line turn out next stopped
+      → turn ≡ Ended → out ≡ [] → next ≡ ended_stage s asked spare (Some stop)
+      → SetupTurn keeper source s line turn out next
+  NoSetup : (fault : JsonFault) → FailsToRead fault (numbered_setup_in line) → fault ≢ LineMemory
+      → turn ≡ Ended → out ≡ malformed_line 1 None fault → next ≡ s
+      → SetupTurn keeper source s line turn out next
+  Unread : turn ≡ Ended → out ≡ [] → next ≡ starved_stage s
+      → SetupTurn keeper source s line turn out next

@@ -16,7 +16,7 @@ use crate::fault::{NodeStop, stop_of};
 use node_core::nodes_of;
 use node_keepers::Keeps;
 use node_store::Keep;
-use ocpi_text::Party;
+use ocpi_text::{Party, Whole};
 use ocpi_types::{Node, Setup};
 use std::alloc::Global;
 use std::marker::Model;
@@ -50,6 +50,13 @@ impl<K: Keep> Model for Running<K> {
 }
 
 impl<K: Keep> Running<K> {
+    /// What holds of its node over the keeper, which the node's type keeps. It does nothing.
+    pub fn is_stored(&self)
+        ensures { IsStored (keeper_of K.content K.is_honest K.refusals K.may_leave) self.now.node }
+    {
+        self.node.is_stored();
+    }
+
     /// Its keeper. The node ends.
     pub fn into_keep(self) -> K
         ensures value { result ≡ self.node.keep }
@@ -76,6 +83,8 @@ pub struct Begun<K: Keep> {
     pub running: Running<K>,
     /// The number of rows that were kept.
     pub rows: usize,
+    /// The number of the last line that had taken hold, 1 where none did.
+    pub line: Whole,
 }
 
 /// A node that was not opened: why, and its keeper, where that was opened.
@@ -113,7 +122,7 @@ pub fn begin<S: Keeps>(
     ensures ok { IfOk result (λ b. (member : NodeOf) × IsMember setup wanted.now member
         × (b.running.party ≡ party_of member)
         × Begins (keeper_of S.Kept.content S.Kept.is_honest S.Kept.refusals S.Kept.may_leave) (source_of S.may_refuse S.found)
-        setup member b.rows b.running.node) }
+        setup member b.rows b.line b.running.node) }
     ensures err { IfErr result (λ u. (asked : List ℕ) × (S.opened keeps.new ≡ S.opened keeps.old ++ asked)
         × IsUnbegun (keeper_of S.Kept.content S.Kept.is_honest S.Kept.refusals S.Kept.may_leave) (source_of S.may_refuse S.found)
         setup wanted.now asked u.keep u.stop) }
@@ -147,18 +156,20 @@ fn begin_over<K: Keep>(
     requires member { Contains nodes.now member.now }
     requires settled { IsSettled (keeper_of K.content K.is_honest K.refusals K.may_leave) keep }
     ensures ok { IfOk result (λ b. (b.running.party ≡ party_of member.now)
-        × (starts : Starts (keeper_of K.content K.is_honest K.refusals K.may_leave) nodes.now member.now b.rows b.running.node) × (starts.fresh ≡ keep)) }
+        × (starts : Starts (keeper_of K.content K.is_honest K.refusals K.may_leave) nodes.now member.now b.rows b.line b.running.node) × (starts.fresh ≡ keep)) }
     ensures err { IfErr result (λ u. (fault : ReopenFaultOf) × (k : K)
         × (unmade : Unmade (keeper_of K.content K.is_honest K.refusals K.may_leave) nodes.now member.now fault k) × (unmade.fresh ≡ keep)
         × (u.keep ≡ Some k) × (u.stop ≡ stop_of fault)) }
 {
     match StoredNode::reopen(alloc, seed, nodes, member, keep) {
         Ok(reopened) => {
-            let Reopened { node, rows } = reopened;
+            let Reopened { node, rows, line } = reopened;
+            node.is_stored();
             let party = *member.party();
             Ok(Begun {
                 running: Running { party, node },
                 rows,
+                line,
             })
         }
         Err(unopened) => {

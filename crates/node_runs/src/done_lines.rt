@@ -2,7 +2,7 @@
 //! `done`.
 
 ghost use Rattle.std.specs.Prelude.{◌≡◌, ◌++◌, IfOk, None, OnOk, Some, string_bytes};
-ghost use Rattle.node_runs.specs.DoneLines.{all_line, fault_line, idle_line, malformed_line, opened_line, refused_line, skipped_line, stepped_line, text_json};
+ghost use Rattle.node_runs.specs.DoneLines.{all_line, fault_line, idle_line, known_line, malformed_line, opened_line, refused_line, skipped_line, stepped_line, text_json};
 
 use json::Writer;
 use node_steps::NodeFault;
@@ -38,7 +38,8 @@ fn quote(alloc: Global, text: &str) -> Result<String, AllocError>
     Ok(unsafe { String::from_utf8_unchecked(writer.into_inner()) })
 }
 
-/// The node was opened: its party, how many rows were loaded, and the serial of the last packet that it sent.
+/// The node was opened: the number of the last line that had taken hold, its party, how many rows were loaded, and the
+/// serial of the last packet that it sent.
 pub fn write_opened(
     alloc: Global,
     line: u64,
@@ -182,4 +183,11 @@ pub fn write_all(line: u64, events: usize, output: &mut String) -> Result<(), Al
         output,
         "{{\"done\":\"all\",\"events\":{events},\"line\":{line}}}"
     )
+}
+
+/// A line had taken hold before the run, and was not read.
+pub fn write_known(line: u64, output: &mut String) -> Result<(), AllocError>
+    ensures { OnOk result (string_bytes output.new ≡ string_bytes output.old ++ known_line line) }
+{
+    writeln!(output, "{{\"done\":\"known\",\"line\":{line}}}")
 }

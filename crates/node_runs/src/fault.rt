@@ -13,7 +13,8 @@ use stored_rows::BadRow;
 /// The exit status where the setup has no node of the party.
 pub const UNKNOWN_PARTY: u8 = 2;
 
-/// The exit status where a store would not do what it was asked, or has rows of which no such node is made.
+/// The exit status where a store would not do what it was asked, or has rows of which no such node is made, or where
+/// memory ran out.
 const STORE_REFUSED: u8 = 3;
 
 /// Why a node did not begin, or did not go on.
@@ -25,6 +26,8 @@ pub enum NodeStop {
     Store(StoreFault),
     /// No such node has just the rows that are stored. This row shows it.
     BadRows(BadRow),
+    /// Memory ran out for a line, or for what was to be written of it.
+    Memory,
 }
 
 impl fmt::Display for NodeStop {
@@ -41,6 +44,7 @@ impl fmt::Display for NodeStop {
                 fault.fmt(f)
             }
             NodeStop::BadRows(_) => f.write_str("store: 4 Core(BadRows)"),
+            NodeStop::Memory => f.write_str("memory: 4 Memory"),
         }
     }
 }
@@ -103,7 +107,8 @@ pub fn stop_of(fault: ReopenFault) -> NodeStop
     }
 }
 
-/// The exit status of a run: 2 where the setup had no such party, 3 where the store stopped it, and else as of any run.
+/// The exit status of a run: 2 where the setup had no such party, 3 where the store or want of memory stopped it, and
+/// else as of any run.
 pub fn status_after_node(ran: Result<Ran, NodeRunFault>) -> u8
     ensures { result ≡ node_status ran }
 {

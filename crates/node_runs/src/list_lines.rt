@@ -1,6 +1,6 @@
 //! What comes of a line of several events, which are carried out one after another and committed together.
 
-ghost use Rattle.std.specs.Prelude.{◌≡◌, ◌≢◌, ◌<◌, ◌+◌, ◌≤◌, ◌++◌, List, IfOk, Ok, Option, Some, false, length, slice_get, string_bytes, string_capacity, string_len, ℕ};
+ghost use Rattle.std.specs.Prelude.{◌≡◌, ◌≢◌, ◌<◌, ◌+◌, ◌≤◌, ◌++◌, List, [], IfOk, Ok, Option, Some, false, length, slice_get, string_bytes, string_capacity, string_len, ℕ};
 ghost use Rattle.json_text.specs.Fault.{Read};
 ghost use Rattle.stored_nodes.specs.Keepers.{keeper_of};
 ghost use Rattle.node_lines.specs.NodeLines.{node_line_in};
@@ -8,14 +8,14 @@ ghost use Rattle.node_lines.specs.declared.node_line.NodeLine.TheVariants.{Sever
 ghost use Rattle.ocpi_types.specs.declared.node_events.NodeEvent.{NodeEvent as NodeEventOf};
 ghost use Rattle.node_runs.specs.Afters.{DoesAll, DoesPlaced, IsAfter, IsCommitted, TellsRefusal, turn_behind};
 ghost use Rattle.node_runs.specs.DoneLines.{malformed_line};
-ghost use Rattle.node_runs.specs.declared.fault.NodeStop.{NodeStop as NodeStopOf};
 
 use crate::beginning::Running;
 use crate::done_lines::{write_all, write_malformed, write_refused, write_skipped};
 use crate::event_lines::write_applied;
+use crate::fault::NodeStop;
 use line_runs::Turn;
 use node_lines::Elements;
-use node_store::{Keep, StoreFault};
+use node_store::{Keep, LineNumber};
 use ocpi_json::JsonFault;
 use ocpi_text::Party;
 use ocpi_types::NodeEvent;
@@ -25,46 +25,43 @@ use stored_nodes::{StepFault, Transaction, Uncommitted};
 /// What a line behind the setup left of the node.
 #[derive(Drop)]
 pub enum After<K: Keep> {
-    /// The node runs on. `turn` says how the line was answered, and is an error where memory ran out for the answer.
-    Runs {
-        running: Running<K>,
-        turn: Result<Turn, AllocError>,
-    },
-    /// The node has ended at a line of several events, of which nothing was committed and nothing is written.
-    Lost {
-        keep: K,
-        fault: StoreFault,
-    },
+    /// The node runs on. `turn` says how the line was answered.
+    Runs { running: Running<K>, turn: Turn },
+    /// The node has ended, and nothing of the line is written.
+    Lost { keep: K, stop: NodeStop },
 }
 
-/// Carries out the events of a line one after another, commits them together, and then writes what came of each.
+/// Carries out the events of a line one after another, commits them together, and then writes what came of each. `lines`
+/// is room for that.
 ///
 /// Where memory runs out, or the commit is refused, the node ends: nothing of the line is written.
 pub fn answer_list<K: Keep>(
     alloc: Global,
     running: Running<K>,
     elements: &Elements<'_>,
-    number: u64,
+    number: LineNumber,
+    lines: &mut String,
     output: &mut String,
 ) -> After<K>
-    ensures { (line : List ℕ) → node_line_in line ≡ Ok (Several elements.now) → (stop : Option NodeStopOf)
-        → IsAfter (keeper_of K.content K.is_honest K.refusals K.may_leave) running stop number line (string_bytes output.old) (string_bytes output.new) result stop }
+    requires { string_bytes lines.old ≡ [] }
+    ensures { (line : List ℕ) → node_line_in line ≡ Ok (Several elements.now)
+        → IsAfter (keeper_of K.content K.is_honest K.refusals K.may_leave) running number line (string_bytes output.old) (string_bytes output.new) result }
 {
     let (party, node) = running.into_parts();
     let mut transaction = node.begin();
-    let mut lines = String::new(alloc);
-    match answer_all(
+    let answered = answer_all(
         alloc,
         &party,
         &mut transaction,
         elements,
-        number,
-        &mut lines,
-    ) {
-        Ok(turn) => commit_all(party, transaction, turn, lines.as_str(), output),
+        number.value().value(),
+        lines,
+    );
+    match answered {
+        Ok(turn) => commit_all(party, transaction, number, turn, lines.as_str(), output),
         Err(_) => After::Lost {
             keep: transaction.abandon(),
-            fault: StoreFault::Memory,
+            stop: NodeStop::Memory,
         },
     }
 }
@@ -73,38 +70,42 @@ pub fn answer_list<K: Keep>(
 fn commit_all<K: Keep>(
     party: Party,
     transaction: Transaction<K>,
+    number: LineNumber,
     turn: Turn,
     lines: &str,
     output: &mut String,
 ) -> After<K>
-    ensures { IsCommitted (keeper_of K.content K.is_honest K.refusals K.may_leave) party transaction turn lines.now (string_bytes output.old) (string_bytes output.new) result }
+    ensures { IsCommitted (keeper_of K.content K.is_honest K.refusals K.may_leave) party number transaction turn lines.now (string_bytes output.old) (string_bytes output.new) result }
 {
     match output.reserve(lines.len()) {
         Ok(()) => {}
         Err(_) => {
             return After::Lost {
                 keep: transaction.abandon(),
-                fault: StoreFault::Memory,
+                stop: NodeStop::Memory,
             };
         }
     }
-    match transaction.commit() {
+    match transaction.commit(Some(number)) {
         Ok(node) => {
             add_within(lines, output);
             After::Runs {
                 running: Running { party, node },
-                turn: Ok(turn),
+                turn,
             }
         }
         Err(uncommitted) => {
             let Uncommitted { keep, fault } = uncommitted;
-            After::Lost { keep, fault }
+            After::Lost {
+                keep,
+                stop: NodeStop::Store(fault),
+            }
         }
     }
 }
 
 /// Adds a text for which there is room.
-fn add_within(text: &str, output: &mut String)
+pub fn add_within(text: &str, output: &mut String)
     requires { string_len output.old + length text.now ≤ string_capacity output.old }
     ensures { string_bytes output.new ≡ string_bytes output.old ++ text.now }
 {

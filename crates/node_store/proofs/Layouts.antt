@@ -6,7 +6,7 @@ use Rattle.sqlite.specs.Order.{Row, column}
 use Rattle.sqlite.specs.Tree.{Trees}
 use Rattle.sqlite.specs.Store.{Ghosts}
 use Rattle.sqlite.specs.Effect.{Database}
-use Rattle.row_table.specs.Contents.{IsNumbered, IsWhole, at_version, content_of, versions, with_texts}
+use Rattle.row_table.specs.Contents.{IsNumbered, content_of, versions, with_texts}
 use Rattle.row_table.specs.Contents as table
 use Rattle.row_table.specs.Opening.{Finds}
 use Rattle.row_table.specs.Kept.{Kept, IsClean, Leaves, LeavesWhole, MayLeave, content}

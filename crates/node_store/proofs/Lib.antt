@@ -1,5 +1,6 @@
 pub mod Places
 pub mod Placed
+pub mod Numbered
 pub mod KeptRows
 pub mod Edited
 pub mod Alike

@@ -1,13 +1,13 @@
 -- A store that is moved to layout 2 has the same rows.
 use Rattle.std.proofs.Common.{◌≡◌, inl, inr, ℕ, pos, Bool, true, false, cond, ◌&&◌, T, List, [], ◌∷◌, ◌++◌, map, get_or, All, Option, Some, None, option_map, Ok, Err, refl, sym, ap, subst, ◌∙◌}
 use Rattle.std.specs.Prelude.{◌≢◌, codes}
-use Rattle.std.specs.FinMap.{entries, entries_sorted, entries-from_sorted, find, from_sorted, get, get-entries, get-from_sorted, is_sorted, same_map}
+use Rattle.std.specs.FinMap.{entries, entries_sorted, entries-from_sorted, find, from_sorted, get, get-entries, get-from_sorted, is_sorted, remove, same_map}
 use Rattle.std.specs.FinMap.Entries.{below_all}
 use Rattle.std.specs.Ordering.{eq_by_cmp, is_lt}
 use Rattle.std.proofs.lemmas.List.Elements.{All-head, All-tail, Contains-get_or}
 use Rattle.tables.specs.Keys.{text_pair_cmp, text_pair_total, text_pair_exact}
 use Rattle.tables.proofs.Entries.{listed_only}
-use Rattle.tables.proofs.Maps.{equal_of_is_eq}
+use Rattle.tables.proofs.Maps.{equal_of_is_eq, told}
 use Rattle.sqlite.specs.declared.types.Value.{Value}
 use Rattle.sqlite.specs.declared.types.Value.TheVariants.{Int}
 use Rattle.sqlite.specs.Tree.{Trees}
@@ -23,11 +23,16 @@ use Rattle.row_table.specs.Layout.{both_tables}
 use Rattle.row_table.specs.Texts.{texts_of}
 use Rattle.row_table.specs.Contents.{content_of}
 use Rattle.row_table.specs.Contents as table
-use Rattle.node_store.specs.Contents.{Content, RowPlace, after_row, is_row, rows_after, rows_of, rows_read}
+use Rattle.node_store.specs.Contents.{Content, RowPlace, after_row, is_row, line_of, line_place, number_kept, rows_after, rows_of, rows_read}
 use Rattle.node_store.specs.Moved.{HasRows, IsMoved, MayBecome, MovesTo, OpeningKeepsRows, OpensAs, is_cdr, moved_text, rows_of_1}
 use Rattle.node_store.specs.Moving.{Entry}
 use Rattle.node_store.proofs.Layouts.{numbered}
+use Rattle.node_store.proofs.Numbered.{get_set_other, get_set_same}
 use Rattle.node_store.proofs.Opening.{differ}
+
+-- each place has a text in both or in neither
+abbrev AllMoved : Content → Content → Type 0
+AllMoved old new = (p : RowPlace) → MovesTo p (get old p) (get new p)
 
 -- ---- the entries
 
@@ -64,7 +69,7 @@ moves_at p (Some t) None h = absurd h
 moves_at p None (Some u) h = absurd h
 moves_at p None None h = refl
 
-entries_moved : (old new : Content) → IsMoved old new → entries new ≡ map moved_entry (entries old)
+entries_moved : (old new : Content) → AllMoved old new → entries new ≡ map moved_entry (entries old)
 entries_moved old new moved =
     let es = map moved_entry (entries old) in
     let sorted = subst T (sym (sorted_same (entries old))) (entries_sorted old) in
@@ -91,13 +96,28 @@ read_alike before (e ∷ es) each =
     ap (λ (read : Read Row). after_row read (λ r. rows_after (before ++ r ∷ []) (map moved_entry es))) (All-head ReadsAlike e es each)
     ∙ goes_on (row_in_1 e.0.0 e.0.1 e.1) _ _ (λ r. read_alike (before ++ r ∷ []) es (All-tail ReadsAlike e es each))
 
-same_rows : (old new : Content) → IsMoved old new → rows_of new ≡ rows_of_1 old
-same_rows old new moved =
+all_rows : (old new : Content) → AllMoved old new → rows_after [] (entries new) ≡ rows_read row_in_1 [] (entries old)
+all_rows old new moved =
     ap (rows_after []) (entries_moved old new moved)
     ∙ read_alike [] (entries old) (λ k d low.
     let e = get_or (entries old) k d in
     let stands = listed_only text_pair_total text_pair_exact old e.0 e.1 (Contains-get_or (entries old) k d low) in
     alike e.0 e.1 (get new e.0) (subst (λ (o : Option (List ℕ)). MovesTo e.0 o (get new e.0)) stands (moved e.0)))
+
+none_moved : (p : RowPlace) (old new : Option (List ℕ)) → old ≡ None → new ≡ None → MovesTo p old new
+none_moved p old new was is = subst (λ (o : Option (List ℕ)). MovesTo p o new) (sym was) (subst (MovesTo p None) (sym is) tt)
+
+-- without the number all are rows
+moved_without : (old new : Content) → IsMoved old new → AllMoved (remove old line_place) (remove new line_place)
+moved_without old new moved p = elim (told text_pair_total text_pair_exact p line_place) [
+  | inl at ↦ subst (λ (q : RowPlace). MovesTo q (get (remove old line_place) q) (get (remove new line_place) q)) (sym at)
+      (none_moved line_place (get (remove old line_place) line_place) (get (remove new line_place) line_place) (get_set_same old line_place None) (get_set_same new line_place None))
+  | inr other ↦ subst (λ (o : Option (List ℕ)). MovesTo p o (get (remove new line_place) p)) (sym (get_set_other old line_place None p other))
+      (subst (MovesTo p (get old p)) (sym (get_set_other new line_place None p other)) (moved.rows p other))
+]
+
+same_rows : (old new : Content) → IsMoved old new → rows_of new ≡ rows_of_1 old
+same_rows old new moved = all_rows (remove old line_place) (remove new line_place) (moved_without old new moved)
 
 -- ---- the law
 
@@ -121,6 +141,15 @@ stopped : (db : Database) (trees : Trees) (rows : List Row) → db.schema ≡ bo
 stopped db trees rows both has (inl h) = absurd (differ (sym both ∙ h.0))
 stopped db trees rows both has (inr h) =
     inr (h.2.0, same_rows (texts_of db.trees) (texts_of trees) h.2.1 ∙ rows_of_one (content_of db.trees) rows (numbered 1 (db.trees 0) h.0.1) has)
+
+opened_line : (db : Database) (c : table.Content) → db.schema ≡ both_tables → OpensAs db c → line_of c.texts ≡ line_of (texts_of db.trees)
+opened_line db c both (inl (inl h)) = ap (λ (d : table.Content). line_of d.texts) h.2
+opened_line db c both (inl (inr h)) = absurd (differ (sym both ∙ h.0))
+opened_line db c both (inr h) = ap number_kept h.1.1.line
+
+stopped_line : (db : Database) (trees : Trees) → db.schema ≡ both_tables → MayBecome db trees → line_of (texts_of trees) ≡ line_of (texts_of db.trees)
+stopped_line db trees both (inl h) = absurd (differ (sym both ∙ h.0))
+stopped_line db trees both (inr h) = ap number_kept h.2.1.line
 
 none_bad : (p : RowPlace) (t : List ℕ) (new : Option (List ℕ)) → MovesTo p (Some t) new → is_row (row_in_1 p.0 p.1 t) ≡ false → ⊥
 none_bad p t (Some u) h bad = absurd (let row : is_row (row_in_1 p.0 p.1 t) ≡ true = ap is_row h.was in cc)
@@ -157,6 +186,11 @@ pub opening_keeps_rows : OpeningKeepsRows
 opening_keeps_rows = record {
   opened = opened;
   stopped = stopped;
-  bad = λ old new h moved. none_bad h.place h.text (get new h.place) (subst (λ (o : Option (List ℕ)). MovesTo h.place o (get new h.place)) h.stands (moved h.place)) h.bad;
-  others = λ old new moved p other. stays p (get old p) (get new p) other (moved p);
+  opened_line = opened_line;
+  stopped_line = stopped_line;
+  bad = λ old new h moved. none_bad h.place h.text (get new h.place) (subst (λ (o : Option (List ℕ)). MovesTo h.place o (get new h.place)) h.stands (moved.rows h.place h.other)) h.bad;
+  others = λ old new moved p other. elim (told text_pair_total text_pair_exact p line_place) [
+    | inl at ↦ subst (λ (q : RowPlace). get new q ≡ get old q) (sym at) moved.line
+    | inr apart ↦ stays p (get old p) (get new p) other (moved.rows p apart)
+  ];
 }

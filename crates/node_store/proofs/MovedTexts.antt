@@ -1,28 +1,30 @@
 -- The edits of a store of layout 1 move its texts to layout 2.
-use Rattle.std.proofs.Common.{◌≡◌, ◌⊎◌, inl, inr, ℕ, ◌+◌, ◌<◌, Bool, true, false, cond, List, [], ◌∷◌, ◌++◌, get_or, length, take, All, IfErr, Option, Some, None, Result, Ok, Err, refl, sym, ap, subst, ◌∙◌}
+use Rattle.std.proofs.Common.{◌≡◌, ◌≢◌, ◌⊎◌, inl, inr, ℕ, ◌+◌, ◌<◌, Bool, true, false, cond, List, [], ◌∷◌, ◌++◌, get_or, length, take, All, IfErr, OnOk, Option, Some, None, Result, Ok, Err, refl, sym, ap, subst, ◌∙◌}
 use Rattle.std.specs.Prelude.{flat_map}
 use Rattle.std.specs.FinMap.{entries, find, get, get-entries, get-insert}
 use Rattle.std.specs.Ordering.{eq_by_cmp}
-use Rattle.std.specs.Cmp.{eq_by_cmp_equiv}
-use Rattle.std.proofs.lemmas.List.{take_more}
+use Rattle.std.proofs.lemmas.List.{append-nil, take_more}
 use Rattle.std.proofs.lemmas.Grind.{flat_map-append}
 use Rattle.std.proofs.lemmas.List.Elements.{All-head, All-tail, Contains-get_or}
 use Rattle.tables.specs.Keys.{text_pair_cmp, text_pair_total, text_pair_exact}
 use Rattle.tables.proofs.Entries.{listed_only}
-use Rattle.tables.proofs.Maps.{equal_of_is_eq}
 use Rattle.json_text.specs.Fault.{Read}
 use Rattle.ocpi_types.specs.Rows.{key_of}
 use Rattle.ocpi_types.specs.declared.rows.Row.{Row}
 use Rattle.ocpi_json.specs.RowForms.{row_in, row_in_1, row_text}
 use Rattle.row_table.specs.Contents.{at_version}
 use Rattle.row_table.specs.Contents as table
-use Rattle.row_table.specs.Effects.{Edit, set, set_all}
-use Rattle.node_store.specs.Contents.{AnswersRow, Content, RowPlace, after_row, is_row, place_of}
+use Rattle.row_table.specs.Effects.{Edit, set_all}
+use Rattle.node_store.specs.Contents.{AnswersRow, Content, RowPlace, after_row, is_row, line_place, place_of}
 use Rattle.node_store.specs.Moved.{HasBadText, IsMoved, IsMovedTo, MovesTo, is_cdr, moved_text}
-use Rattle.node_store.specs.Moving.{Entry, HasBadEntry, IsMovable, edits_of_read, text_edits}
+use Rattle.node_store.specs.Moving.{Entry, HasBadEntry, IsBadEntry, IsMovable, MayMove, edits_of_read, text_edits}
+use Rattle.node_store.specs.Numbers.{is_line_place}
 use Rattle.node_store.specs.declared.fault.StoreFault.{StoreFault}
 use Rattle.node_store.specs.declared.fault.StoreFault.TheVariants.{Refused, BadRow, OldLayout, Memory}
+use Rattle.ocpi_json.proofs.RowLemmas.{row_found_1}
 use Rattle.node_store.proofs.Alike.{row_alike}
+use Rattle.node_store.proofs.Edited.{set_more}
+use Rattle.node_store.proofs.Numbered.{at_line, no_row_place, not_line, one_place, same_place}
 
 -- ---- one text
 
@@ -60,16 +62,6 @@ one_more es i e front more lt is made so_far =
     no_more : (l : List Edit) → l ++ [] ≡ l
     no_more [] = refl
     no_more (x ∷ xs) = ap (λ (l : List Edit). x ∷ l) (no_more xs)
-
-set_more : (c : Content) (a b : List Edit) → set_all c (a ++ b) ≡ set_all (set_all c a) b
-set_more c [] b = refl
-set_more c (x ∷ xs) b = set_more (set c x) xs b
-
-same_place : (p : RowPlace) → eq_by_cmp text_pair_cmp p p ≡ true
-same_place p = (eq_by_cmp_equiv text_pair_total).refl p
-
-one_place : (p q : RowPlace) → eq_by_cmp text_pair_cmp p q ≡ true → p ≡ q
-one_place p q tied = text_pair_exact p q (equal_of_is_eq (text_pair_cmp p q) tied)
 
 -- what stands elsewhere stays
 put_apart : (b : Bool) (p k : RowPlace) (v : List ℕ) (d : Content) → eq_by_cmp text_pair_cmp p k ≡ false → get (set_all d (cond b ((k, Some v) ∷ []) [])) p ≡ get d p
@@ -144,22 +136,60 @@ module _ (p : RowPlace) (t : List ℕ) (r : Row) (was : row_in_1 p.0 p.1 t ≡ O
 
 -- ---- all texts
 
-found_movable : (p : RowPlace) (t : List ℕ) (es : List Entry) → All IsMovable es → find text_pair_cmp p es ≡ Some t → IsMovable (p, t)
-found_movable p t [] each found = absurd (let h = found in cc)
-found_movable p t (e ∷ es) each found = by_place (eq_by_cmp text_pair_cmp p e.0) refl (found_movable p t es (All-tail IsMovable e es each))
+found_movable : (p : RowPlace) (t : List ℕ) (es : List Entry) → p ≢ line_place → All MayMove es → find text_pair_cmp p es ≡ Some t → IsMovable (p, t)
+found_movable p t [] other each found = absurd (let h = found in cc)
+found_movable p t (e ∷ es) other each found = by_place (eq_by_cmp text_pair_cmp p e.0) refl (found_movable p t es other (All-tail MayMove e es each))
   where
     by_place : (b : Bool) → eq_by_cmp text_pair_cmp p e.0 ≡ b → (find text_pair_cmp p es ≡ Some t → IsMovable (p, t)) → IsMovable (p, t)
     by_place true tied rest =
         let place = sym (one_place p e.0 tied) in
         let text = here _ e.1 t _ tied found in
-        subst IsMovable (λ i. (place i, text i)) (All-head IsMovable e es each)
+        subst IsMovable (λ i. (place i, text i)) (All-head MayMove e es each (λ at. other (sym place ∙ at)))
     by_place false apart rest = rest (not_here _ e.1 _ (Some t) apart found)
 
 same_text : (a b : List ℕ) → Some a ≡ Some b → a ≡ b
 same_text a b e = cc
 
-pub moved_all : (c : Content) → All IsMovable (entries c) → IsMoved c (set_all c (flat_map text_edits (entries c)))
-moved_all c each p = by_text (get c p) refl
+-- no row stands at the place of the number
+pub no_edits : (e : Entry) → e.0 ≡ line_place → text_edits e ≡ []
+no_edits e at = by_read (row_in_1 e.0.0 e.0.1 e.1) refl
+  where
+    by_read : (read : Read Row) → row_in_1 e.0.0 e.0.1 e.1 ≡ read → edits_of_read e.0 read ≡ []
+    by_read (Ok r) was = absurd (let h = row_found_1 e.0.0 e.0.1 e.1 r was in no_row_place (key_of r) ((λ i. (h.kind i, h.key_is i)) ∙ at))
+    by_read (Err fault) was = refl
+
+-- what stands at the place of the number is passed over
+module _ (e : Entry) (kind name : List ℕ) (k : kind ≡ e.0.0) (n : name ≡ e.0.1) where
+  place_is : (kind, name) ≡ e.0
+  place_is i = (k i, n i)
+
+  pub passed : is_line_place (kind, name) ≡ true → MayMove e
+  passed is other = absurd (other (sym place_is ∙ at_line (kind, name) is))
+
+  pub passed_edits : (front : List Edit) → is_line_place (kind, name) ≡ true → front ≡ front ++ text_edits e
+  passed_edits front is = sym (append-nil front) ∙ ap (λ (l : List Edit). front ++ l) (sym (no_edits e (sym place_is ∙ at_line (kind, name) is)))
+
+pub may_move : {X E : Type 0} (r : Result X E) (e : Entry) → OnOk r (IsMovable e) → OnOk r (MayMove e)
+may_move (Ok x) e movable = λ other. movable
+may_move (Err f) e movable = tt
+
+pub is_bad : {X : Type 0} (r : Result X StoreFault) (e : Entry) (kind name : List ℕ) → kind ≡ e.0.0 → name ≡ e.0.1 → is_line_place (kind, name) ≡ false
+    → IfErr r (λ f. f ≡ BadRow → is_row (row_in_1 e.0.0 e.0.1 e.1) ≡ false) → IfErr r (λ f. f ≡ BadRow → IsBadEntry e)
+is_bad (Ok x) e kind name k n is told = tt
+is_bad (Err f) e kind name k n is told = λ bad. (λ at. not_line (kind, name) is ((λ i. (k i, n i)) ∙ at), told bad)
+
+-- the number stays
+line_kept : (es : List Entry) (d : Content) → get (set_all d (flat_map text_edits es)) line_place ≡ get d line_place
+line_kept [] d = refl
+line_kept (e ∷ es) d =
+    ap (λ (c : Content). get c line_place) (set_more d (text_edits e) (flat_map text_edits es)) ∙ line_kept es (set_all d (text_edits e)) ∙ by_place (eq_by_cmp text_pair_cmp line_place e.0) refl
+  where
+    by_place : (b : Bool) → eq_by_cmp text_pair_cmp line_place e.0 ≡ b → get (set_all d (text_edits e)) line_place ≡ get d line_place
+    by_place true tied = ap (λ (l : List Edit). get (set_all d l) line_place) (no_edits e (sym (one_place line_place e.0 tied)))
+    by_place false apart = left_alone (row_in_1 e.0.0 e.0.1 e.1) line_place e.0 d apart
+
+moved_rows : (c : Content) → All MayMove (entries c) → (p : RowPlace) → p ≢ line_place → MovesTo p (get c p) (get (set_all c (flat_map text_edits (entries c))) p)
+moved_rows c each p other = by_text (get c p) refl
   where
     by_text : (o : Option (List ℕ)) → get c p ≡ o → MovesTo p (get c p) (get (set_all c (flat_map text_edits (entries c))) p)
     by_text None none =
@@ -167,7 +197,7 @@ moved_all c each p = by_text (get c p) refl
         subst (λ (o : Option (List ℕ)). MovesTo p o (get (set_all c (flat_map text_edits (entries c))) p)) (sym none) (subst (MovesTo p None) (sym still) tt)
     by_text (Some t) some =
         let found = sym (get-entries c p) ∙ some in
-        let it = found_movable p t (entries c) each found in
+        let it = found_movable p t (entries c) other each found in
         let now = becomes p t it.row it.was (entries c) c
         (λ k d low same.
         let e = get_or (entries c) k d in
@@ -176,18 +206,22 @@ moved_all c each p = by_text (get c p) refl
         subst (λ (o : Option (List ℕ)). MovesTo p o (get (set_all c (flat_map text_edits (entries c))) p)) (sym some)
         (subst (MovesTo p (Some t)) (sym now) (record { row = it.row; was = it.was; is = it.is; text = refl }))
 
+pub moved_all : (c : Content) → All MayMove (entries c) → IsMoved c (set_all c (flat_map text_edits (entries c)))
+moved_all c each = record { rows = moved_rows c each; line = line_kept (entries c) c }
+
 -- what is to stand in place of what stands
-pub moved_by : (old : Content) (new : table.Content) (es : List Entry) (edits : List Edit) → entries old ≡ es → All IsMovable es → edits ≡ flat_map text_edits es → new ≡ at_version 2 (set_all old edits) → IsMovedTo old new
+pub moved_by : (old : Content) (new : table.Content) (es : List Entry) (edits : List Edit) → entries old ≡ es → All MayMove es → edits ≡ flat_map text_edits es → new ≡ at_version 2 (set_all old edits) → IsMovedTo old new
 moved_by old new es edits same each made is =
-    subst (IsMovedTo old) (sym (is ∙ ap (λ (l : List Edit). at_version 2 (set_all old l)) (made ∙ ap (flat_map text_edits) (sym same)))) (refl, moved_all old (subst (All IsMovable) (sym same) each))
+    subst (IsMovedTo old) (sym (is ∙ ap (λ (l : List Edit). at_version 2 (set_all old l)) (made ∙ ap (flat_map text_edits) (sym same)))) (refl, moved_all old (subst (All MayMove) (sym same) each))
 
 bad_text : (c : Content) → HasBadEntry (entries c) → HasBadText c
 bad_text c h = record {
   place = h.entry.0;
   text = h.entry.1;
+  other = h.bad.0;
   stands = subst (λ (e : Entry). get c e.0 ≡ Some e.1) (sym h.is)
       (let e = get_or (entries c) h.at h.entry in listed_only text_pair_total text_pair_exact c e.0 e.1 (Contains-get_or (entries c) h.at h.entry h.within));
-  bad = h.bad;
+  bad = h.bad.1;
 }
 
 pub bad_found : (c : Content) (es : List Entry) → entries c ≡ es → HasBadEntry es → HasBadText c

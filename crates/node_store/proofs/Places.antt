@@ -1,5 +1,6 @@
 -- The words of the kinds and the texts of keys fit the places of a table.
 use Rattle.std.proofs.Common.{◌≡◌, ℕ, ◌≤◌, true, List, [], ◌+◌, ◌∷◌, ◌++◌, length, decimal, Ok, refl, sym, ◌∙◌, arith, length-append}
+use Rattle.std.specs.Prelude.{codes}
 use Rattle.std.specs.Char.{is_ascii_digit}
 use Rattle.std.specs.List.{list_all}
 use Rattle.std.proofs.lemmas.Bool.{and_from, and_parts}
@@ -45,6 +46,13 @@ kind_fits_so kind.Command = (refl, omega arith)
 
 pub kind_fits : (k : RowKind) → ci_text 16 (row_kind_word k) ≡ Ok (row_kind_word k)
 kind_fits k = let h = kind_fits_so k in ci_again 16 (row_kind_word k) h.0 h.1
+
+pub count_fits : ci_text 16 (codes "count") ≡ Ok (codes "count")
+count_fits = kind_fits kind.Count
+
+pub line_fits : ci_text 64 (codes "line") ≡ Ok (codes "line")
+unfolding is_ascii_text
+line_fits = ci_again 64 (codes "line") refl (omega arith)
 
 counter_fits : (c : Counter) → Fits 64 (counter_name c)
 unfolding is_ascii_text

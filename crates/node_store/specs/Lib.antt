@@ -1,6 +1,7 @@
 pub mod Faults
 pub mod Contents
 pub mod Placing
+pub mod Numbers
 pub mod Editing
 pub mod Moved
 pub mod Moving

@@ -1,6 +1,6 @@
 -- A store of layout 1 is moved to layout 2: each charge detail record is written anew, and all other texts stay.
 use Rattle.std.specs.Prelude.{◌≡◌, ◌≢◌, ◌⊎◌, ℕ, codes, pos, Bool, true, false, cond, List, [], ◌∷◌, Option, Some, None, Ok}
-use Rattle.std.specs.FinMap.{entries, get}
+use Rattle.std.specs.FinMap.{entries, get, remove}
 use Rattle.sqlite.specs.declared.types.Value.TheVariants.{Int}
 use Rattle.sqlite.specs.Tree.{Trees}
 use Rattle.sqlite.specs.Effect.{Database}
@@ -13,7 +13,7 @@ use Rattle.row_table.specs.Opening.{Finds, ShowsTheSame}
 use Rattle.ocpi_types.specs.declared.rows.Row.{Row}
 use Rattle.ocpi_types.specs.declared.rows.Row.TheVariants as row
 use Rattle.ocpi_json.specs.RowForms.{row_in, row_in_1, row_text}
-use Rattle.node_store.specs.Contents.{Content, RowPlace, is_row, rows_of, rows_read}
+use Rattle.node_store.specs.Contents.{Content, RowPlace, is_row, line_of, line_place, rows_of, rows_read}
 
 -- ---- one text
 
@@ -51,13 +51,15 @@ MovesTo p (Some old) None = ⊥
 MovesTo p None (Some new) = ⊥
 MovesTo p None None = Unit {0}
 
--- each place has a text in both or in neither
-abbrev pub IsMoved : Content → Content → Type 0
-IsMoved old new = (p : RowPlace) → MovesTo p (get old p) (get new p)
+-- Each place has a text in both or in neither. What stands at the place of the number is no row, and stays.
+pub record IsMoved (old new : Content) : Type 0 where
+  pub rows : (p : RowPlace) → p ≢ line_place → MovesTo p (get old p) (get new p)
+  pub line : get new line_place ≡ get old line_place
 
--- a text that is no row of its kind and key by layout 1
+-- a text that is no row of its kind and key by layout 1, at another place than that of the number
 pub record HasBadText (c : Content) : Type 0 where
   pub place : RowPlace
+  pub other : place ≢ line_place
   pub text : List ℕ
   pub stands : get c place ≡ Some text
   pub bad : is_row (row_in_1 place.0 place.1 text) ≡ false
@@ -94,16 +96,19 @@ WasBad db = HasLayoutOne db × HasBadText (texts_of db.trees)
 
 -- the rows of a content by layout 1, ordered by kind and key
 abbrev pub rows_of_1 : Content → Option (List Row)
-rows_of_1 c = rows_read row_in_1 [] (entries c)
+rows_of_1 c = rows_read row_in_1 [] (entries (remove c line_place))
 
 -- a store has these rows, by the layout of its version
 abbrev pub HasRows : table.Content → List Row → Type 0
 HasRows c rows = ((c.versions ≡ Int (pos 1) ∷ []) × (rows_of_1 c.texts ≡ Some rows)) ⊎ ((c.versions ≡ Int (pos 2) ∷ []) × (rows_of c.texts ≡ Some rows))
 
 -- The keeper that opens a store has its rows, and so has what a refused opening may have made of it. Where a text is
--- no row by layout 1, there is neither. What stands under another kind than `cdr` is as it was, to the byte.
+-- no row by layout 1, there is neither. What stands under another kind than `cdr` is as it was, to the byte, and so is
+-- the number of the last line that took hold.
 pub record OpeningKeepsRows : Type 0 where
   pub opened : (db : Database) (c : table.Content) (rows : List Row) → db.schema ≡ both_tables → HasRows (content_of db.trees) rows → OpensAs db c → rows_of c.texts ≡ Some rows
   pub stopped : (db : Database) (trees : Trees) (rows : List Row) → db.schema ≡ both_tables → HasRows (content_of db.trees) rows → MayBecome db trees → HasRows (content_of trees) rows
+  pub opened_line : (db : Database) (c : table.Content) → db.schema ≡ both_tables → OpensAs db c → line_of c.texts ≡ line_of (texts_of db.trees)
+  pub stopped_line : (db : Database) (trees : Trees) → db.schema ≡ both_tables → MayBecome db trees → line_of (texts_of trees) ≡ line_of (texts_of db.trees)
   pub bad : (old new : Content) → HasBadText old → ¬ (IsMoved old new)
   pub others : (old new : Content) → IsMoved old new → (p : RowPlace) → p.0 ≢ codes "cdr" → get new p ≡ get old p

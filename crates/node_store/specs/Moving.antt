@@ -1,10 +1,10 @@
 -- The edits that move a store of layout 1.
-use Rattle.std.specs.Prelude.{◌≡◌, ◌<◌, ℕ, false, cond, List, [], ◌∷◌, length, get_or, Some, Ok, Err}
+use Rattle.std.specs.Prelude.{◌≡◌, ◌≢◌, ◌<◌, ℕ, false, cond, List, [], ◌∷◌, length, get_or, Some, Ok, Err}
 use Rattle.json_text.specs.Fault.{Read}
 use Rattle.ocpi_types.specs.declared.rows.Row.{Row}
 use Rattle.ocpi_json.specs.RowForms.{row_in, row_in_1, row_text}
 use Rattle.row_table.specs.Effects.{Edit}
-use Rattle.node_store.specs.Contents.{RowPlace, is_row}
+use Rattle.node_store.specs.Contents.{RowPlace, is_row, line_place}
 use Rattle.node_store.specs.Moved.{is_cdr, moved_text}
 
 -- a place, and the text there
@@ -25,10 +25,18 @@ pub record IsMovable (e : Entry) : Type 0 where
   pub was : row_in_1 e.0.0 e.0.1 e.1 ≡ Ok row
   pub is : row_in e.0.0 e.0.1 (moved_text row e.1) ≡ Ok row
 
+-- what stands at the place of the number is passed over
+abbrev pub MayMove : Entry → Type 0
+MayMove e = e.0 ≢ line_place → IsMovable e
+
+-- it is no row by layout 1
+abbrev pub IsBadEntry : Entry → Type 0
+IsBadEntry e = (e.0 ≢ line_place) × (is_row (row_in_1 e.0.0 e.0.1 e.1) ≡ false)
+
 -- one of them is no row by layout 1
 pub record HasBadEntry (es : List Entry) : Type 0 where
   pub at : ℕ
   pub entry : Entry
   pub within : at < length es
   pub is : entry ≡ get_or es at entry
-  pub bad : is_row (row_in_1 entry.0.0 entry.0.1 entry.1) ≡ false
+  pub bad : IsBadEntry entry

@@ -1,12 +1,14 @@
 //! Changes of a table of rows, made all together or not at all.
 
-ghost use Rattle.std.specs.Prelude.{◌≡◌, All, IfOk, IsTrue, OnOk, map};
+ghost use Rattle.std.specs.Prelude.{◌≡◌, ◌++◌, All, IfOk, IfSome, IsTrue, OnOk, map};
 ghost use Rattle.std.specs.FinMap.{contains_key};
-ghost use Rattle.node_store.specs.Contents.{IsReadAgain, RowPlace};
+ghost use Rattle.node_store.specs.Contents.{IsLineNumber, IsReadAgain, RowPlace};
+ghost use Rattle.node_store.specs.Numbers.{line_placed};
 ghost use Rattle.node_store.specs.Placing.{HasRoom, kept, placed_all, placed_of, room, set_text};
 ghost use Rattle.node_store.specs.declared.stored.Placed.{Placed as PlacedOf};
 
-use crate::stored::{Place, Placed, StoredRow, placed_of};
+use crate::line_number::LineNumber;
+use crate::stored::{Place, Placed, StoredRow, line_place, placed_of};
 use ocpi_types::Change;
 use std::alloc::{AllocError, Global};
 use tables::Table;
@@ -22,6 +24,24 @@ pub(crate) fn placed_all(alloc: Global, changes: &[Change]) -> Result<Vec<Placed
         placed.push(next)?;
     }
     Ok(placed)
+}
+
+/// Adds the number of a line and its place, where there is one.
+pub(crate) fn place_number(
+    line: Option<LineNumber>,
+    placed: &mut Vec<Placed>,
+) -> Result<(), AllocError>
+    ensures placed { OnOk result (placed.new.items ≡ placed.old.items ++ line_placed line) }
+    ensures fits { OnOk result (IfSome line IsLineNumber) }
+{
+    let Some(number) = line else {
+        return Ok(());
+    };
+    placed.push(Placed {
+        place: line_place(),
+        row: Some(StoredRow::of_number(number)),
+    })?;
+    Ok(())
 }
 
 /// Takes the room that a row needs, where it is not there.

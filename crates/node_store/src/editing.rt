@@ -1,11 +1,13 @@
-//! Changes of rows as edits of texts.
+//! Changes of rows, and the number of their line, as edits of texts.
 
-ghost use Rattle.std.specs.Prelude.{◌≡◌, All, IfOk, map, string_bytes};
+ghost use Rattle.std.specs.Prelude.{◌≡◌, ◌++◌, All, IfOk, map, string_bytes};
 ghost use Rattle.ocpi_json.specs.RowKeys.{key_text, kind_of_key, row_kind_word};
 ghost use Rattle.ocpi_json.specs.RowForms.{row_text};
 ghost use Rattle.node_store.specs.Contents.{IsReadAgain};
 ghost use Rattle.node_store.specs.Editing.{edit_of};
+ghost use Rattle.node_store.specs.Numbers.{line_edits};
 
+use crate::line_number::{LineNumber, add_number};
 use ocpi_json::{RowKind, write_key, write_row};
 use ocpi_types::{Change, RowKey, Word};
 use row_table::TextEdit;
@@ -39,7 +41,7 @@ fn edit_of(alloc: Global, change: &Change) -> Result<TextEdit, AllocError>
 }
 
 /// The edits that changes are, in turn.
-pub(crate) fn edits_of(alloc: Global, changes: &[Change]) -> Result<Vec<TextEdit>, AllocError>
+fn change_edits(alloc: Global, changes: &[Change]) -> Result<Vec<TextEdit>, AllocError>
     ensures edits { IfOk result (λ v. v.items ≡ map edit_of changes.now) }
     ensures again { IfOk result (λ v. All IsReadAgain changes.now) }
 {
@@ -48,5 +50,19 @@ pub(crate) fn edits_of(alloc: Global, changes: &[Change]) -> Result<Vec<TextEdit
         let next = edit_of(alloc, change)?;
         edits.push(next)?;
     }
+    Ok(edits)
+}
+
+/// The edits that changes are, in turn, and behind them that of the number of their line, where there is one.
+pub(crate) fn edits_of(
+    alloc: Global,
+    changes: &[Change],
+    line: Option<LineNumber>,
+) -> Result<Vec<TextEdit>, AllocError>
+    ensures edits { IfOk result (λ v. v.items ≡ map edit_of changes.now ++ line_edits line) }
+    ensures again { IfOk result (λ v. All IsReadAgain changes.now) }
+{
+    let mut edits = change_edits(alloc, changes)?;
+    add_number(alloc, line, &mut edits)?;
     Ok(edits)
 }

@@ -1,17 +1,20 @@
 //! A keeper in memory.
 
-ghost use Rattle.std.specs.Prelude.{◌≡◌, ◌≢◌, ◌⊎◌, All, List, ℕ, [], IfErr, IfOk, OnErr, OnOk, IsSome, None, Some};
-ghost use Rattle.std.specs.FinMap.{empty};
-ghost use Rattle.node_store.specs.Contents.{Content, IsReadAgain, changed_all, rows_of};
+ghost use Rattle.std.specs.Prelude.{◌≡◌, ◌≢◌, ◌≤◌, ◌⊎◌, All, List, ℕ, [], IfErr, IfOk, IfSome, OnErr, OnOk, IsSome, None, Some};
+ghost use Rattle.std.specs.FinMap.{empty, entries};
+ghost use Rattle.node_store.specs.Contents.{AnswersNumber, Content, IsLineNumber, IsReadAgain, changed_all, line_of, marked, rows_after, rows_of};
 ghost use Rattle.node_store.specs.Faults.{IsListFault, IsCommitFault, counted};
+ghost use Rattle.node_store.specs.Numbers.{others};
 ghost use Rattle.node_store.specs.Placing.{kept, placed_of, set_text};
 ghost use Rattle.node_store.specs.declared.fault.StoreFault.TheVariants.{BadRow};
 
-use crate::changing::{placed_all, put_all, release_all, reserve_all};
+use crate::changing::{place_number, placed_all, put_all, release_all, reserve_all};
 use crate::fault::StoreFault;
-use crate::keep::Keep;
-use crate::stored::{Place, Placed, StoredRow, placed_of, row_of};
+use crate::keep::{Keep, Kept};
+use crate::line_number::{LineNumber, first_number, is_line_place, number_of_text};
+use crate::stored::{Place, Placed, StoredRow, line_place, placed_of, row_of};
 use ocpi_json::Scratch;
+use ocpi_text::Whole;
 use ocpi_types::{Change, Row};
 use std::alloc::{AllocError, Global};
 use std::marker::Model;
@@ -28,7 +31,8 @@ pub struct ListKeep {
 impl Model for ListKeep {
     ghost use Rattle.std.specs.Coded.{codes};
     ghost use Rattle.std.specs.FinMap as map;
-    ghost use Rattle.node_store.specs.Contents.{AreRows, Content};
+    ghost use Rattle.std.specs.Prelude.{IsSome};
+    ghost use Rattle.node_store.specs.Contents.{AreRows, Content, line_of};
     ghost use Rattle.node_store.specs.Placing.{kept};
 
     ghost Value = { Content };
@@ -37,7 +41,7 @@ impl Model for ListKeep {
 
     ghost view = { λ k. kept k.stored };
 
-    ghost invariant = { λ k. AreRows (kept k.stored) };
+    ghost invariant = { λ k. AreRows (kept k.stored) × IsSome (line_of (kept k.stored)) };
 }
 
 impl ListKeep {
@@ -51,23 +55,28 @@ impl ListKeep {
         }
     }
 
-    /// Each text is a row of its kind and key, so that `load` never answers `BadRow`.
+    /// Each text is a row of its kind and key, and that of the number is one, so that `load` never answers `BadRow`.
     #[tactic(auto, using(crate::proofs::KeptRows::rows_are))]
     pub fn has_rows(&self)
-        ensures { IsSome (rows_of self.now) }
+        ensures rows { IsSome (rows_of self.now) }
+        ensures line { IsSome (line_of self.now) }
     {
         let _stored = &self.stored;
     }
 }
 
-fn rows_of(alloc: Global, stored: &Table<Place, StoredRow>) -> Result<Vec<Row>, StoreFault>
-    ensures rows { IfOk result (λ v. rows_of (kept stored.now) ≡ Some v.items) }
-    ensures bad { IfErr result (λ e. e ≡ BadRow → rows_of (kept stored.now) ≡ None) }
+/// The rows that are listed, but that at the place of the number.
+fn listed_rows(alloc: Global, stored: &Table<Place, StoredRow>) -> Result<Vec<Row>, StoreFault>
+    ensures rows { IfOk result (λ v. rows_after [] (others (entries (kept stored.now))) ≡ Some v.items) }
+    ensures bad { IfErr result (λ e. e ≡ BadRow → rows_after [] (others (entries (kept stored.now))) ≡ None) }
     ensures fault { IfErr result IsListFault }
 {
     let mut scratch = Scratch::new(alloc);
     let mut rows = Vec::new(alloc);
     for (place, kept) in stored.iter() {
+        if is_line_place(place.0.as_str(), place.1.as_str()) {
+            continue;
+        }
         let text = kept.text(alloc)?;
         let row = row_of(
             alloc,
@@ -79,6 +88,39 @@ fn rows_of(alloc: Global, stored: &Table<Place, StoredRow>) -> Result<Vec<Row>, 
         rows.push(row)?;
     }
     Ok(rows)
+}
+
+fn rows_of(alloc: Global, stored: &Table<Place, StoredRow>) -> Result<Vec<Row>, StoreFault>
+    ensures rows { IfOk result (λ v. rows_of (kept stored.now) ≡ Some v.items) }
+    ensures bad { IfErr result (λ e. e ≡ BadRow → rows_of (kept stored.now) ≡ None) }
+    ensures fault { IfErr result IsListFault }
+{
+    listed_rows(alloc, stored)
+}
+
+/// The number of the last line that took hold.
+fn line_of(alloc: Global, stored: &Table<Place, StoredRow>) -> Result<Whole, StoreFault>
+    ensures { AnswersNumber result (line_of (kept stored.now)) }
+{
+    let Some(number) = stored.get(line_place()) else {
+        return Ok(first_number());
+    };
+    let text = number.text(alloc)?;
+    number_of_text(alloc, &mut Scratch::new(alloc), text.as_bytes())
+}
+
+/// All that is kept.
+#[tactic(auto, using(crate::proofs::Numbered::kept_least))]
+fn load(alloc: Global, stored: &Table<Place, StoredRow>) -> Result<Kept, StoreFault>
+    ensures rows { IfOk result (λ k. rows_of (kept stored.now) ≡ Some k.rows.items) }
+    ensures first { IfOk result (λ k. 1 ≤ k.line) }
+    ensures line { IfOk result (λ k. line_of (kept stored.now) ≡ Some k.line) }
+    ensures bad { IfErr result (λ e. e ≡ BadRow → (rows_of (kept stored.now) ≡ None) ⊎ (line_of (kept stored.now) ≡ None)) }
+    ensures fault { IfErr result IsListFault }
+{
+    let line = line_of(alloc, stored)?;
+    let rows = rows_of(alloc, stored)?;
+    Ok(Kept { rows, line })
 }
 
 /// Makes the one change of a commit, which needs no room ahead.
@@ -101,36 +143,42 @@ fn change_one(
     }
 }
 
-/// Makes changes, which may be of one place again and again: room first, for all of them.
+/// Makes changes, which may be of one place again and again, and keeps the number of their line: room first, for all
+/// of them.
 fn change_several(
     alloc: Global,
     stored: &mut Table<Place, StoredRow>,
     changes: &[Change],
+    line: Option<LineNumber>,
 ) -> Result<(), AllocError>
-    ensures all { OnOk result (kept stored.new ≡ changed_all (kept stored.old) changes.now) }
+    ensures all { OnOk result (kept stored.new ≡ marked line (changed_all (kept stored.old) changes.now)) }
     ensures none { OnErr result (kept stored.new ≡ kept stored.old) }
     ensures again { OnOk result (All IsReadAgain changes.now) }
+    ensures fits { OnOk result (IfSome line IsLineNumber) }
 {
-    let placed = placed_all(alloc, changes)?;
+    let mut placed = placed_all(alloc, changes)?;
+    place_number(line, &mut placed)?;
     let cleared = reserve_all(alloc, stored, placed.as_slice())?;
     put_all(stored, placed);
     release_all(stored, cleared.as_slice());
     Ok(())
 }
 
-/// Makes changes, all of them or none.
+/// Makes changes and keeps the number of their line, all of it or nothing.
 fn change_all(
     alloc: Global,
     stored: &mut Table<Place, StoredRow>,
     changes: &[Change],
+    line: Option<LineNumber>,
 ) -> Result<(), AllocError>
-    ensures all { OnOk result (kept stored.new ≡ changed_all (kept stored.old) changes.now) }
+    ensures all { OnOk result (kept stored.new ≡ marked line (changed_all (kept stored.old) changes.now)) }
     ensures none { OnErr result (kept stored.new ≡ kept stored.old) }
     ensures again { OnOk result (All IsReadAgain changes.now) }
+    ensures fits { OnOk result (IfSome line IsLineNumber) }
 {
-    match changes {
-        [change] => change_one(alloc, stored, change),
-        _ => change_several(alloc, stored, changes),
+    match (changes, line) {
+        ([change], None) => change_one(alloc, stored, change),
+        _ => change_several(alloc, stored, changes, line),
     }
 }
 
@@ -146,12 +194,12 @@ impl Keep for ListKeep {
 
     ghost may_leave = { λ k c. c ≡ k };
 
-    fn load(&mut self) -> Result<Vec<Row>, StoreFault> {
-        rows_of(self.alloc, &self.stored)
+    fn load(&mut self) -> Result<Kept, StoreFault> {
+        load(self.alloc, &self.stored)
     }
 
-    fn commit(&mut self, changes: &[Change]) -> Result<(), StoreFault> {
-        match change_all(self.alloc, &mut self.stored, changes) {
+    fn commit(&mut self, changes: &[Change], line: Option<LineNumber>) -> Result<(), StoreFault> {
+        match change_all(self.alloc, &mut self.stored, changes, line) {
             Ok(()) => Ok(()),
             Err(_) => Err(StoreFault::Memory),
         }

@@ -12,9 +12,10 @@ ghost use Rattle.row_table.specs.Opening.{ShowsTheSame};
 ghost use Rattle.node_store.specs.Contents.{is_row};
 ghost use Rattle.node_store.specs.Faults.{IsListFault};
 ghost use Rattle.node_store.specs.Moved.{HasBadText, IsMovedTo, is_cdr};
-ghost use Rattle.node_store.specs.Moving.{HasBadEntry, IsMovable, edits_of_read, text_edits};
+ghost use Rattle.node_store.specs.Moving.{HasBadEntry, IsBadEntry, IsMovable, MayMove, edits_of_read, text_edits};
 
 use crate::fault::StoreFault;
+use crate::line_number::is_line_place;
 use crate::stored::row_of_1;
 use crate::table_keep::fault_of;
 use ocpi_json::{Scratch, write_row};
@@ -55,8 +56,8 @@ fn add_edit(
     Ok(())
 }
 
-/// Reads one text, and adds the edit that it takes, if any.
-fn add_edit_of(
+/// Reads the text of a row, and adds the edit that it takes, if any.
+fn add_edit_of_row(
     alloc: Global,
     scratch: &mut Scratch,
     text: &TextRow,
@@ -78,10 +79,29 @@ fn add_edit_of(
     Ok(())
 }
 
+/// Adds the edit that a text takes, if any. What stands at the place of the number is no row, and is passed over.
+fn add_edit_of(
+    alloc: Global,
+    scratch: &mut Scratch,
+    text: &TextRow,
+    edits: &mut Vec<TextEdit>,
+) -> Result<(), StoreFault>
+    ensures edits { OnOk result (edits.new.items ≡ edits.old.items ++ text_edits text.now) }
+    ensures movable { OnOk result (MayMove text.now) }
+    ensures bad { IfErr result (λ e. e ≡ StoreFault.BadRow → IsBadEntry text.now) }
+    ensures fault { IfErr result IsListFault }
+{
+    if is_line_place(text.kind(), text.name()) {
+        Ok(())
+    } else {
+        add_edit_of_row(alloc, scratch, text, edits)
+    }
+}
+
 /// The edits that texts of layout 1 take: a charge detail record is written anew, and all others stay.
 fn edits_of(alloc: Global, texts: &[TextRow]) -> Result<Vec<TextEdit>, StoreFault>
     ensures edits { IfOk result (λ v. v.items ≡ flat_map text_edits texts.now) }
-    ensures movable { IfOk result (λ v. All IsMovable texts.now) }
+    ensures movable { IfOk result (λ v. All MayMove texts.now) }
     ensures bad { IfErr result (λ e. e ≡ StoreFault.BadRow → HasBadEntry texts.now) }
     ensures fault { IfErr result IsListFault }
 {

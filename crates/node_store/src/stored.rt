@@ -6,10 +6,11 @@ ghost use Rattle.ocpi_json.specs.RowForms.{row_in, row_in_1, row_text};
 ghost use Rattle.ocpi_json.specs.RowKeys.{KeyFits};
 ghost use Rattle.ocpi_types.specs.Rows.{key_of};
 ghost use Rattle.ocpi_types.specs.declared.rows.Row.{Row};
-ghost use Rattle.node_store.specs.Contents.{AnswersRow, IsReadAgain, place_of};
+ghost use Rattle.node_store.specs.Contents.{AnswersRow, IsLineNumber, IsReadAgain, line_place, line_text, place_of};
 ghost use Rattle.node_store.specs.Placing.{placed_of};
 
 use crate::fault::StoreFault;
+use crate::line_number::{LINE_NAME, LineNumber, line_row};
 use ocpi_json::{JsonFault, RowKind, Scratch, read_row, read_row_1, write_key, write_row};
 use ocpi_text::CiText;
 use ocpi_types::{Change, Row, RowKey, Word};
@@ -49,6 +50,16 @@ impl StoredRow {
     {
         Ok(StoredRow { row: row.copy()? })
     }
+
+    /// The number of a line, to be kept as the row of a counter, whose text it has.
+    pub(crate) fn of_number(number: LineNumber) -> StoredRow
+        ensures text { result ≡ line_text number }
+        ensures fits { IsLineNumber number }
+    {
+        StoredRow {
+            row: line_row(number),
+        }
+    }
 }
 
 /// A place with the row that is to stand there, or with none where none is.
@@ -72,6 +83,20 @@ fn place_of(alloc: Global, key: &RowKey) -> Result<Place, AllocError>
         unreachable!()
     };
     Ok((kind, name))
+}
+
+/// Where the number of the last line that took hold is kept.
+#[tactic(auto, using(crate::proofs::Places::count_fits, crate::proofs::Places::line_fits))]
+pub(crate) fn line_place() -> Place
+    ensures { result ≡ line_place }
+{
+    let Ok(kind) = CiText::new(RowKind::Count.word()) else {
+        unreachable!()
+    };
+    let Ok(name) = CiText::new(LINE_NAME) else {
+        unreachable!()
+    };
+    (kind, name)
 }
 
 /// The place that a change is of, and the row that it puts there.

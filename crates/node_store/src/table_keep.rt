@@ -3,6 +3,7 @@
 ghost use Rattle.std.specs.Prelude.{
   ◌≡◌,
   ◌≢◌,
+  ◌≤◌,
   ◌⊎◌,
   All,
   List,
@@ -17,17 +18,22 @@ ghost use Rattle.std.specs.Prelude.{
   None,
   Some,
 };
-ghost use Rattle.node_store.specs.Contents.{Content, IsReadAgain, changed_all, rows_after, rows_of};
+ghost use Rattle.node_store.specs.Contents.{AnswersNumber, Content, IsReadAgain, changed_all, line_of, line_place, marked, number_kept, rows_after, rows_of};
 ghost use Rattle.node_store.specs.Faults.{IsListFault, IsCommitFault, counted, counted_fault, fault_for};
+ghost use Rattle.node_store.specs.Numbers.{others};
 ghost use Rattle.node_store.specs.declared.fault.StoreFault.TheVariants.{BadRow, OldLayout};
 ghost use Rattle.node_store.specs.Layout.{KeepsLayout};
 ghost use Rattle.row_table.specs.Kept.{IsClean, MayLeave, texts};
+ghost use Rattle.std.specs.FinMap.{find};
+ghost use Rattle.tables.specs.Keys.{text_pair_cmp};
 
 use crate::editing::edits_of;
 use crate::fault::{Cause, StoreFault};
-use crate::keep::Keep;
+use crate::keep::{Keep, Kept};
+use crate::line_number::{LineNumber, first_number, is_line_place, number_of_text};
 use crate::stored::row_of;
 use ocpi_json::Scratch;
+use ocpi_text::Whole;
 use ocpi_types::{Change, Row};
 use row_table::{Past, TextRow, TextTable};
 use sqlite::{Alter, Error, ErrorCode};
@@ -102,15 +108,18 @@ pub(crate) fn fault_of(error: Error) -> StoreFault
     }
 }
 
-/// The rows of texts with their kinds and names.
+/// The rows of texts with their kinds and names, but that at the place of the number.
 fn rows_of(alloc: Global, texts: &[TextRow]) -> Result<Vec<Row>, StoreFault>
-    ensures rows { IfOk result (λ v. rows_after [] texts.now ≡ Some v.items) }
-    ensures bad { IfErr result (λ e. e ≡ BadRow → rows_after [] texts.now ≡ None) }
+    ensures rows { IfOk result (λ v. rows_after [] (others texts.now) ≡ Some v.items) }
+    ensures bad { IfErr result (λ e. e ≡ BadRow → rows_after [] (others texts.now) ≡ None) }
     ensures fault { IfErr result IsListFault }
 {
     let mut scratch = Scratch::new(alloc);
     let mut rows = Vec::new(alloc);
     for text in texts {
+        if is_line_place(text.kind(), text.name()) {
+            continue;
+        }
         let row = row_of(
             alloc,
             &mut scratch,
@@ -123,9 +132,37 @@ fn rows_of(alloc: Global, texts: &[TextRow]) -> Result<Vec<Row>, StoreFault>
     Ok(rows)
 }
 
-fn load<S: Alter>(alloc: Global, table: &mut TextTable<S>) -> Result<Vec<Row>, StoreFault>
-    ensures rows { IsClean S.Store table.new → IfOk result (λ v. rows_of (texts S.Store table.old) ≡ Some v.items) }
-    ensures bad { IsClean S.Store table.new → IfErr result (λ e. e ≡ BadRow → rows_of (texts S.Store table.old) ≡ None) }
+/// The number of the last line that took hold, of texts with their kinds and names.
+fn line_of(alloc: Global, texts: &[TextRow]) -> Result<Whole, StoreFault>
+    ensures { AnswersNumber result (number_kept (find text_pair_cmp line_place texts.now)) }
+{
+    for text in texts {
+        if is_line_place(text.kind(), text.name()) {
+            return number_of_text(alloc, &mut Scratch::new(alloc), text.text().as_bytes());
+        }
+    }
+    Ok(first_number())
+}
+
+/// What is kept in texts with their kinds and names.
+#[tactic(auto, using(crate::proofs::Numbered::kept_least))]
+fn kept_in(alloc: Global, texts: &[TextRow]) -> Result<Kept, StoreFault>
+    ensures rows { IfOk result (λ k. rows_after [] (others texts.now) ≡ Some k.rows.items) }
+    ensures first { IfOk result (λ k. 1 ≤ k.line) }
+    ensures line { IfOk result (λ k. number_kept (find text_pair_cmp line_place texts.now) ≡ Some k.line) }
+    ensures bad { IfErr result (λ e. e ≡ BadRow → (rows_after [] (others texts.now) ≡ None) ⊎ (number_kept (find text_pair_cmp line_place texts.now) ≡ None)) }
+    ensures fault { IfErr result IsListFault }
+{
+    let line = line_of(alloc, texts)?;
+    let rows = rows_of(alloc, texts)?;
+    Ok(Kept { rows, line })
+}
+
+fn load<S: Alter>(alloc: Global, table: &mut TextTable<S>) -> Result<Kept, StoreFault>
+    ensures rows { IsClean S.Store table.new → IfOk result (λ k. rows_of (texts S.Store table.old) ≡ Some k.rows.items) }
+    ensures first { IfOk result (λ k. 1 ≤ k.line) }
+    ensures line { IsClean S.Store table.new → IfOk result (λ k. line_of (texts S.Store table.old) ≡ Some k.line) }
+    ensures bad { IsClean S.Store table.new → IfErr result (λ e. e ≡ BadRow → (rows_of (texts S.Store table.old) ≡ None) ⊎ (line_of (texts S.Store table.old) ≡ None)) }
     ensures fault { IfErr result (λ e. e ≢ OldLayout) }
     ensures kept { texts S.Store table.new ≡ texts S.Store table.old }
     ensures layout { KeepsLayout S.Store table.old → KeepsLayout S.Store table.new }
@@ -133,7 +170,7 @@ fn load<S: Alter>(alloc: Global, table: &mut TextTable<S>) -> Result<Vec<Row>, S
     ensures stops { IsClean S.Store table.new → (c : Content) → MayLeave S.Store table.new c → MayLeave S.Store table.old c }
 {
     match table.rows() {
-        Ok(texts) => rows_of(alloc, texts.as_slice()),
+        Ok(texts) => kept_in(alloc, texts.as_slice()),
         Err(error) => Err(fault_of(error)),
     }
 }
@@ -142,18 +179,20 @@ fn change<S: Alter>(
     alloc: Global,
     table: &mut TextTable<S>,
     changes: &[Change],
+    line: Option<LineNumber>,
 ) -> Result<(), StoreFault>
-    ensures all { IsClean S.Store table.new → OnOk result (texts S.Store table.new ≡ changed_all (texts S.Store table.old) changes.now) }
+    ensures all { IsClean S.Store table.new → OnOk result (texts S.Store table.new ≡ marked line (changed_all (texts S.Store table.old) changes.now)) }
     ensures none { IsClean S.Store table.new → OnErr result (texts S.Store table.new ≡ texts S.Store table.old) }
     ensures fault { IfErr result IsCommitFault }
     ensures again { OnOk result (All IsReadAgain changes.now) }
     ensures layout { KeepsLayout S.Store table.old → KeepsLayout S.Store table.new }
     ensures honest { IsClean S.Store table.new → IsClean S.Store table.old }
     ensures settled { IsClean S.Store table.new → OnOk result (changes.now ≢ [] → (c : Content) → MayLeave S.Store table.new c → c ≡ texts S.Store table.new) }
+    ensures numbered { IsClean S.Store table.new → OnOk result (line ≢ None → (c : Content) → MayLeave S.Store table.new c → c ≡ texts S.Store table.new) }
     ensures stops { IsClean S.Store table.new → (c : Content) → MayLeave S.Store table.new c
-        → MayLeave S.Store table.old c ⊎ ((c ≡ changed_all (texts S.Store table.old) changes.now) × All IsReadAgain changes.now) }
+        → MayLeave S.Store table.old c ⊎ ((c ≡ marked line (changed_all (texts S.Store table.old) changes.now)) × All IsReadAgain changes.now) }
 {
-    let edits = edits_of(alloc, changes)?;
+    let edits = edits_of(alloc, changes, line)?;
     match table.change(edits.as_slice()) {
         Ok(()) => Ok(()),
         Err(error) => Err(fault_of(error)),
@@ -203,15 +242,15 @@ impl<S: Alter> Keep for TableKeep<S> {
 
     ghost may_leave = { λ k c. MayLeave S.Store k.0 c };
 
-    fn load(&mut self) -> Result<Vec<Row>, StoreFault> {
+    fn load(&mut self) -> Result<Kept, StoreFault> {
         match load(self.alloc, &mut self.table) {
-            Ok(rows) => Ok(rows),
+            Ok(kept) => Ok(kept),
             Err(fault) => Err(self.tell(fault)),
         }
     }
 
-    fn commit(&mut self, changes: &[Change]) -> Result<(), StoreFault> {
-        match change(self.alloc, &mut self.table, changes) {
+    fn commit(&mut self, changes: &[Change], line: Option<LineNumber>) -> Result<(), StoreFault> {
+        match change(self.alloc, &mut self.table, changes, line) {
             Ok(()) => Ok(()),
             Err(fault) => Err(self.tell(fault)),
         }

@@ -1,4 +1,4 @@
-//! The program `node`, joined to the standard input and output, and to the file of its store.
+//! The program `node`, joined to the standard input and output, and to the files of its store and its transcript.
 //!
 //! ```
 //! let status = run_node_word(rt, seed, &words);
@@ -8,6 +8,8 @@
 //!
 //! - What it reads is the standard input, and what it writes goes to the standard output. No clause says so (tested by
 //!   the examples).
+//! - With a transcript, which is opened before anything is read, the run writes to a `TranscriptWriter` of it, which
+//!   tells apart what the standard output gets. No clause says so (tested by the examples, `faults/kill_node.py`).
 //! - The status is that of the run and of the closing of its store. No clause says so: `report_node` and `and_closed`
 //!   of `program_messages` have it, and the calls stand here (tested by the examples, `tools/try_stores`).
 //! - What a line gives is written before the next is carried out. No clause says so (tested by `faults/kill_node.py`).

@@ -5,16 +5,23 @@ ghost use Rattle.node_programs.specs.Stops.{play_status};
 ghost use Rattle.node_runs.specs.Stops.{node_status};
 ghost use Rattle.node_store.specs.declared.fault.StoreFault.{StoreFault as StoreFaultOf};
 
-use crate::refusal::{advice_for, words_for, words_for_node, words_for_reason, words_with_numbers};
+use crate::refusal::{
+    advice_for, words_for, words_for_node, words_for_reason, words_for_unopened,
+    words_for_unwritten, words_with_numbers,
+};
 use command_line::NodeWords;
-use line_runs::Ran;
+use line_runs::{Ran, RunFault};
 use node_programs::{PlayFault, status_after_play};
 use node_runs::{NodeRunFault, NodeStop, status_after_node};
 use node_store::StoreFault;
 use ocpi_json::{RowKind, write_key};
 use ocpi_types::Word as WordOf;
 use std::alloc::Global;
+use std::io::ErrorKind;
 use stored_rows::BadRow;
+
+/// The exit status where the file of a transcript was not opened.
+pub const UNOPENED: u8 = 3;
 
 /// Whether a closing was refused. What it left is let go.
 pub fn let_go<C: Drop>(closed: Result<C, StoreFault>) -> Result<(), StoreFault>
@@ -143,27 +150,66 @@ fn explain(rt: &HostRuntime, place: &str, words: &str) {
     }
 }
 
-/// Says what stopped a run of one node, of a store also which it was and why, then what the closing of its store
-/// refused besides, and answers the exit status.
+/// What is told of a run of one node that ended, besides what stopped it.
+#[derive(Clone, Copy)]
+pub struct Besides {
+    /// What the closing of its store refused, where the run had failed before.
+    pub unclosed: Option<StoreFault>,
+    /// Why its transcript was not written, where that stopped the run.
+    pub unwritten: Option<ErrorKind>,
+}
+
+impl Besides {
+    /// Nothing yet.
+    pub fn new() -> Besides
+        ensures unclosed { result.unclosed ≡ None }
+        ensures unwritten { result.unwritten ≡ None }
+    {
+        Besides {
+            unclosed: None,
+            unwritten: None,
+        }
+    }
+}
+
+/// Says what stopped a run of one node, of a store or a transcript also which it was and why, then what the closing of
+/// its store refused besides, and answers the exit status.
 pub fn report_node(
     rt: &HostRuntime,
     ran: Result<Ran, NodeRunFault>,
-    besides: Option<StoreFault>,
+    besides: Besides,
     words: &NodeWords<'_>,
 ) -> u8
     ensures { result ≡ node_status ran }
 {
-    explain_run(rt, &ran, words);
-    tell_besides(rt, besides, words.store.unwrap_or(""));
+    explain_run(rt, &ran, besides.unwritten, words);
+    tell_besides(rt, besides.unclosed, words.store.unwrap_or(""));
     status_after_node(ran)
 }
 
+/// Says why the transcript at that place was not opened, and answers the exit status.
+pub fn report_unopened(rt: &HostRuntime, place: &str, kind: ErrorKind) -> u8
+    ensures { result ≡ UNOPENED }
+{
+    let _ = eprintln!(rt; "transcript: 1 Refused");
+    explain(rt, place, words_for_unopened(kind));
+    UNOPENED
+}
+
 /// Says what stopped a run of one node, if anything did.
-fn explain_run(rt: &HostRuntime, ran: &Result<Ran, NodeRunFault>, words: &NodeWords<'_>) {
+fn explain_run(
+    rt: &HostRuntime,
+    ran: &Result<Ran, NodeRunFault>,
+    unwritten: Option<ErrorKind>,
+    words: &NodeWords<'_>,
+) {
     match ran {
         Ok(_) => {}
         Err(NodeRunFault::Stop(NodeStop::UnknownParty)) => {
             let _ = eprintln!(rt; "node: no {} in the setup", words.party);
+        }
+        Err(NodeRunFault::Run(RunFault::WriteFailed)) => {
+            explain_write(rt, unwritten, words.transcript.unwrap_or(""));
         }
         Err(fault) => {
             let _ = eprintln!(rt; "{fault}");
@@ -172,10 +218,23 @@ fn explain_run(rt: &HostRuntime, ran: &Result<Ran, NodeRunFault>, words: &NodeWo
     }
 }
 
+/// Says that a run of one node could not write, and where it was to its transcript, at that place, why.
+fn explain_write(rt: &HostRuntime, unwritten: Option<ErrorKind>, place: &str) {
+    match unwritten {
+        Some(kind) => {
+            let _ = eprintln!(rt; "transcript: write failed");
+            explain(rt, place, words_for_unwritten(kind));
+        }
+        None => {
+            let _ = eprintln!(rt; "{}", RunFault::WriteFailed);
+        }
+    }
+}
+
 /// Says why the store at that place stopped a run of one node, if it did.
 fn explain_fault(rt: &HostRuntime, fault: &NodeRunFault, place: &str) {
     match fault {
-        NodeRunFault::Run(_) | NodeRunFault::Stop(NodeStop::UnknownParty) => {}
+        NodeRunFault::Run(_) | NodeRunFault::Stop(NodeStop::UnknownParty | NodeStop::Memory) => {}
         NodeRunFault::Stop(NodeStop::Store(refusal)) => {
             explain(rt, place, words_for_node(*refusal));
         }

@@ -9,6 +9,7 @@
 //! # Promises
 //!
 //! - The program ends with the status of its run. By `report`, `report_node`.
+//! - It is 3 where a transcript was not opened. By `report_unopened`.
 //! - Where a store could not be closed and nothing else had stopped the run, that did. Where something had, it is
 //!   handed on to be told besides. By `and_closed`: `refused`; `besides`, `once`, `nothing`.
 //! - Without `--strict` explanations change no status, and with it none but 0. By `status_with`: `lax`, `other`.
@@ -25,7 +26,10 @@ mod refusal;
 mod streams;
 mod watching;
 
-pub use endings::{StoppedByStore, Told, and_closed, let_go, report, report_node};
+pub use endings::{
+    Besides, StoppedByStore, Told, UNOPENED, and_closed, let_go, report, report_node,
+    report_unopened,
+};
 pub use refusal::words_for_unread;
 pub use streams::{BUFFER_BYTES, tell_wait};
 pub use watching::{Lines, lines_of, status_with, watch_in};

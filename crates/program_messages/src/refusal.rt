@@ -178,11 +178,36 @@ pub(crate) fn advice_for(reason: BadReason) -> &'static str {
 pub fn words_for_unread(kind: ErrorKind) -> &'static str {
     match kind {
         ErrorKind::NotFound | ErrorKind::NotADirectory => {
-            "there is no such file: name a transcript, as a run of `node --echo` printed it"
+            "there is no such file: name a transcript, as a run of `node --transcript` wrote it"
         }
         ErrorKind::IsADirectory =>
-            "it is a folder: name a transcript, as a run of `node --echo` printed it",
+            "it is a folder: name a transcript, as a run of `node --transcript` wrote it",
         ErrorKind::PermissionDenied => "no permission: the file must be readable",
         _ => "it cannot be read: the system's log says more",
+    }
+}
+
+/// The words for why the file of a transcript was not opened to write to it. They follow its name.
+pub(crate) fn words_for_unopened(kind: ErrorKind) -> &'static str {
+    match kind {
+        ErrorKind::NotFound | ErrorKind::NotADirectory => {
+            "its folder does not exist: create it first"
+        }
+        ErrorKind::IsADirectory => "it is a folder: name a file",
+        ErrorKind::AlreadyExists => "it is the store: name a file of its own",
+        ErrorKind::PermissionDenied | ErrorKind::ReadOnlyFilesystem => {
+            "no permission: the file must be writable, and its folder readable and writable"
+        }
+        ErrorKind::StorageFull | ErrorKind::QuotaExceeded => "the disk is full: make room on it",
+        ErrorKind::OutOfMemory => "memory ran out: end other programs first",
+        _ => "it cannot be opened: the system's log says more",
+    }
+}
+
+/// The words for why the file of a transcript was not written, or not synced. They follow its name.
+pub(crate) fn words_for_unwritten(kind: ErrorKind) -> &'static str {
+    match kind {
+        ErrorKind::StorageFull | ErrorKind::QuotaExceeded => "the disk is full: make room on it",
+        _ => "it cannot be written and synced: name a plain file, and look into the system's log",
     }
 }

@@ -58,7 +58,7 @@ one_input (Provides s) k (OfProvider x) (OfOperator y) h g = absurd g
 one_input (Provides s) k (OfOperator x) y h g = absurd h
 
 -- an event whose storing was refused brings nothing
-refused_brings : (s : NodeState) (x : Input) → Brings s event.Refused x → ⊥
+pub refused_brings : (s : NodeState) (x : Input) → Brings s event.Refused x → ⊥
 refused_brings (Operates s) (OfOperator x) h = h
 refused_brings (Operates s) (OfProvider x) h = h
 refused_brings (Provides s) (OfOperator x) h = h
@@ -68,7 +68,7 @@ refused_brings (Provides s) (OfProvider x) h = h
 
 module _ (k : NodeEventKind) where
   -- what a node does by an event is one thing
-  one_step : (s : NodeState) → IsSound s → IsApart s → (m n : NodeState) (x y : NodeEvent) → Brings s k (input_of x) → Brings s k (input_of y) → NodeStep s x m → NodeStep s y n →
+  pub one_step : (s : NodeState) → IsSound s → IsApart s → (m n : NodeState) (x y : NodeEvent) → Brings s k (input_of x) → Brings s k (input_of y) → NodeStep s x m → NodeStep s y n →
       (x ≡ y) × (m ≡ n)
   one_step (Operates s) sound apart m n (AtOperator x) (AtOperator y) h g step also =
       let one = operators_have_one_step s m n x y sound apart (operator_gets k s x.input y.input h g) step also in
@@ -85,7 +85,7 @@ has_locations : (s : NodeState) → IsApart s → HasLocations s
 has_locations (Operates s) apart = apart.places.locations
 has_locations (Provides s) apart = tt
 
-one_truth : (a b : Bool) → (IsTrue a → IsTrue b) → (IsTrue b → IsTrue a) → a ≡ b
+pub one_truth : (a b : Bool) → (IsTrue a → IsTrue b) → (IsTrue b → IsTrue a) → a ≡ b
 one_truth true true h g = refl
 one_truth true false h g = absurd (let bad : false ≡ true = h refl in cc)
 one_truth false true h g = absurd (let bad : false ≡ true = g refl in cc)

@@ -1,4 +1,2 @@
 pub mod Answering
-pub mod Replaying
-pub mod RunsAlike
 pub mod ReadPlaces

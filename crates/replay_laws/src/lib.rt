@@ -5,8 +5,7 @@
 //! - By the rules a node has at most one answer to an event: its packets, whether rows changed and the node behind it;
 //!   that the event is none of its role; or why it refuses it. Excepted is want of memory. By law
 //!   `nodes_have_one_answer` (`specs/Answers`).
-//! - So two runs over the same events, from the same entries on, are the same: packets, refusals, rows. By law
-//!   `runs_are_one`.
+//! - The ids of the places of each node differ in each setup that a line spells. By law `setups_have_places`.
 #![tactic(auto)]
 
 pub mod laws;

@@ -2,4 +2,4 @@ mod Ascii
 mod Printed
 mod RecordTexts
 mod BodyTexts
-mod Again
+pub mod Again

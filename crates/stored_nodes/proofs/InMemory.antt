@@ -2,7 +2,7 @@
 use Rattle.std.proofs.Common.{◌≡◌, ◌≢◌, ◌∙◌, ◌++◌, ◌↔◌, List, [], Bool, IsTrue, inl, sym, ap, subst, Result, Ok, Err, IfOk, IfErr, OnOk, OnErr}
 use Rattle.ocpi_types.specs.declared.node_events.NodeEventKind.{NodeEventKind}
 use Rattle.ocpi_types.specs.declared.rows.Change.{Change}
-use Rattle.node_core.specs.Works.{IsWork, changes_by, node_after}
+use Rattle.node_core.specs.Works.{IsWork, node_after}
 use Rattle.node_core.specs.declared.input.NodeInput.{NodeInput}
 use Rattle.node_core.specs.declared.work.NodeWork.{NodeWork}
 use Rattle.node_core.proofs.Doing.{does}

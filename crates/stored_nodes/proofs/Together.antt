@@ -1,6 +1,6 @@
 -- Events whose changes are committed together: what holds of the node meanwhile and once they are, and what a refused
 -- commit leaves.
-use Rattle.std.proofs.Common.{◌≡◌, ◌∙◌, ◌++◌, ℕ, List, [], ◌∷◌, inl, inr, refl, sym, ap, subst, append-nil}
+use Rattle.std.proofs.Common.{◌≡◌, ◌∙◌, ◌++◌, ℕ, List, [], ◌∷◌, Option, inl, inr, refl, sym, ap, subst, append-nil}
 use Rattle.std.specs.List.{AllByRecursion}
 use Rattle.std.specs.Prelude.{All}
 use Rattle.std.proofs.lemmas.List.Concat.{flat_map-append}
@@ -14,11 +14,11 @@ use Rattle.node_rows.specs.Laws.{AreClasses, ChangesAreHeld, RestartsAreHeld}
 use Rattle.stored_laws.specs.Nodes.{CanStartAgain, NodesCanStartAgain}
 use Rattle.world_steps.specs.Steps.{NodeEvent, NodeStep, changes_of}
 use Rattle.world_steps.specs.World.{NodeState}
-use Rattle.stored_nodes.specs.Keepers.{Commits, Declines, Keeper, Nothing, Taken}
+use Rattle.stored_nodes.specs.Keepers.{Commits, Keeper, Nothing, Taken}
 use Rattle.stored_nodes.specs.Stored.{IsStored, Stored}
 use Rattle.stored_nodes.specs.Transactions as transactions
-use Rattle.stored_nodes.specs.Transactions.{IsAllOrNothing, IsPending, KeepsAllOrNothing, LeavesAllOrNothing, Pending, changes_of_each}
-use Rattle.stored_nodes.proofs.Staying.{taken, unasked}
+use Rattle.stored_nodes.specs.Transactions.{IsAllOrNothing, IsPending, LeavesAllOrNothing, Pending, changes_of_each}
+use Rattle.stored_nodes.proofs.Staying.{marked_holds, taken, unasked}
 
 -- ---- lists in two parts
 
@@ -45,11 +45,11 @@ one_more events x = flat_map-append changes_of events (x ∷ []) ∙ ap (λ (l :
 
 -- ---- what events make of what is kept
 
-starts_by_events : NodesCanStartAgain → (n m : NodeState) (events : List NodeEvent) → Run NodeStep n events m → CanStartAgain n → CanStartAgain m
+pub starts_by_events : NodesCanStartAgain → (n m : NodeState) (events : List NodeEvent) → Run NodeStep n events m → CanStartAgain n → CanStartAgain m
 starts_by_events start n m events run can = kept_runs NodeStep CanStartAgain (λ s t x step h. start s t x h step) n m events run can
 
 -- where a content holds the rows of a node, the changes of events in turn make it one that holds those of the node after them
-held_by_events : ChangesAreHeld → NodesCanStartAgain → (c : Content) (n m : NodeState) (events : List NodeEvent) → CanStartAgain n → HoldsRows c n → Run NodeStep n events m →
+pub held_by_events : ChangesAreHeld → NodesCanStartAgain → (c : Content) (n m : NodeState) (events : List NodeEvent) → CanStartAgain n → HoldsRows c n → Run NodeStep n events m →
     All IsReadAgain (changes_of_each events) → HoldsRows (changed_all c (changes_of_each events)) m
 held_by_events held start c n m [] can holds run again = subst (HoldsRows c) (sym run) holds
 held_by_events held start c n m (x ∷ events) can holds (u, step, rest) again =
@@ -58,7 +58,7 @@ held_by_events held start c n m (x ∷ events) can holds (u, step, rest) again =
     (held_by_events held start (changed_all c (changes_of x)) u m events (start n u x can step) (held c n u x can.sound holds step parts.0) rest parts.1)
 
 -- events without changes leave a node that stores alike
-alike_by_events : RestartsAreHeld → AreClasses → (n m : NodeState) (events : List NodeEvent) → Run NodeStep n events m → changes_of_each events ≡ [] → StoresAlike n m
+pub alike_by_events : RestartsAreHeld → AreClasses → (n m : NodeState) (events : List NodeEvent) → Run NodeStep n events m → changes_of_each events ≡ [] → StoresAlike n m
 alike_by_events alike classes n m [] run none = subst (StoresAlike n) (sym run) (classes.same n)
 alike_by_events alike classes n m (x ∷ events) (u, step, rest) none =
     let parts = none_of (changes_of x) (changes_of_each events) none in
@@ -83,21 +83,21 @@ module _ {K : Type 0} (keeper : Keeper K) where
   module _ (held : ChangesAreHeld) (start : NodesCanStartAgain) where
     -- ---- once they are committed
 
-    pub committed : RestartsAreHeld → AreClasses → (p : Pending K) (k : K) → IsPending keeper p → Commits keeper p.changes p.keep k → IsStored keeper (record { state = p.state; keep = k })
-    committed alike classes p k h (Nothing none same) =
+    pub committed : RestartsAreHeld → AreClasses → (line : Option ℕ) (p : Pending K) (k : K) → IsPending keeper p → Commits keeper line p.changes p.keep k → IsStored keeper (record { state = p.state; keep = k })
+    committed alike classes line p k h (Nothing none same) =
         unasked keeper held start alike classes (record { state = h.first; keep = p.keep }) (record { state = p.state; keep = k }) h.stored
         (starts_by_events start h.first p.state h.events h.did h.stored.starts) (alike_by_events alike classes h.first p.state h.events h.did (sym h.gathers ∙ none)) same
-    committed alike classes p k h (Taken some takes) =
-        taken keeper held start alike classes (record { state = h.first; keep = p.keep }) (record { state = p.state; keep = k }) p.changes
+    committed alike classes line p k h (Taken some takes) =
+        taken keeper held start alike classes line (record { state = h.first; keep = p.keep }) (record { state = p.state; keep = k }) p.changes
         (starts_by_events start h.first p.state h.events h.did h.stored.starts)
         (λ honest. subst (λ (l : List Change). HoldsRows (changed_all (keeper.content p.keep) l) p.state) (sym h.gathers)
         (held_by_events held start (keeper.content p.keep) h.first p.state h.events h.stored.starts (h.stored.holds (takes.earlier honest)) h.did (subst (All IsReadAgain) h.gathers takes.again)))
-        takes
+        h.stored takes
 
     -- ---- what a refused commit leaves
 
     pub all_or_nothing : LeavesAllOrNothing keeper
-    all_or_nothing old events after rise k h run d = record {
+    all_or_nothing line old events after rise k h run d = record {
       starts = h.starts;
       holds = λ honest. subst (λ (c : Content). HoldsRows c old.state) (sym (d.same honest)) (h.holds (d.earlier honest));
       stops = λ honest c may.
@@ -107,7 +107,9 @@ module _ {K : Type 0} (keeper : Keeper K) where
               | inr more ↦ transactions.IsAllOrNothing.Earlier more
             ]
             | inr made ↦ transactions.IsAllOrNothing.All
-                (subst (λ (b : Content). HoldsRows b after) (sym made.0) (held_by_events held start (keeper.content old.keep) old.state after events h.starts (h.holds (d.earlier honest)) run made.1))
+                (subst (λ (b : Content). HoldsRows b after) (sym made.0)
+                (marked_holds line (changed_all (keeper.content old.keep) (changes_of_each events)) after
+                (held_by_events held start (keeper.content old.keep) old.state after events h.starts (h.holds (d.earlier honest)) run made.1)))
                 (starts_by_events start old.state after events run h.starts)
           ];
     }

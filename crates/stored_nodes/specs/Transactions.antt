@@ -1,6 +1,6 @@
 -- Several events that a node does in memory, and whose changes are committed together: what holds meanwhile, what each
 -- event makes of it, and what is left where the commit is refused.
-use Rattle.std.specs.Prelude.{◌≡◌, ◌≢◌, ◌⊎◌, ◌↔◌, ◌++◌, ℕ, List, [], Bool, false, IsTrue}
+use Rattle.std.specs.Prelude.{◌≡◌, ◌≢◌, ◌⊎◌, ◌↔◌, ◌++◌, ℕ, List, [], Bool, false, Option, IsTrue}
 use Rattle.std.specs.List.{flat_map}
 use Rattle.ocpi_types.specs.declared.node_events.NodeEventKind.{NodeEventKind}
 use Rattle.ocpi_types.specs.declared.node_events.NodeEventKind.TheVariants as event
@@ -112,5 +112,5 @@ pub record KeepsAllOrNothing {K : Type 0} (keeper : Keeper K) (before after : No
 -- so it is of each node whose rows were kept, and of any events, however many of them changed rows
 abbrev pub LeavesAllOrNothing : {K : Type 0} → Keeper K → Type 0
 LeavesAllOrNothing {K} keeper =
-    (old : Stored K) (events : List NodeEvent) (after : NodeState) (rise : ℕ → ℕ) (k : K) → IsStored keeper old → Run NodeStep old.state events after →
-    Declines keeper (changes_of_each events) rise old.keep k → KeepsAllOrNothing keeper old.state after k
+    (line : Option ℕ) (old : Stored K) (events : List NodeEvent) (after : NodeState) (rise : ℕ → ℕ) (k : K) → IsStored keeper old → Run NodeStep old.state events after →
+    Declines keeper line (changes_of_each events) rise old.keep k → KeepsAllOrNothing keeper old.state after k

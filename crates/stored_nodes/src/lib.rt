@@ -4,7 +4,7 @@
 //! ```
 //! let reopened = StoredNode::reopen(alloc, seed, setup.as_slice(), member, keep)?;
 //! let mut node = reopened.node;
-//! let applied = node.apply(&event.kind)?;
+//! let applied = node.apply(&event.kind, LineNumber::new(line))?;
 //! let keep = node.into_keep();
 //! ```
 //!
@@ -15,7 +15,7 @@
 //! let mut transaction = node.begin();
 //! let first = transaction.apply(&events[0].kind)?;
 //! let second = transaction.apply(&events[1].kind)?;
-//! match transaction.commit() {
+//! match transaction.commit(LineNumber::new(line)) {
 //!     Ok(node) => {}
 //!     Err(uncommitted) => {}
 //! }

@@ -2,7 +2,7 @@
 
 ghost use Rattle.std.specs.Prelude.{◌≡◌, ◌↔◌, ◌≢◌, List, ℕ, Contains, IfErr, IfOk, IsTrue, OnErr, OnOk, []};
 ghost use Rattle.std.specs.FinMap.{empty};
-ghost use Rattle.stored_nodes.specs.Keepers.{Commits, Declines, IsSettled, KeepsOn, keeper_of};
+ghost use Rattle.stored_nodes.specs.Keepers.{Commits, Declines, IsLine, IsSettled, KeepsOn, keeper_of};
 ghost use Rattle.stored_nodes.specs.Stored.{
   Applies,
   Fails,
@@ -30,7 +30,8 @@ use crate::transaction::Transaction;
 use node_core::{Node, NodeInput, NodePlan, NodeWork};
 use node_inputs::input_of;
 use node_rows::laws::{alike_are_classes, changes_are_held, restarts_are_held};
-use node_store::{Keep, StoreFault};
+use node_store::{Keep, Kept, LineNumber, StoreFault};
+use ocpi_text::Whole;
 use ocpi_types::{Change, Node as SetupNode, NodeEventKind, Packet};
 use std::alloc::{AllocError, Global};
 use std::marker::Model;
@@ -99,6 +100,8 @@ pub struct Reopened<K: Keep> {
     pub node: StoredNode<K>,
     /// The number of rows that were kept.
     pub rows: usize,
+    /// The number of the last line that took hold, 1 where none did.
+    pub line: Whole,
 }
 
 /// A keeper of which no node was made, and why.
@@ -108,29 +111,49 @@ pub struct Unopened<K> {
     pub fault: ReopenFault,
 }
 
-/// Commits changes, where there are any, and says whether there are. A refusal changes nothing.
-pub(crate) fn commit<K: Keep>(keep: &mut K, changes: &[Change]) -> Result<bool, StoreFault>
+/// What holds of the number of a line, which its type keeps. It does nothing.
+fn is_line(line: &Option<LineNumber>)
+    ensures { IsLine line.now }
+{
+    if let Some(number) = line {
+        let _number = number.value();
+    }
+}
+
+/// Commits changes with the number of their line, where there are changes, and says whether there are. A refusal
+/// changes nothing.
+pub(crate) fn commit<K: Keep>(
+    keep: &mut K,
+    changes: &[Change],
+    line: Option<LineNumber>,
+) -> Result<bool, StoreFault>
     ensures ok { IfOk result (λ changed. (IsTrue changed ↔ (changes.now ≢ []))
-        × Commits (keeper_of K.content K.is_honest K.refusals K.may_leave) changes.now keep.old keep.new) }
+        × Commits (keeper_of K.content K.is_honest K.refusals K.may_leave) line changes.now keep.old keep.new) }
     ensures err { IfErr result (λ f. IsCommitFault f × (changes.now ≢ [])
-        × Declines (keeper_of K.content K.is_honest K.refusals K.may_leave) changes.now (counted_fault f) keep.old keep.new) }
+        × Declines (keeper_of K.content K.is_honest K.refusals K.may_leave) line changes.now (counted_fault f) keep.old keep.new) }
 {
     if changes.is_empty() {
         return Ok(false);
     }
-    match keep.commit(changes) {
+    is_line(&line);
+    match keep.commit(changes, line) {
         Ok(()) => Ok(true),
         Err(fault) => Err(fault),
     }
 }
 
 /// The node does its work, once its changes are committed.
-fn carry_out<K: Keep>(node: &mut Node, keep: &mut K, work: NodeWork) -> Result<Applied, ApplyFault>
+fn carry_out<K: Keep>(
+    node: &mut Node,
+    keep: &mut K,
+    work: NodeWork,
+    line: Option<LineNumber>,
+) -> Result<Applied, ApplyFault>
     requires { MayDo (state_of node.old) work }
     ensures state { OnOk result (state_of node.new ≡ node_after work (state_of node.old)) }
-    ensures ok { IfOk result (λ a. IsCarriedOut (keeper_of K.content K.is_honest K.refusals K.may_leave) work keep.old a keep.new) }
+    ensures ok { IfOk result (λ a. IsCarriedOut (keeper_of K.content K.is_honest K.refusals K.may_leave) line work keep.old a keep.new) }
     ensures same { OnErr result (state_of node.new ≡ state_of node.old) }
-    ensures err { IfErr result (λ f. IsNotCarriedOut (keeper_of K.content K.is_honest K.refusals K.may_leave) work keep.old f keep.new) }
+    ensures err { IfErr result (λ f. IsNotCarriedOut (keeper_of K.content K.is_honest K.refusals K.may_leave) line work keep.old f keep.new) }
 {
     match node.make_room(&work) {
         Ok(()) => {}
@@ -139,7 +162,7 @@ fn carry_out<K: Keep>(node: &mut Node, keep: &mut K, work: NodeWork) -> Result<A
             return Err(ApplyFault::Memory);
         }
     }
-    match commit(keep, work.changes()) {
+    match commit(keep, work.changes(), line) {
         Ok(changed) => {
             let packets = node.apply(work);
             Ok(Applied::Stepped { packets, changed })
@@ -208,7 +231,7 @@ impl<K: Keep> StoredNode<K> {
         requires setup { IsSetup nodes.now }
         requires member { Contains nodes.now member.now }
         requires settled { IsSettled (keeper_of K.content K.is_honest K.refusals K.may_leave) keep }
-        ensures ok { IfOk result (λ r. Reopens (keeper_of K.content K.is_honest K.refusals K.may_leave) nodes.now member.now keep r.rows r.node) }
+        ensures ok { IfOk result (λ r. Reopens (keeper_of K.content K.is_honest K.refusals K.may_leave) nodes.now member.now keep r.rows r.line r.node) }
         // Where the rows that are kept are those of a node of the setup, that node starts again.
         ensures again { IfOk result (λ r. K.is_honest r.node.keep → (s : NodeState)
             → IsKeptFor nodes.now member.now (K.content keep) s → r.node.state ≡ restarted s) }
@@ -217,8 +240,8 @@ impl<K: Keep> StoredNode<K> {
         ensures err { IfErr result (λ e. IsReopenFault (keeper_of K.content K.is_honest K.refusals K.may_leave) nodes.now member.now keep e.fault e.keep) }
         ensures kept { IfErr result (λ e. KeepsOn (keeper_of K.content K.is_honest K.refusals K.may_leave) keep e.keep) }
     {
-        let rows = match keep.load() {
-            Ok(rows) => rows,
+        let Kept { rows, line } = match keep.load() {
+            Ok(kept) => kept,
             Err(fault) => {
                 return Err(Unopened {
                     keep,
@@ -233,6 +256,7 @@ impl<K: Keep> StoredNode<K> {
                 Ok(Reopened {
                     node: StoredNode { alloc, node, keep },
                     rows: count,
+                    line,
                 })
             }
             Err(fault) => Err(Unopened {
@@ -243,15 +267,19 @@ impl<K: Keep> StoredNode<K> {
     }
 
     /// Something happens at the node: what comes of it is planned, all memory for it is taken, its changes are
-    /// committed, and then it is carried out, which cannot fail.
+    /// committed, with the number of their line where one is told, and then it is carried out, which cannot fail.
     ///
     /// Refused (`Core`) where the node refuses it, (`Memory`) for want of memory in the node, before the keeper is
     /// asked, and (`Store`) where the keeper does not take its changes, also for want of memory. After `Core` and
     /// `Memory` all is as it was, the keeper too. After `Store` the node is, and the keeper keeps what it kept; only a
     /// stop may then leave what the event would have made of it.
-    pub fn apply(&mut self, kind: &NodeEventKind) -> Result<Applied, ApplyFault>
-        ensures ok { IfOk result (λ a. Applies (keeper_of K.content K.is_honest K.refusals K.may_leave) self.old kind.now a self.new) }
-        ensures err { IfErr result (λ f. Fails (keeper_of K.content K.is_honest K.refusals K.may_leave) self.old kind.now f self.new) }
+    pub fn apply(
+        &mut self,
+        kind: &NodeEventKind,
+        line: Option<LineNumber>,
+    ) -> Result<Applied, ApplyFault>
+        ensures ok { IfOk result (λ a. Applies (keeper_of K.content K.is_honest K.refusals K.may_leave) line self.old kind.now a self.new) }
+        ensures err { IfErr result (λ f. Fails (keeper_of K.content K.is_honest K.refusals K.may_leave) line self.old kind.now f self.new) }
     {
         let Some(input) = input_of(kind) else {
             return Ok(Applied::Stepped {
@@ -262,7 +290,7 @@ impl<K: Keep> StoredNode<K> {
         match self.plan(&input) {
             Ok(NodePlan::Skipped) => Ok(Applied::Skipped),
             Ok(NodePlan::Refused(fault)) => Err(ApplyFault::Core(fault)),
-            Ok(NodePlan::Acts(work)) => self.carry_out(work),
+            Ok(NodePlan::Acts(work)) => self.carry_out(work, line),
             Err(_) => Err(ApplyFault::Memory),
         }
     }
@@ -274,19 +302,24 @@ impl<K: Keep> StoredNode<K> {
         self.node.plan(input)
     }
 
-    /// The node does its work, once its changes are committed. A refusal changes nothing.
-    pub fn carry_out(&mut self, work: NodeWork) -> Result<Applied, ApplyFault>
+    /// The node does its work, once its changes are committed, with the number of their line where one is told. A
+    /// refusal changes nothing.
+    pub fn carry_out(
+        &mut self,
+        work: NodeWork,
+        line: Option<LineNumber>,
+    ) -> Result<Applied, ApplyFault>
         requires { (i : NodeInputOf) × IsWork self.old.state i work }
         ensures state { OnOk result (self.new.state ≡ node_after work self.old.state) }
-        ensures ok { IfOk result (λ a. IsCarriedOut (keeper_of K.content K.is_honest K.refusals K.may_leave) work self.old.keep a self.new.keep) }
+        ensures ok { IfOk result (λ a. IsCarriedOut (keeper_of K.content K.is_honest K.refusals K.may_leave) line work self.old.keep a self.new.keep) }
         ensures same { OnErr result (self.new.state ≡ self.old.state) }
-        ensures err { IfErr result (λ f. IsNotCarriedOut (keeper_of K.content K.is_honest K.refusals K.may_leave) work self.old.keep f self.new.keep) }
+        ensures err { IfErr result (λ f. IsNotCarriedOut (keeper_of K.content K.is_honest K.refusals K.may_leave) line work self.old.keep f self.new.keep) }
     {
         changes_are_held();
         nodes_can_start_again();
         restarts_are_held();
         alike_are_classes();
-        carry_out(&mut self.node, &mut self.keep, work)
+        carry_out(&mut self.node, &mut self.keep, work, line)
     }
 
     /// What holds of every node over its keeper at any time, which its type keeps. It does nothing.

@@ -14,7 +14,7 @@ use node_core::{Node, NodeInput, NodePlan, NodeWork};
 use node_inputs::input_of;
 use node_rows::laws::{alike_are_classes, changes_are_held, restarts_are_held};
 use node_steps::copies;
-use node_store::{Keep, StoreFault};
+use node_store::{Keep, LineNumber, StoreFault};
 use ocpi_types::{Change, NodeEventKind};
 use std::alloc::{AllocError, Global};
 use std::marker::Model;
@@ -171,16 +171,16 @@ impl<K: Keep> Transaction<K> {
         let _changes = &self.changes;
     }
 
-    /// Commits the changes of all events, in turn, all of them or none. Where one key stands in several of them, the
-    /// last one counts. Where there are no changes the keeper is not asked.
+    /// Commits the changes of all events, in turn, with the number of their line where one is told: all of it or
+    /// nothing. Where one key stands in several of them, the last one counts. Where there are no changes the keeper is not asked.
     ///
     /// Refused where the keeper does not take them, also for want of memory. Then the node has ended, and the keeper
     /// keeps what it kept. A stop leaves what it left before, or what all the changes make of it.
-    pub fn commit(self) -> Result<StoredNode<K>, Uncommitted<K>>
+    pub fn commit(self, line: Option<LineNumber>) -> Result<StoredNode<K>, Uncommitted<K>>
         ensures ok { IfOk result (λ n. (n.state ≡ self.state)
-            × Commits (keeper_of K.content K.is_honest K.refusals K.may_leave) self.changes self.keep n.keep) }
+            × Commits (keeper_of K.content K.is_honest K.refusals K.may_leave) line self.changes self.keep n.keep) }
         ensures err { IfErr result (λ u. IsCommitFault u.fault × (self.changes ≢ [])
-            × Declines (keeper_of K.content K.is_honest K.refusals K.may_leave) self.changes (counted_fault u.fault) self.keep u.keep) }
+            × Declines (keeper_of K.content K.is_honest K.refusals K.may_leave) line self.changes (counted_fault u.fault) self.keep u.keep) }
     {
         changes_are_held();
         nodes_can_start_again();
@@ -192,7 +192,7 @@ impl<K: Keep> Transaction<K> {
             mut keep,
             changes,
         } = self;
-        let committed = commit(&mut keep, changes.as_slice());
+        let committed = commit(&mut keep, changes.as_slice(), line);
         drop(changes);
         match committed {
             Ok(_) => Ok(StoredNode { alloc, node, keep }),

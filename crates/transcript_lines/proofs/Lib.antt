@@ -1,3 +1,1 @@
 pub mod EventLines
-pub mod FoundFaults
-pub mod FoundMembers

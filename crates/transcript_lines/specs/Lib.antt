@@ -1,4 +1,1 @@
-pub mod Dones
 pub mod EventLines
-pub mod Faults
-pub mod Members

@@ -1,5 +1,5 @@
 -- Where there is a cause there is no interleaving, whoever is given; and what it is where nobody is.
-use Rattle.std.proofs.Common.{◌≡◌, ℕ, ◌+◌, ◌<◌, ◌≤◌, List, [], ◌∷◌, ◌++◌, length, take, drop, inl, inr, refl, sym, ap, subst, ◌∙◌, arith, append_assoc, append-nil, length-append}
+use Rattle.std.proofs.Common.{◌≡◌, ◌⊎◌, ℕ, ◌+◌, ◌<◌, ◌≤◌, List, [], ◌∷◌, ◌++◌, length, take, drop, inl, inr, refl, sym, ap, subst, ◌∙◌, arith, append_assoc, append-nil, length-append}
 use Rattle.std.specs.Prelude.{Some, Contains, slice_get, slice_index}
 use Rattle.std.proofs.lemmas.Bool.{cases_lt}
 use Rattle.std.proofs.lemmas.List.{take-append-drop}
@@ -11,23 +11,23 @@ use Rattle.histories.specs.declared.entry.Entry.{Entry}
 use Rattle.histories.specs.declared.history.NodeHistory.{NodeHistory}
 use Rattle.histories.specs.Causes.{CameTo, IsGiven, IsGivenBefore, IsSentOtherwise, IsUnsent}
 use Rattle.histories.specs.Entries.{Delivers, packets_of, sent}
-use Rattle.histories.specs.Weaving.{AreApart, AreNumbered, IsWoven, Woven, history}
+use Rattle.histories.specs.Weaving.{AreApart, AreNumberedBehind, IsWoven, Woven, history}
 use Rattle.histories.proofs.Lists.{got_between, in_later, is_in, place_in, some_same, take_one, take_past}
 use Rattle.histories.proofs.WovenLists.{given_later, has_entry, history_elsewhere, history_here, history_join, history_next, history_past, same_key, sent_join, sent_later, sent_one}
 use Rattle.weave.specs.declared.turn.Turn.{Turn}
 use Rattle.weave.specs.Given as laws
-use Rattle.weave.specs.Given.{Asks, CanInterleaveWith, InterleavesWith, IsBlockWith, IsFrom, IsWovenWith}
+use Rattle.weave.specs.Given.{Asks, CanInterleaveWith, InterleavesWith, IsBlockWith, IsFrom, IsWovenWith, WasBefore}
 use Rattle.weave.specs.TurnFaults.{CameFirst, IsSentOtherwiseBy}
 
 -- what was delivered was sent
-named : (given : List (List ℕ)) (before xs : List Woven) → IsWovenWith given before xs → (k : List ℕ) (e : Entry) → Contains (history k xs) e → (q : Packet) → Asks given e q → Contains (sent (history (key q.from) (before ++ xs))) q
-named given before [] woven k e h q asks = absurd (in_none e h)
-named given before (x ∷ xs) (names, woven) k e h q asks = elim (same_key (key x.party) k) [
+named : (given : List (List ℕ)) (hs : List NodeHistory) (before xs : List Woven) → IsWovenWith given hs before xs → (k : List ℕ) (e : Entry) → Contains (history k xs) e → (q : Packet) → Asks given hs e q → Contains (sent (history (key q.from) (before ++ xs))) q
+named given hs before [] woven k e h q asks = absurd (in_none e h)
+named given hs before (x ∷ xs) (names, woven) k e h q asks = elim (same_key (key x.party) k) [
   | inl same ↦ elim (Contains-append_cases (x.entry ∷ []) (history k xs) e (subst (λ l. Contains l e) (history_next k x xs same) h)) [
-    | inl here ↦ given_later (key q.from) before (x ∷ xs) q (names q (subst (λ z. Asks given z q) (sym (in_single x.entry e here)) asks))
-    | inr later ↦ subst (λ l. Contains (sent (history (key q.from) l)) q) (append_assoc before (x ∷ []) xs) (named given (before ++ x ∷ []) xs woven k e later q asks)
+    | inl here ↦ given_later (key q.from) before (x ∷ xs) q (names q (subst (λ z. Asks given hs z q) (sym (in_single x.entry e here)) asks))
+    | inr later ↦ subst (λ l. Contains (sent (history (key q.from) l)) q) (append_assoc before (x ∷ []) xs) (named given hs (before ++ x ∷ []) xs woven k e later q asks)
   ]
-  | inr apart ↦ subst (λ l. Contains (sent (history (key q.from) l)) q) (append_assoc before (x ∷ []) xs) (named given (before ++ x ∷ []) xs woven k e (subst (λ l. Contains l e) (history_past k x xs apart) h) q asks)
+  | inr apart ↦ subst (λ l. Contains (sent (history (key q.from) l)) q) (append_assoc before (x ∷ []) xs) (named given hs (before ++ x ∷ []) xs woven k e (subst (λ l. Contains l e) (history_past k x xs apart) h) q asks)
 ]
 
 module _ (given : List (List ℕ)) (hs : List NodeHistory) (xs : List Woven) (h : InterleavesWith given hs xs) where
@@ -44,7 +44,7 @@ module _ (given : List (List ℕ)) (hs : List NodeHistory) (xs : List Woven) (h 
       let own = came.at.history in
       let within = is_in hs t.history own came.at.here in
       let stands = subst (λ l. Contains l came.entry) (sym (h.order own within)) (is_in own.entries.now t.entry came.entry came.at.stands) in
-      let (g, in_hs, same, has) = sender_of (key q.from) q (named given [] xs h.names (key own.party) came.entry stands q came.asks) in
+      let (g, in_hs, same, has) = sender_of (key q.from) q (named given hs [] xs h.names (key own.party) came.entry stands q came.asks) in
       record { sender = g; is_sender = (in_hs, same); was_given = has }
 
 module _ (given : List (List ℕ)) (hs : List NodeHistory) (front : List ℕ) (apart : AreApart hs) where
@@ -85,7 +85,7 @@ module _ (given : List (List ℕ)) (hs : List NodeHistory) (front : List ℕ) (a
           was_given = subst (λ l. Contains (sent l) q) (sym e) (sent_later (history (key h.party) before) zs q here);
         }
 
-    none_left : (before xs : List Woven) → before ++ xs ≡ ws → Behind before → IsWovenWith given before xs → ⊥
+    none_left : (before xs : List Woven) → before ++ xs ≡ ws → Behind before → IsWovenWith given hs before xs → ⊥
     unfolding Behind
     none_left before [] is behind rest =
         let more = block.some in
@@ -133,7 +133,7 @@ sent_otherwise hs t q h = record {
   apart = h.apart;
 }
 
-pub different_excludes : (given : List (List ℕ)) (hs : List NodeHistory) (t : Turn) (q : Packet) → AreNumbered hs → CameFirst given hs t q → IsSentOtherwise hs q → CanInterleaveWith given hs → ⊥
+pub different_excludes : (given : List (List ℕ)) (hs : List NodeHistory) (t : Turn) (q : Packet) → AreNumberedBehind hs → CameFirst given hs t q → IsSentOtherwise hs q → CanInterleaveWith given hs → ⊥
 different_excludes given hs t q numbered came h (xs, woven) =
     let g = came_was_given given hs xs woven t q came in
     let own : g.sender.entries.now ≡ h.sender.entries.now =
@@ -170,20 +170,28 @@ came_in given hs xs woven x within q delivers =
     }
 
 -- where no entry delivers a packet from a given party each delivery follows its sending
-names_all : (given : List (List ℕ)) (before xs : List Woven) → ((x : Woven) → Contains xs x → (q : Packet) → Delivers x.entry q → IsFrom given q → ⊥) → IsWovenWith given before xs → IsWoven before xs
-names_all given before [] none woven = tt
-names_all given before (x ∷ xs) none (first, woven) = (λ q delivers. first q (delivers, none x (in_front x xs) q delivers), names_all given (before ++ x ∷ []) xs (λ y within. none y (in_later x xs y within)) woven)
+names_all : (given : List (List ℕ)) (hs : List NodeHistory) (before xs : List Woven) → ((x : Woven) → Contains xs x → (q : Packet) → Delivers x.entry q → IsFrom given q ⊎ WasBefore hs q → ⊥)
+    → IsWovenWith given hs before xs → IsWoven before xs
+names_all given hs before [] none woven = tt
+names_all given hs before (x ∷ xs) none (first, woven) = (
+  λ q delivers. first q (record {
+    delivers = delivers;
+    not_given = λ from. none x (in_front x xs) q delivers (inl from);
+    not_before = λ was. none x (in_front x xs) q delivers (inr was);
+  }),
+  names_all given hs (before ++ x ∷ []) xs (λ y within. none y (in_later x xs y within)) woven,
+)
 
-names_any : (given : List (List ℕ)) (before xs : List Woven) → IsWoven before xs → IsWovenWith given before xs
-names_any given before [] woven = tt
-names_any given before (x ∷ xs) (first, woven) = (λ q asks. first q asks.0, names_any given (before ++ x ∷ []) xs woven)
+names_any : (given : List (List ℕ)) (hs : List NodeHistory) (before xs : List Woven) → IsWoven before xs → IsWovenWith given hs before xs
+names_any given hs before [] woven = tt
+names_any given hs before (x ∷ xs) (first, woven) = (λ q asks. first q asks.delivers, names_any given hs (before ++ x ∷ []) xs woven)
 
 pub none_given : laws.NoneGiven
 none_given given hs xs none woven = record {
   nodes = woven.nodes;
   order = woven.order;
-  names = names_all given [] xs (λ x within q delivers from. none q (came_in given hs xs woven x within q delivers) from) woven.names;
+  names = names_all given hs [] xs (λ x within q delivers from. none q (came_in given hs xs woven x within q delivers) from) woven.names;
 }
 
 pub any_given : laws.AnyGiven
-any_given given hs (xs, woven) = (xs, record { nodes = woven.nodes; order = woven.order; names = names_any given [] xs woven.names })
+any_given given hs (xs, woven) = (xs, record { nodes = woven.nodes; order = woven.order; names = names_any given hs [] xs woven.names })

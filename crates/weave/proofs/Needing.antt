@@ -1,5 +1,5 @@
 -- The packets of each history by their serials, what an entry waits for, and what is told of it.
-use Rattle.std.proofs.Common.{◌≡◌, ◌≢◌, ◌⊎◌, ℕ, ◌+◌, ◌-◌, ◌<◌, List, [], ◌∷◌, ◌++◌, length, take, drop, inl, inr, refl, sym, ap, subst, ◌∙◌, arith, append_assoc, length-append}
+use Rattle.std.proofs.Common.{◌≡◌, ◌≢◌, ◌⊎◌, ℕ, ◌+◌, ◌-◌, ◌<◌, ◌≤◌, List, [], ◌∷◌, ◌++◌, length, take, drop, inl, inr, refl, sym, ap, subst, ◌∙◌, arith, append_assoc, length-append}
 use Rattle.std.specs.Prelude.{None, Some, Vec, Contains, slice_get, option_map}
 use Rattle.std.specs.Borrow.{Bor}
 use Rattle.std.proofs.lemmas.List.{length-map, take-append-drop}
@@ -10,7 +10,7 @@ use Rattle.histories.specs.declared.entry.Entry.{Entry}
 use Rattle.histories.specs.declared.history.NodeHistory.{NodeHistory}
 use Rattle.histories.specs.Causes.{IsGiven, IsUnsent}
 use Rattle.histories.specs.Entries.{Delivers, packets_of, sent}
-use Rattle.histories.specs.Weaving.{AreApart, AreNumbered}
+use Rattle.histories.specs.Weaving.{AreApart, AreNumberedBehind}
 use Rattle.histories.proofs.Lists.{got_after, got_left, got_pushed, got_taken, got_within, is_in, place_in, some_same, stands, take_one}
 use Rattle.histories.proofs.WovenLists.{sent_join, sent_one}
 use Rattle.weave.specs.declared.needs.Gap.{Gap}
@@ -33,38 +33,39 @@ module _ {A : Type 0} (hs : List NodeHistory) (rows : List (Vec (Bor Packet) A))
       ap (option_map row_of) (sym at) ∙ sym (slice_get-map row_of rows j) ∙ ap (λ l. slice_get l j) table ∙ slice_get-map sent_in hs j ∙ ap (option_map sent_in) here)
 
 -- a packet that a row has at a place
-pub found_at : (row : List (Bor Packet)) (serial : ℕ) (r : Bor Packet) → slice_get row (serial - 1) ≡ Some r → 0 < serial → StandsAt (now_of row) serial r.now
-found_at row serial r at above = record {
-  position = serial - 1;
+pub found_at : (row : List (Bor Packet)) (before serial : ℕ) (r : Bor Packet) → slice_get row (serial - before - 1) ≡ Some r → before < serial → StandsAt (now_of row) before serial r.now
+found_at row before serial r at above = record {
+  position = serial - before - 1;
   serial_is = omega (arith, above);
-  stands = slice_get-map (λ (z : Bor Packet). z.now) row (serial - 1) ∙ ap (option_map (λ (z : Bor Packet). z.now)) at;
+  stands = slice_get-map (λ (z : Bor Packet). z.now) row (serial - before - 1) ∙ ap (option_map (λ (z : Bor Packet). z.now)) at;
 }
 
-pub missing_none : (packets : List Packet) (serial : ℕ) → serial ≡ 0 → IsMissing packets serial
-missing_none packets serial is k at = absurd (omega (arith, is, at))
+pub missing_none : (packets : List Packet) (before serial : ℕ) → serial ≤ before → IsMissing packets before serial
+missing_none packets before serial is k at = absurd (omega (arith, is, at))
 
-pub missing_past : (row : List (Bor Packet)) (serial : ℕ) → length row < serial → IsMissing (now_of row) serial
-missing_past row serial past k at = slice_get_past (now_of row) k (let size = length-map row (λ (z : Bor Packet). z.now) in omega (arith, past, at, size))
+pub missing_past : (row : List (Bor Packet)) (before serial : ℕ) → length row < serial - before → IsMissing (now_of row) before serial
+missing_past row before serial past k at = slice_get_past (now_of row) k (let size = length-map row (λ (z : Bor Packet). z.now) in omega (arith, past, at, size))
 
 -- ---- what is told of a packet
 
-module _ (hs : List NodeHistory) (apart : AreApart hs) (numbered : AreNumbered hs) where
+module _ (hs : List NodeHistory) (apart : AreApart hs) (numbered : AreNumberedBehind hs) where
   one_sender : (j : ℕ) (h g : NodeHistory) → slice_get hs j ≡ Some h → Contains hs g → key g.party ≡ key h.party → g ≡ h
   one_sender j h g here within same =
       let (i, at) = place_in hs g within in
       let places : i ≡ j = apart i j g h at here same in
       some_same g h (sym at ∙ ap (slice_get hs) places ∙ here)
 
-  pub unsent : (q : Packet) (j : ℕ) (h : NodeHistory) → slice_get hs j ≡ Some h → key h.party ≡ key q.from → IsMissing (sent_in h) q.serial → IsUnsent hs q
+  pub unsent : (q : Packet) (j : ℕ) (h : NodeHistory) → slice_get hs j ≡ Some h → key h.party ≡ key q.from → IsMissing (sent_in h) h.before q.serial → IsUnsent hs q
   unsent q j h here same missing g (within, of_g) r given equal =
       let is_h : g ≡ h = one_sender j h g here within (of_g ∙ sym same) in
       let (k, at) = place_in (sent_in g) r given in
       let serial = (numbered g within k r at).1 in
       let there : slice_get (sent_in h) k ≡ Some r = ap (λ (z : NodeHistory). slice_get (sent_in z) k) (sym is_h) ∙ at in
-      let bad : None ≡ Some r = sym (missing k (omega (arith, serial, equal))) ∙ there in
+      let before = ap (λ (z : NodeHistory). z.before) is_h in
+      let bad : None ≡ Some r = sym (missing k (omega (arith, serial, equal, before))) ∙ there in
       cc
 
-  pub given_otherwise : (q : Packet) (j : ℕ) (h : NodeHistory) (packet : Packet) → slice_get hs j ≡ Some h → key h.party ≡ key q.from → StandsAt (sent_in h) q.serial packet → packet ≢ q →
+  pub given_otherwise : (q : Packet) (j : ℕ) (h : NodeHistory) (packet : Packet) → slice_get hs j ≡ Some h → key h.party ≡ key q.from → StandsAt (sent_in h) h.before q.serial packet → packet ≢ q →
       IsGivenOtherwise hs (record { sender = j; serial = q.serial }) q
   given_otherwise q j h packet here same at other =
       let serial = (numbered h (is_in hs j h here) at.position packet at.stands).1 in
@@ -88,8 +89,8 @@ pub one_packet : (e : Entry) (q r : Packet) → Delivers e q → Delivers e r �
 one_packet e q r (at, is) (later, other) = let both = sym is ∙ other in cc
 
 module _ (given : List (List ℕ)) (hs : List NodeHistory) where
-  pub given_by : (e : Entry) (n : Need) (q : Packet) → IsNeed given hs e n → Asks given e q → IsGivenBy hs n q
-  given_by e n q (OfPacket r asks by) is = subst (IsGivenBy hs n) (one_packet e r q asks.0 is.0) by
+  pub given_by : (e : Entry) (n : Need) (q : Packet) → IsNeed given hs e n → Asks given hs e q → IsGivenBy hs n q
+  given_by e n q (OfPacket r asks by) is = subst (IsGivenBy hs n) (one_packet e r q asks.delivers is.delivers) by
   given_by e n q (OfNothing none h here nothing) is = absurd (none q is)
 
   is_given : (n : Need) (q : Packet) → IsGivenBy hs n q → IsGiven hs q
@@ -113,7 +114,7 @@ module _ (given : List (List ℕ)) (hs : List NodeHistory) where
             by (inr (end, is_x)) (inr (end_m, is_m)) = subst (IsNeed given hs x) is_m (subst (λ z. IsNeed given hs z n) is_x is)
 
     -- what an entry before delivers was given
-    given_before : (l : ℕ) (e : Entry) → l < k → slice_get es l ≡ Some e → (r : Packet) → Asks given e r → IsGiven hs r
+    given_before : (l : ℕ) (e : Entry) → l < k → slice_get es l ≡ Some e → (r : Packet) → Asks given hs e r → IsGiven hs r
     given_before l e below at r asks =
         let there = got_taken es k l e at below in
         let inside = got_within (take k es) l e there in
@@ -148,7 +149,7 @@ module _ (given : List (List ℕ)) (hs : List NodeHistory) where
         by Memory h = absurd h
 
   module _ {A : Type 0} (count : ℕ) (rows : List (Vec Need A)) (needs : AreAllNeeds given hs count rows) where
-    pub given_at : (j l : ℕ) (e : Entry) → j < count → EntryAt hs j l e → (r : Packet) → Asks given e r → IsGiven hs r
+    pub given_at : (j l : ℕ) (e : Entry) → j < count → EntryAt hs j l e → (r : Packet) → Asks given hs e r → IsGiven hs r
     given_at j l e below at r asks =
         let size = needs.size in
         let (v, here) = stands rows j (omega (arith, size, below)) in
@@ -177,7 +178,7 @@ module _ (given : List (List ℕ)) (hs : List NodeHistory) where
       before = λ j l e earlier at r asks. by j l e at r asks earlier;
     }
       where
-        by : (j l : ℕ) (e : Entry) → EntryAt hs j l e → (r : Packet) → Asks given e r → IsEarlier j l t → IsGiven hs r
+        by : (j l : ℕ) (e : Entry) → EntryAt hs j l e → (r : Packet) → Asks given hs e r → IsEarlier j l t → IsGiven hs r
         by j l e at r asks (inl less) = given_at j l e (let is = first.inside in omega (arith, is, less)) at r asks
         by j l e at r asks (inr here) = first.before j l e here at r asks
 
@@ -189,10 +190,10 @@ module _ (given : List (List ℕ)) (hs : List NodeHistory) where
     explained Memory h = tt
 
   pub all_given : {A : Type 0} (rows : List (Vec Need A)) → AreAllNeeds given hs (length hs) rows → AreAllGivenWith given hs
-  all_given rows needs q came none =
+  all_given rows needs q came none new =
       let (i, here) = place_in hs came.history came.within in
       let (k, at) = place_in came.history.entries.now came.entry came.stands in
-      given_at (length hs) rows needs i k came.entry (got_within hs i came.history here) (record { history = came.history; here = here; stands = at }) q (came.delivers, none)
+      given_at (length hs) rows needs i k came.entry (got_within hs i came.history here) (record { history = came.history; here = here; stands = at }) q (record { delivers = came.delivers; not_given = none; not_before = new })
 
 -- ---- the entry that sent what differs
 

@@ -1,7 +1,8 @@
 -- How a weaving goes on, and what its end says.
 use Rattle.std.proofs.Common.{zero, suc, ◌≡◌, ◌≢◌, ℕ, ◌+◌, ◌-◌, ◌<◌, ◌≤◌, List, [], ◌∷◌, ◌++◌, length, take, drop, replicate, inl, inr, refl, sym, ap, subst, ◌∙◌, arith, append_assoc, append-nil, add-zero, length-append, length-set, take_all}
-use Rattle.std.specs.Prelude.{Some, Contains, slice_get, slice_index, slice_set, sum}
-use Rattle.std.proofs.lemmas.List.{get_or-set_other, get_or-set_same, take-append-drop}
+use Rattle.std.specs.Prelude.{Some, Contains, map, option_map, slice_get, slice_index, slice_set, sum}
+use Rattle.std.proofs.lemmas.List.{get_or-set_other, get_or-set_same, length-map, take-append-drop}
+use Rattle.std.proofs.lemmas.Option.{get_or_from_slice_get, slice_get-map}
 use Rattle.std.proofs.lemmas.List.Elements.{Contains-push_cases}
 use Rattle.std.proofs.lemmas.List.Sums.{sum_by-cons, sum_by-set}
 use Rattle.ocpi_text.specs.Text.{key}
@@ -11,7 +12,7 @@ use Rattle.histories.specs.declared.entry.Entry.{Entry}
 use Rattle.histories.specs.declared.history.NodeHistory.{NodeHistory}
 use Rattle.histories.specs.Causes.{HasMore}
 use Rattle.histories.specs.Entries.{IsNumbered, packets_of, sent}
-use Rattle.histories.specs.Weaving.{AreApart, AreNumbered, Woven, history}
+use Rattle.histories.specs.Weaving.{AreApart, AreNumberedBehind, Woven, history}
 use Rattle.histories.proofs.Lists.{got_after, got_front, got_left, got_within, is_in, place_in, some_same, stands, take_one}
 use Rattle.histories.proofs.WovenLists.{history_elsewhere, history_here, same_key, sent_join, sent_one}
 use Rattle.weave.specs.declared.needs.Need.{Need}
@@ -25,35 +26,36 @@ use Rattle.weave.proofs.Needing.{given_by}
 use Rattle.weave.proofs.Places.{index_replicate, length_replicate, sum_replicate}
 use Rattle.weave.proofs.Turning.{turns_push}
 
-pub start_reached : (given : List (List ℕ)) (hs : List NodeHistory) → Reached given hs (replicate (length hs) 0) (replicate (length hs) 0) []
+pub start_reached : (given : List (List ℕ)) (hs : List NodeHistory) → Reached given hs (replicate (length hs) 0) (map (λ (h : NodeHistory). h.before) hs) []
 start_reached given hs = record {
   xs = [];
   nodes = λ x h. absurd (in_none x h);
   names = tt;
   turns_are = tt;
   place_each = length_replicate (length hs) 0;
-  newest_each = length_replicate (length hs) 0;
+  newest_each = length-map hs (λ (h : NodeHistory). h.before);
   each = λ i h at. record {
     before = sym (ap (λ n. take n h.entries.now) (index_replicate (length hs) i));
     within = let zero_is = index_replicate (length hs) i in omega (arith, zero_is);
-    newest_is = index_replicate (length hs) i;
+    newest_is = get_or_from_slice_get (map (λ (g : NodeHistory). g.before) hs) i h.before 0 (slice_get-map (λ (g : NodeHistory). g.before) hs i ∙ ap (option_map (λ (g : NodeHistory). g.before)) at) ∙ sym (add-zero h.before);
   };
   count = sym (sum_replicate (length hs));
 }
 
-woven_push : (given : List (List ℕ)) (before xs : List Woven) (x : Woven) → IsWovenWith given before xs → NamesWith given (before ++ xs) x → IsWovenWith given before (xs ++ x ∷ [])
-woven_push given before [] x woven names = (subst (λ l. NamesWith given l x) (append-nil before) names, tt)
-woven_push given before (y ∷ xs) x (first, woven) names = (first, woven_push given (before ++ y ∷ []) xs x woven (subst (λ l. NamesWith given l x) (sym (append_assoc before (y ∷ []) xs)) names))
+woven_push : (given : List (List ℕ)) (hs : List NodeHistory) (before xs : List Woven) (x : Woven) → IsWovenWith given hs before xs → NamesWith given hs (before ++ xs) x → IsWovenWith given hs before (xs ++ x ∷ [])
+woven_push given hs before [] x woven names = (subst (λ l. NamesWith given hs l x) (append-nil before) names, tt)
+woven_push given hs before (y ∷ xs) x (first, woven) names = (first, woven_push given hs (before ++ y ∷ []) xs x woven (subst (λ l. NamesWith given hs l x) (sym (append_assoc before (y ∷ []) xs)) names))
 
 -- the serial of the last of some packets of a node counts those so far
-last_serial : (party : List ℕ) (before ps after : List Packet) → IsNumbered party ((before ++ ps) ++ after) → serial_in (length before) (slice_get ps (length ps - 1)) ≡ length before + length ps
-last_serial party before [] after numbered = sym (add-zero (length before))
-last_serial party before (p ∷ ps) after numbered =
+last_serial : (party : List ℕ) (first : ℕ) (before ps after : List Packet) → IsNumbered party first ((before ++ ps) ++ after)
+    → serial_in (first + length before) (slice_get ps (length ps - 1)) ≡ first + (length before + length ps)
+last_serial party first before [] after numbered = ap (λ n. first + n) (sym (add-zero (length before)))
+last_serial party first before (p ∷ ps) after numbered =
     let (q, at) = stands (p ∷ ps) (length (p ∷ ps) - 1) (omega arith) in
     let there = got_left (before ++ p ∷ ps) after (length before + (length (p ∷ ps) - 1)) q (got_after before (p ∷ ps) (length (p ∷ ps) - 1) q at) in
     let serial = (numbered (length before + (length (p ∷ ps) - 1)) q there).1 in
-    let number : q.serial ≡ length before + length (p ∷ ps) = omega (arith, serial) in
-    ap (serial_in (length before)) at ∙ number
+    let number : q.serial ≡ first + (length before + length (p ∷ ps)) = omega (arith, serial) in
+    ap (serial_in (first + length before)) at ∙ number
 
 sums : (hs : List NodeHistory) (ps : List ℕ) → length ps ≡ length hs → ((i : ℕ) (h : NodeHistory) → slice_get hs i ≡ Some h → slice_index ps i ≤ length h.entries.now) → sum ps ≤ total hs
 sums [] [] each within = omega arith
@@ -74,7 +76,7 @@ module _ (given : List (List ℕ)) (hs : List NodeHistory) (places newest : List
       ap sent (sym (take-append-drop (slice_index places i) h.entries.now)) ∙ sent_join (take (slice_index places i) h.entries.now) (drop (slice_index places i) h.entries.now)
       ∙ ap (λ l. sent l ++ sent (drop (slice_index places i) h.entries.now)) (sym (r.each i h at).before)
 
-  module _ (apart : AreApart hs) (numbered : AreNumbered hs) (c : ℕ) (h : NodeHistory) (here : slice_get hs c ≡ Some h) (e : Entry) (at : slice_get h.entries.now (slice_index places c) ≡ Some e)
+  module _ (apart : AreApart hs) (numbered : AreNumberedBehind hs) (c : ℕ) (h : NodeHistory) (here : slice_get hs c ≡ Some h) (e : Entry) (at : slice_get h.entries.now (slice_index places c) ≡ Some e)
       (n : Need) (need : IsNeed given hs e n) (ready : n.serial ≤ slice_index newest n.sender) where
     abbrev x : Woven
     x = record { party = h.party; entry = e }
@@ -94,7 +96,7 @@ module _ (given : List (List ℕ)) (hs : List NodeHistory) (places newest : List
     below : c < length hs
     below = got_within hs c h here
 
-    names_x : NamesWith given r.xs x
+    names_x : NamesWith given hs r.xs x
     names_x q is =
         let g = given_by given hs e n q need is in
         let woven = r.each n.sender g.sender g.here in
@@ -126,14 +128,14 @@ module _ (given : List (List ℕ)) (hs : List NodeHistory) (places newest : List
     sent_then : sent (history k (r.xs ++ x ∷ [])) ≡ sent (history k r.xs) ++ packets_of e
     sent_then = ap sent (history_here k r.xs x refl) ∙ sent_join (history k r.xs) (e ∷ []) ∙ ap (λ l. sent (history k r.xs) ++ l) (sent_one e)
 
-    last_is : last ≡ length (sent (history k (r.xs ++ x ∷ [])))
+    last_is : last ≡ h.before + length (sent (history k (r.xs ++ x ∷ [])))
     last_is =
         let after : List Entry = drop (slice_index places c + 1) h.entries.now in
         let split : (sent (history k r.xs) ++ packets_of e) ++ sent after ≡ sent h.entries.now =
         ap (λ l. l ++ sent after) (sym sent_then) ∙ sym (sent_join (history k (r.xs ++ x ∷ [])) after) ∙ ap (λ l. sent (l ++ after)) longer ∙ ap sent (take-append-drop (slice_index places c + 1) h.entries.now) in
-        let counts = last_serial h.party (sent (history k r.xs)) (packets_of e) (sent after) (subst (IsNumbered h.party) (sym split) (numbered h (is_in hs c h here))) in
+        let counts = last_serial h.party h.before (sent (history k r.xs)) (packets_of e) (sent after) (subst (IsNumbered h.party h.before) (sym split) (numbered h (is_in hs c h here))) in
         ap (λ m. serial_in m (slice_get (packets_of e) (length (packets_of e) - 1))) (r.each c h here).newest_is ∙ counts
-        ∙ sym (ap length sent_then ∙ length-append (sent (history k r.xs)) (packets_of e))
+        ∙ sym (ap (λ l. h.before + length l) sent_then ∙ ap (λ n. h.before + n) (length-append (sent (history k r.xs)) (packets_of e)))
 
     woven_here : IsWovenTo h (slice_index places' c) (slice_index newest' c) (r.xs ++ x ∷ [])
     woven_here = record {
@@ -154,7 +156,7 @@ module _ (given : List (List ℕ)) (hs : List NodeHistory) (places newest : List
           record {
             before = history_elsewhere (key g.party) r.xs x other ∙ old.before ∙ ap (λ m. take m g.entries.now) (sym (place_other i not_c));
             within = let inside = old.within in let now = place_other i not_c in omega (arith, inside, now);
-            newest_is = newest_other i not_c ∙ old.newest_is ∙ ap (λ l. length (sent l)) (sym (history_elsewhere (key g.party) r.xs x other));
+            newest_is = newest_other i not_c ∙ old.newest_is ∙ ap (λ l. g.before + length (sent l)) (sym (history_elsewhere (key g.party) r.xs x other));
           }
     ]
 
@@ -166,7 +168,7 @@ module _ (given : List (List ℕ)) (hs : List NodeHistory) (places newest : List
         | inl i ↦ r.nodes y i
         | inr same ↦ subst (λ (z : Woven). (g : NodeHistory) × Contains hs g × (g.party ≡ z.party)) same (h, is_in hs c h here, refl)
       ];
-      names = woven_push given [] r.xs x r.names names_x;
+      names = woven_push given hs [] r.xs x r.names names_x;
       turns_are = turns_push hs turns r.xs (record { history = c; entry = slice_index places c }) x r.turns_are (record { history = h; here = here; party = refl; entry = at });
       place_each = length-set places c (slice_index places c + 1) ∙ r.place_each;
       newest_each = length-set newest c last ∙ r.newest_each;
@@ -181,7 +183,7 @@ module _ (given : List (List ℕ)) (hs : List NodeHistory) (places newest : List
     }
 
   -- where no history has an entry that can be taken, and one has an entry, they are at a block
-  module _ (apart : AreApart hs) (numbered : AreNumbered hs) where
+  module _ (apart : AreApart hs) (numbered : AreNumberedBehind hs) where
     early_waits : (e : Entry) → IsEarly given hs newest e → WaitsWith given hs places e
     early_waits e early = (
       early.packet,
@@ -248,7 +250,7 @@ pub sender_within : (given : List (List ℕ)) (hs : List NodeHistory) (e : Entry
 sender_within given hs e n (OfPacket q asks g) = got_within hs n.sender g.sender g.here
 sender_within given hs e n (OfNothing none h here nothing) = got_within hs n.sender h here
 
-module _ (given : List (List ℕ)) (hs : List NodeHistory) (places newest : List ℕ) (turns : List Turn) (r : Reached given hs places newest turns) (apart : AreApart hs) (numbered : AreNumbered hs) (c : ℕ) (h : NodeHistory)
+module _ (given : List (List ℕ)) (hs : List NodeHistory) (places newest : List ℕ) (turns : List Turn) (r : Reached given hs places newest turns) (apart : AreApart hs) (numbered : AreNumberedBehind hs) (c : ℕ) (h : NodeHistory)
     (here : slice_get hs c ≡ Some h) (e : Entry) (at : slice_get h.entries.now (slice_index places c) ≡ Some e) (n : Need) (need : IsNeed given hs e n) (ready : n.serial ≤ slice_index newest n.sender) where
   -- as it was read and written
   pub taken_as : (place before serial : ℕ) (after : List Turn) → slice_index places c ≡ place → slice_index newest c ≡ before → serial ≡ serial_in before (slice_get (packets_of e) (length (packets_of e) - 1)) →

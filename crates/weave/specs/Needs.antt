@@ -22,15 +22,15 @@ sent_in h = sent h.entries.now
 abbrev pub IsTable : {A : Type 0} → List NodeHistory → List (Vec (Bor Packet) A) → Type 0
 IsTable hs rows = map row_of rows ≡ map sent_in hs
 
--- the packet stands at that serial
-pub record StandsAt (packets : List Packet) (serial : ℕ) (q : Packet) : Type 0 where
+-- the packet stands at that serial, where the first stands behind that one
+pub record StandsAt (packets : List Packet) (before serial : ℕ) (q : Packet) : Type 0 where
   pub position : ℕ
-  pub serial_is : serial ≡ position + 1
+  pub serial_is : serial ≡ before + (position + 1)
   pub stands : slice_get packets position ≡ Some q
 
 -- no packet stands at that serial
-abbrev pub IsMissing : List Packet → ℕ → Type 0
-IsMissing packets serial = (k : ℕ) → serial ≡ k + 1 → slice_get packets k ≡ None
+abbrev pub IsMissing : List Packet → ℕ → ℕ → Type 0
+IsMissing packets before serial = (k : ℕ) → serial ≡ before + (k + 1) → slice_get packets k ≡ None
 
 -- the packet's sender has this number, and gave it, under its serial
 pub record IsGivenBy (hs : List NodeHistory) (n : Need) (q : Packet) : Type 0 where
@@ -38,12 +38,13 @@ pub record IsGivenBy (hs : List NodeHistory) (n : Need) (q : Packet) : Type 0 wh
   pub here : slice_get hs n.sender ≡ Some sender
   pub same : key sender.party ≡ key q.from
   pub serial_is : n.serial ≡ q.serial
-  pub stands : StandsAt (sent sender.entries.now) q.serial q
+  pub stands : StandsAt (sent sender.entries.now) sender.before q.serial q
 
--- what the entry waits for: the packet that it delivers; or nothing, where it delivers none, or one from a given party
+-- what the entry waits for: the packet that it delivers; or nothing, where it delivers none, or one that is taken as it
+-- came
 pub data IsNeed (given : List (List ℕ)) (hs : List NodeHistory) (e : Entry) (n : Need) : Type 0 where
-  OfPacket : (q : Packet) → Asks given e q → IsGivenBy hs n q → IsNeed given hs e n
-  OfNothing : ((q : Packet) → Asks given e q → ⊥) → (h : NodeHistory) → slice_get hs n.sender ≡ Some h → n.serial ≡ 0 → IsNeed given hs e n
+  OfPacket : (q : Packet) → Asks given hs e q → IsGivenBy hs n q → IsNeed given hs e n
+  OfNothing : ((q : Packet) → Asks given hs e q → ⊥) → (h : NodeHistory) → slice_get hs n.sender ≡ Some h → n.serial ≡ 0 → IsNeed given hs e n
 
 -- what each of these entries waits for
 pub record AreNeeds (given : List (List ℕ)) (hs : List NodeHistory) (es : List Entry) (ns : List Need) : Type 0 where

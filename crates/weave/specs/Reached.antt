@@ -1,5 +1,5 @@
 -- How far histories are woven.
-use Rattle.std.specs.Prelude.{◌≡◌, ◌<◌, ◌≤◌, ℕ, List, [], Option, None, Some, Contains, length, slice_get, slice_index, sum, sum_by, take}
+use Rattle.std.specs.Prelude.{◌≡◌, ◌<◌, ◌≤◌, ◌+◌, ℕ, List, [], Option, None, Some, Contains, length, slice_get, slice_index, sum, sum_by, take}
 use Rattle.ocpi_text.specs.Text.{key}
 use Rattle.ocpi_types.specs.declared.packet.Packet.{Packet}
 use Rattle.histories.specs.declared.entry.Entry.{Entry}
@@ -14,13 +14,13 @@ use Rattle.weave.specs.Turns.{AreTurns}
 pub record IsWovenTo (h : NodeHistory) (place newest : ℕ) (xs : List Woven) : Type 0 where
   pub before : history (key h.party) xs ≡ take place h.entries.now
   pub within : place ≤ length h.entries.now
-  pub newest_is : newest ≡ length (sent (history (key h.party) xs))
+  pub newest_is : newest ≡ h.before + length (sent (history (key h.party) xs))
 
 -- the turns name the entries before these places, woven, and what each history sent last by them has these serials
 pub record Reached (given : List (List ℕ)) (hs : List NodeHistory) (places newest : List ℕ) (turns : List Turn) : Type 0 where
   pub xs : List Woven
   pub nodes : (x : Woven) → Contains xs x → (h : NodeHistory) × Contains hs h × (h.party ≡ x.party)
-  pub names : IsWovenWith given [] xs
+  pub names : IsWovenWith given hs [] xs
   pub turns_are : AreTurns hs turns xs
   pub place_each : length places ≡ length hs
   pub newest_each : length newest ≡ length hs
@@ -32,10 +32,10 @@ abbrev pub serial_in : ℕ → Option Packet → ℕ
 serial_in n None = n
 serial_in n (Some q) = q.serial
 
--- the entry cannot be taken: it delivers what its sender, which is not given, has still to give
+-- the entry cannot be taken: it delivers what its sender has still to give
 pub record IsEarly (given : List (List ℕ)) (hs : List NodeHistory) (newest : List ℕ) (e : Entry) : Type 0 where
   pub packet : Packet
-  pub asks : Asks given e packet
+  pub asks : Asks given hs e packet
   pub number : ℕ
   pub sender : NodeHistory
   pub here : slice_get hs number ≡ Some sender

@@ -33,13 +33,13 @@ IsEarlier i k t = (i < t.history) ⊎ ((i ≡ t.history) × (k < t.entry))
 
 -- what these entries deliver, but from given parties, was sent so
 abbrev pub AreGivenWhere : List (List ℕ) → List NodeHistory → (ℕ → ℕ → Type 0) → Type 0
-AreGivenWhere given hs P = (i k : ℕ) (e : Entry) → P i k → EntryAt hs i k e → (r : Packet) → Asks given e r → IsGiven hs r
+AreGivenWhere given hs P = (i k : ℕ) (e : Entry) → P i k → EntryAt hs i k e → (r : Packet) → Asks given hs e r → IsGiven hs r
 
 -- the turn names an entry that delivers the packet, from no given party; and what earlier entries deliver was sent so
 pub record CameFirst (given : List (List ℕ)) (hs : List NodeHistory) (came : Turn) (q : Packet) : Type 0 where
   pub entry : Entry
   pub at : EntryAt hs came.history came.entry entry
-  pub asks : Asks given entry q
+  pub asks : Asks given hs entry q
   pub before : AreGivenWhere given hs (λ i k. IsEarlier i k came)
 
 -- the turn names the entry of the packet's sender that gave the one of its serial; and that differs
@@ -62,7 +62,7 @@ pub record IsWovenUpTo (given : List (List ℕ)) (hs : List NodeHistory) (places
   pub nodes : (x : Woven) → Contains xs x → (h : NodeHistory) × Contains hs h × (h.party ≡ x.party)
   pub within : (i : ℕ) (h : NodeHistory) → slice_get hs i ≡ Some h → slice_index places i ≤ length h.entries.now
   pub order : (i : ℕ) (h : NodeHistory) → slice_get hs i ≡ Some h → history (key h.party) xs ≡ take (slice_index places i) h.entries.now
-  pub names : IsWovenWith given [] xs
+  pub names : IsWovenWith given hs [] xs
 
 -- each history is advanced to these places in such an order, and none further in any: each next entry waits
 pub record IsEnd (given : List (List ℕ)) (hs : List NodeHistory) (places : List ℕ) : Type 0 where
@@ -87,7 +87,7 @@ pub record IsGivenOtherwise (hs : List NodeHistory) (n : Need) (q : Packet) : Ty
   pub same : key sender.party ≡ key q.from
   pub packet : Packet
   pub serial_is : n.serial ≡ q.serial
-  pub stands : StandsAt (sent_in sender) n.serial packet
+  pub stands : StandsAt (sent_in sender) sender.before n.serial packet
   pub serial : packet.serial ≡ q.serial
   pub apart : packet ≢ q
 
@@ -98,7 +98,7 @@ BlamesPacket hs q (gap.Differs n) = IsGivenOtherwise hs n q
 
 -- of an entry
 abbrev pub Blames : List (List ℕ) → List NodeHistory → Entry → Gap → Type 0
-Blames given hs e g = (q : Packet) × Asks given e q × BlamesPacket hs q g
+Blames given hs e g = (q : Packet) × Asks given hs e q × BlamesPacket hs q g
 
 -- the turn's entry, which stands in the history of that number, delivers the packet; and what entries before it in this
 -- history deliver was sent so
@@ -106,7 +106,7 @@ pub record CameFirstIn (given : List (List ℕ)) (hs : List NodeHistory) (i : �
   pub inside : came.history ≡ i
   pub entry : Entry
   pub at : EntryAt hs came.history came.entry entry
-  pub asks : Asks given entry q
+  pub asks : Asks given hs entry q
   pub before : AreGivenWhere given hs (λ j k. (j ≡ came.history) × (k < came.entry))
 
 -- of a history

@@ -3,6 +3,7 @@
 ghost use Rattle.std.specs.Prelude.{◌≡◌, ◌⊎◌, ◌<◌, [], IfNone, IfSome, Some as SomeOf, length, slice_get};
 ghost use Rattle.histories.specs.declared.entry.Entry.{Entry as EntryOf};
 ghost use Rattle.histories.specs.Entries.{Delivers};
+ghost use Rattle.histories.specs.Weaving.{AreNumbered};
 ghost use Rattle.ocpi_types.specs.declared.packet.Packet.{Packet as PacketOf};
 ghost use Rattle.weave.specs.declared.fault.WeaveFault.TheVariants.{Differs as OfDiffers, Memory, NeverSent as OfNeverSent};
 ghost use Rattle.weave.specs.Faults.{Explains};
@@ -97,7 +98,8 @@ fn packet_of<'a>(histories: &[NodeHistory<'a>], turn: Turn) -> Option<&'a Packet
 
 /// The same, told by packets, where nobody is given.
 pub fn fault_of(histories: &[NodeHistory<'_>], fault: TurnFault) -> WeaveFault
-    requires { ExplainsTurns [] histories.now fault }
+    requires numbered { AreNumbered histories.now }
+    requires told { ExplainsTurns [] histories.now fault }
     ensures { Explains histories.now result }
 {
     match fault {

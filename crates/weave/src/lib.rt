@@ -19,7 +19,7 @@
 #![tactic(auto)]
 
 ghost use Rattle.std.specs.Prelude.{◌≢◌, [], IfErr, IfOk};
-ghost use Rattle.histories.specs.Weaving.{AreApart, AreNumbered, CanInterleave, IsInterleaving};
+ghost use Rattle.histories.specs.Weaving.{AreApart, AreNumbered, AreNumberedBehind, CanInterleave, IsInterleaving};
 ghost use Rattle.weave.specs.declared.fault.WeaveFault.TheVariants.{Memory as OfMemory};
 ghost use Rattle.weave.specs.declared.turn_fault.TurnFault.TheVariants.{Memory as TurnsOfMemory};
 ghost use Rattle.weave.specs.Faults.{Explains};
@@ -40,7 +40,7 @@ pub use fault::WeaveFault;
 use fault::fault_of;
 use histories::NodeHistory;
 use needs::all_needs;
-pub use needs::is_from;
+pub use needs::{is_from, was_before};
 use ocpi_text::Party;
 use ocpi_types::Event;
 use std::alloc::Global;
@@ -55,7 +55,7 @@ fn found_turns(
     given: &[Party],
 ) -> Result<Vec<Turn>, TurnFault>
     requires apart { AreApart histories.now }
-    requires numbered { AreNumbered histories.now }
+    requires numbered { AreNumberedBehind histories.now }
     ensures order { IfOk result (λ turns. IsOrderWith given.now histories.now turns.items) }
     ensures cause { IfErr result (λ f. ExplainsTurns given.now histories.now f) }
 {
@@ -82,7 +82,7 @@ pub fn weave_turns_with(
     given: &[Party],
 ) -> Result<Vec<Turn>, TurnFault>
     requires apart { AreApart histories.now }
-    requires numbered { AreNumbered histories.now }
+    requires numbered { AreNumberedBehind histories.now }
     ensures order { IfOk result (λ turns. IsOrderWith given.now histories.now turns.items) }
     ensures cause { IfErr result (λ f. ExplainsTurns given.now histories.now f) }
     ensures complete { IfErr result (λ f. f ≢ TurnsOfMemory → CanInterleaveWith given.now histories.now → ⊥) }

@@ -7,8 +7,8 @@ ghost use Rattle.ocpi_types.specs.declared.packet.Packet.{Packet as PacketOf};
 ghost use Rattle.histories.specs.declared.entry.Entry.{Entry as EntryOf};
 ghost use Rattle.histories.specs.declared.history.NodeHistory.{NodeHistory as HistoryOf};
 ghost use Rattle.histories.specs.Entries.{Delivers, sent};
-ghost use Rattle.histories.specs.Weaving.{AreApart, AreNumbered};
-ghost use Rattle.weave.specs.Given.{Asks, IsFrom};
+ghost use Rattle.histories.specs.Weaving.{AreApart, AreNumberedBehind};
+ghost use Rattle.weave.specs.Given.{Asks, IsBefore, IsFrom, WasBefore};
 ghost use Rattle.weave.specs.Needs.{AreAllNeeds, AreNeedsAt, IsGivenBy, IsMissing, IsNeed, IsTable, StandsAt, now_of, row_of, sent_in};
 ghost use Rattle.weave.specs.TurnFaults.{Blames, BlamesIn, BlamesPacket, BlamesTurn, ExplainsTurns};
 
@@ -92,15 +92,37 @@ fn sender_of(histories: &[NodeHistory<'_>], party: &Party, guess: usize) -> Opti
     number_of(histories, party)
 }
 
-/// The packet of a row at a serial.
-fn packet_at<'a>(row: &[&'a Packet], serial: u64) -> Option<&'a Packet>
-    ensures found { IfSome result (λ r. StandsAt (now_of row.now) serial r.now) }
-    ensures none { IfNone result (IsMissing (now_of row.now) serial) }
+/// The packet of a row at a serial, where the first of it follows that serial.
+fn packet_at<'a>(row: &[&'a Packet], before: u64, serial: u64) -> Option<&'a Packet>
+    ensures found { IfSome result (λ r. StandsAt (now_of row.now) before serial r.now) }
+    ensures none { IfNone result (IsMissing (now_of row.now) before serial) }
 {
-    if serial == 0 || serial > row.len() as u64 {
+    if serial <= before || serial - before > row.len() as u64 {
         return None;
     }
-    Some(row[serial as usize - 1])
+    Some(row[(serial - before) as usize - 1])
+}
+
+/// Whether the node of a history had sent a packet before that begins.
+fn is_before(history: &NodeHistory<'_>, packet: &Packet) -> bool
+    ensures yes { IsTrue result → IsBefore history.now packet.now }
+    ensures no { result ≡ false → IsBefore history.now packet.now → ⊥ }
+{
+    let serial = packet.serial.value();
+    serial >= 1 && serial <= history.before.value() && history.party.is_same(&packet.from)
+}
+
+/// Whether a packet was sent before the history of its sender begins.
+pub fn was_before(histories: &[NodeHistory<'_>], packet: &Packet) -> bool
+    ensures yes { IsTrue result → WasBefore histories.now packet.now }
+    ensures no { result ≡ false → WasBefore histories.now packet.now → ⊥ }
+{
+    for history in histories {
+        if is_before(history, packet) {
+            return true;
+        }
+    }
+    false
 }
 
 /// That a packet which comes was sent by its sender, whose history has that number.
@@ -112,14 +134,15 @@ fn need_of_sender(
 ) -> Result<Need, Gap>
     requires table { IsTable histories.now table.now }
     requires apart { AreApart histories.now }
-    requires numbered { AreNumbered histories.now }
+    requires numbered { AreNumberedBehind histories.now }
     requires in_range { sender < length table.now }
     requires sender { (h : HistoryOf) × (slice_get histories.now sender ≡ SomeOf h) × (key h.party ≡ key packet.now.from) }
     ensures need { IfOk result (λ n. IsGivenBy histories.now n packet.now) }
     ensures gap { IfErr result (λ g. BlamesPacket histories.now packet.now g) }
 {
     let serial = packet.serial.value();
-    match packet_at(table[sender].as_slice(), serial) {
+    let before = histories[sender].before.value();
+    match packet_at(table[sender].as_slice(), before, serial) {
         None => Err(Gap::NeverSent),
         Some(given) => {
             if is_equal_packet(given, packet) {
@@ -140,7 +163,7 @@ fn need_of_packet(
 ) -> Result<Need, Gap>
     requires table { IsTable histories.now table.now }
     requires apart { AreApart histories.now }
-    requires numbered { AreNumbered histories.now }
+    requires numbered { AreNumberedBehind histories.now }
     ensures need { IfOk result (λ n. IsGivenBy histories.now n packet.now) }
     ensures gap { IfErr result (λ g. BlamesPacket histories.now packet.now g) }
 {
@@ -181,14 +204,14 @@ pub fn delivered(entry: &Entry) -> Option<&Packet>
     }
 }
 
-/// The packet that an entry delivers, where it is from no given party.
-fn asked<'a>(given: &[Party], entry: &'a Entry) -> Option<&'a Packet>
-    ensures found { IfSome result (λ q. Asks given.now entry.now q.now) }
-    ensures none { IfNone result ((q : PacketOf) → Asks given.now entry.now q → ⊥) }
+/// The packet that an entry delivers, where it is from no given party, and was not sent before.
+fn asked<'a>(histories: &[NodeHistory<'_>], given: &[Party], entry: &'a Entry) -> Option<&'a Packet>
+    ensures found { IfSome result (λ q. Asks given.now histories.now entry.now q.now) }
+    ensures none { IfNone result ((q : PacketOf) → Asks given.now histories.now entry.now q → ⊥) }
 {
     match delivered(entry) {
         Some(packet) => {
-            if is_from(given, packet) {
+            if is_from(given, packet) || was_before(histories, packet) {
                 None
             } else {
                 Some(packet)
@@ -209,12 +232,12 @@ fn need_of(
 ) -> Result<Need, Gap>
     requires table { IsTable histories.now table.now }
     requires apart { AreApart histories.now }
-    requires numbered { AreNumbered histories.now }
+    requires numbered { AreNumberedBehind histories.now }
     requires in_range { number < length histories.now }
     ensures need { IfOk result (λ n. IsNeed given.now histories.now entry.now n) }
     ensures gap { IfErr result (λ g. Blames given.now histories.now entry.now g) }
 {
-    match asked(given, entry) {
+    match asked(histories, given, entry) {
         Some(packet) => need_of_packet(histories, table, packet, guess),
         None => Ok(Need {
             sender: number,
@@ -250,7 +273,10 @@ fn gap_fault(histories: &[NodeHistory<'_>], came: Turn, gap: Gap) -> TurnFault
             let entries = histories[need.sender].entries;
             let sent_by = Turn {
                 history: need.sender,
-                entry: sending_entry(entries, need.serial as usize - 1),
+                entry: sending_entry(
+                    entries,
+                    (need.serial - histories[need.sender].before.value()) as usize - 1,
+                ),
             };
             TurnFault::Differs(came, sent_by)
         }
@@ -268,7 +294,7 @@ fn needs_of(
 ) -> Result<Vec<Need>, TurnFault>
     requires table { IsTable histories.now table.now }
     requires apart { AreApart histories.now }
-    requires numbered { AreNumbered histories.now }
+    requires numbered { AreNumberedBehind histories.now }
     requires in_range { number < length histories.now }
     requires entries { (h : HistoryOf) × (slice_get histories.now number ≡ SomeOf h) × (h.entries.now ≡ entries.now) }
     ensures needs { IfOk result (λ v. AreNeedsAt given.now histories.now number v) }
@@ -304,7 +330,7 @@ fn needs_over(
 ) -> Result<Vec<Vec<Need>>, TurnFault>
     requires table { IsTable histories.now table.now }
     requires apart { AreApart histories.now }
-    requires numbered { AreNumbered histories.now }
+    requires numbered { AreNumberedBehind histories.now }
     ensures needs { IfOk result (λ rows. AreAllNeeds given.now histories.now (length histories.now) rows.items) }
     ensures fault { IfErr result (λ f. ExplainsTurns given.now histories.now f) }
 {
@@ -325,7 +351,7 @@ pub fn all_needs(
     given: &[Party],
 ) -> Result<Vec<Vec<Need>>, TurnFault>
     requires apart { AreApart histories.now }
-    requires numbered { AreNumbered histories.now }
+    requires numbered { AreNumberedBehind histories.now }
     ensures needs { IfOk result (λ rows. AreAllNeeds given.now histories.now (length histories.now) rows.items) }
     ensures fault { IfErr result (λ f. ExplainsTurns given.now histories.now f) }
 {

@@ -1,10 +1,11 @@
 //! The weaving of histories: entries are placed while some history has one that can be placed.
 
-ghost use Rattle.std.specs.Prelude.{◌≡◌, ◌+◌, ◌<◌, ◌≤◌, ◌-◌, ℕ, IfErr, IfOk, List, OnOk, Some as SomeOf, length, slice_get};
+ghost use Rattle.std.specs.Prelude.{◌≡◌, ◌+◌, ◌<◌, ◌≤◌, ◌-◌, ℕ, IfErr, IfOk, List, OnOk, Some as SomeOf, length, map, slice_get};
 ghost use Rattle.std.specs.Bool.{OnFalse, OnTrue};
 ghost use Rattle.histories.specs.declared.entry.Entry.{Entry as EntryOf};
+ghost use Rattle.histories.specs.declared.history.NodeHistory.{NodeHistory as HistoryOf};
 ghost use Rattle.histories.specs.Causes.{HasMore};
-ghost use Rattle.histories.specs.Weaving.{AreApart, AreNumbered};
+ghost use Rattle.histories.specs.Weaving.{AreApart, AreNumberedBehind};
 ghost use Rattle.weave.specs.Needs.{AreAllNeeds};
 ghost use Rattle.weave.specs.Progress.{AllStuck, AreDone, AreFirst, IsReached, IsStuckAt, IsUnderWay};
 ghost use Rattle.weave.specs.Reached.{serial_in};
@@ -26,7 +27,7 @@ pub struct Weaving {
     places: Vec<usize>,
     /// For each history, what its next entry waits for, where it has one.
     waits: Vec<Option<Need>>,
-    /// For each history, the serial of the last packet that these sent, or 0.
+    /// For each history, the serial of the last packet that these sent, or that it had sent before.
     newest: Vec<u64>,
     turns: Vec<Turn>,
 }
@@ -53,6 +54,17 @@ fn first_waits(alloc: Global, needs: &[Vec<Need>]) -> Result<Vec<Option<Need>>, 
     Ok(waits)
 }
 
+/// For each history, the serial of the last packet that was sent before it begins.
+fn serials_before(alloc: Global, histories: &[NodeHistory<'_>]) -> Result<Vec<u64>, AllocError>
+    ensures { IfOk result (λ v. v.items ≡ map (λ (h : HistoryOf). h.before) histories.now) }
+{
+    let mut serials = Vec::new(alloc);
+    for history in histories {
+        serials.push(history.before.value())?;
+    }
+    Ok(serials)
+}
+
 /// No entry is placed.
 fn start(
     alloc: Global,
@@ -64,7 +76,7 @@ fn start(
     ensures { IfOk result (λ w. IsUnderWay _given.now histories.now needs.now w) }
 {
     let places = vec![in alloc; 0; histories.len()]?;
-    let newest = vec![in alloc; 0; histories.len()]?;
+    let newest = serials_before(alloc, histories)?;
     let waits = first_waits(alloc, needs)?;
     Ok(Weaving {
         places,
@@ -102,7 +114,7 @@ fn take_entry(
 ) -> Result<bool, AllocError>
     requires in_range { i < length histories.now }
     requires apart { AreApart histories.now }
-    requires numbered { AreNumbered histories.now }
+    requires numbered { AreNumberedBehind histories.now }
     requires needs { AreAllNeeds _given.now histories.now (length histories.now) needs.now }
     requires under_way { IsUnderWay _given.now histories.now needs.now weaving.old }
     ensures under_way { OnOk result (IsUnderWay _given.now histories.now needs.now weaving.new) }
@@ -136,7 +148,7 @@ fn sweep(
     weaving: &mut Weaving,
 ) -> Result<bool, AllocError>
     requires apart { AreApart histories.now }
-    requires numbered { AreNumbered histories.now }
+    requires numbered { AreNumberedBehind histories.now }
     requires needs { AreAllNeeds given.now histories.now (length histories.now) needs.now }
     requires under_way { IsUnderWay given.now histories.now needs.now weaving.old }
     ensures under_way { OnOk result (IsUnderWay given.now histories.now needs.now weaving.new) }
@@ -174,7 +186,7 @@ pub fn order(
     needs: &[Vec<Need>],
 ) -> Result<Vec<Turn>, TurnFault>
     requires apart { AreApart histories.now }
-    requires numbered { AreNumbered histories.now }
+    requires numbered { AreNumberedBehind histories.now }
     requires needs { AreAllNeeds given.now histories.now (length histories.now) needs.now }
     ensures order { IfOk result (λ turns. IsOrderWith given.now histories.now turns.items) }
     ensures fault { IfErr result (λ f. ExplainsTurns given.now histories.now f) }

@@ -1,6 +1,10 @@
 mod GivenLemmas
+mod RefusalLemmas
+mod LifeLemmas
+mod NumberLemmas
+mod WorldLemmas
+mod SourceLemmas
 mod ToldLemmas
 mod RunLemmas
 mod StepLemmas
-mod RefusalLemmas
 mod OutputLemmas

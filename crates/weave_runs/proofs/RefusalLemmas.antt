@@ -9,7 +9,7 @@ use Rattle.histories.proofs.Lists.{some_same}
 use Rattle.ocpi_types.specs.declared.packet.Packet.{Packet}
 use Rattle.histories.specs.declared.entry.Entry.{Entry}
 use Rattle.histories.specs.Entries.{Delivers}
-use Rattle.transcripts.specs.Told.{Told}
+use Rattle.replays.specs.Transcripts.{Transcript}
 use Rattle.weave.specs.declared.turn.Turn.{Turn}
 use Rattle.weave_runs.specs.declared.told.TranscriptFile.{TranscriptFile}
 use Rattle.weave_runs.specs.Refusals.{DeliversAt, IsLineOf, front_places, mark_of, marked, next_number, place_list, place_text, spelled}
@@ -33,7 +33,7 @@ module _ (nodes : List Node) (party : List ℕ) (i : ℕ) (n : Node) (at : slice
 
 -- ---- the next lines of files
 
-module _ (files : List TranscriptFile) (told : List Told) (front : List ℕ) (i : ℕ) (f : TranscriptFile) (t : Told) (place : ℕ)
+module _ (files : List TranscriptFile) (told : List Transcript) (front : List ℕ) (i : ℕ) (f : TranscriptFile) (t : Transcript) (place : ℕ)
     (file_at : slice_get files i ≡ Some f) (told_at : slice_get told i ≡ Some t) (place_at : slice_get front i ≡ Some place) where
   places_on : front_places (drop i files) (drop i told) (drop i front)
       ≡ place_list f.name.now (next_number t place) ++ front_places (drop (i + 1) files) (drop (i + 1) told) (drop (i + 1) front)
@@ -74,18 +74,18 @@ nothing_there o x none some = none_some (sym none ∙ some)
     none_some : None ≡ Some x → ⊥
     none_some e = cc
 
-module _ (told : List Told) (t : Turn) where
+module _ (told : List Transcript) (t : Turn) where
   pub no_teller : slice_get told t.history ≡ None → (q : Packet) → DeliversAt told t q → ⊥
   no_teller none q d = nothing_there (slice_get told t.history) d.teller_of none d.here
 
-  module _ (u : Told) (here : slice_get told t.history ≡ Some u) where
-    entry_of : (q : Packet) (d : DeliversAt told t q) → slice_get u.replay.entries t.entry ≡ Some d.entry
-    entry_of q d = ap (λ (v : Told). slice_get v.replay.entries t.entry) (some_same u d.teller_of (sym here ∙ d.here)) ∙ d.stands
+  module _ (u : Transcript) (here : slice_get told t.history ≡ Some u) where
+    entry_of : (q : Packet) (d : DeliversAt told t q) → slice_get u.entries t.entry ≡ Some d.entry
+    entry_of q d = ap (λ (v : Transcript). slice_get v.entries t.entry) (some_same u d.teller_of (sym here ∙ d.here)) ∙ d.stands
 
-    pub no_entry : slice_get u.replay.entries t.entry ≡ None → (q : Packet) → DeliversAt told t q → ⊥
-    no_entry none q d = nothing_there (slice_get u.replay.entries t.entry) d.entry none (entry_of q d)
+    pub no_entry : slice_get u.entries t.entry ≡ None → (q : Packet) → DeliversAt told t q → ⊥
+    no_entry none q d = nothing_there (slice_get u.entries t.entry) d.entry none (entry_of q d)
 
-    module _ (e : Entry) (stands : slice_get u.replay.entries t.entry ≡ Some e) where
+    module _ (e : Entry) (stands : slice_get u.entries t.entry ≡ Some e) where
       pub delivers_at : (q : Packet) → Delivers e q → DeliversAt told t q
       delivers_at q delivers = record { teller_of = u; here = here; entry = e; stands = stands; delivers = delivers }
 
@@ -95,7 +95,7 @@ module _ (told : List Told) (t : Turn) where
     module _ (files : List TranscriptFile) where
       pub no_line : next_number u t.entry ≡ None → (name : List ℕ) (line : ℕ) → IsLineOf files told t name line → ⊥
       no_line none name line is =
-          nothing_there (next_number u t.entry) line none (ap (λ (v : Told). next_number v t.entry) (some_same u is.teller_of (sym here ∙ is.here)) ∙ is.line_is)
+          nothing_there (next_number u t.entry) line none (ap (λ (v : Transcript). next_number v t.entry) (some_same u is.teller_of (sym here ∙ is.here)) ∙ is.line_is)
 
       pub line_of : (f : TranscriptFile) (line : ℕ) → slice_get files t.history ≡ Some f → next_number u t.entry ≡ Some line → IsLineOf files told t f.name.now line
       line_of f line at is = record { file = f; of_file = at; name_is = refl; teller_of = u; here = here; line_is = is }

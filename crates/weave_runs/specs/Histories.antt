@@ -1,44 +1,48 @@
--- Transcripts of nodes of one setup, and their histories.
-use Rattle.std.specs.Prelude.{◌≡◌, ℕ, List, Some, Contains, length, map, slice_get, take}
+-- Transcripts of different parties, and their histories.
+use Rattle.std.specs.Borrow.{Bor}
+use Rattle.std.specs.Prelude.{◌≡◌, ℕ, List, [], ◌∷◌, Option, None, Some, Contains, length, map, slice_get, take}
 use Rattle.ocpi_text.specs.Text.{key}
-use Rattle.ocpi_types.specs.Setups.{party_of}
-use Rattle.ocpi_types.specs.declared.setup.Node.{Node}
 use Rattle.histories.specs.declared.entry.Entry.{Entry}
 use Rattle.histories.specs.declared.history.NodeHistory.{NodeHistory}
-use Rattle.transcripts.specs.Following.{IsTranscriptOf}
-use Rattle.transcripts.specs.Told.{IsTold, Told}
+use Rattle.replays.specs.LineTurns.{Store, nothing_held}
+use Rattle.replays.specs.Transcripts.{IsTranscript, IsTranscriptOf, Transcript, teller}
+use Rattle.replays.specs.declared.transcript.Opening.{Opening}
+use Rattle.weave_runs.specs.declared.told.StoreRows.{StoreRows}
 use Rattle.weave_runs.specs.declared.told.TranscriptFile.{TranscriptFile}
-use Rattle.world_steps.specs.World.{NodeState}
 
--- whose node it is
-abbrev pub teller : Told → List ℕ
-teller t = party_of t.replay.member
+-- no two are of one party
+pub record AreTold (told : List Transcript) : Type 0 where
+  pub each : (t : Transcript) → Contains told t → IsTranscript t
+  pub apart : (i j : ℕ) (t u : Transcript) → slice_get told i ≡ Some t → slice_get told j ≡ Some u → key (teller t) ≡ key (teller u) → i ≡ j
 
--- the state in which its entries left the node
-abbrev pub state_told : Told → NodeState
-state_told t = t.replay.state
+-- what the store of a file had before it: nothing, where none is named
+abbrev pub start_of : Option (Bor StoreRows) → Store
+start_of None = nothing_held
+start_of (Some s) = record { rows = s.now.rows.items; line = s.now.line }
 
--- each tells of a node of the setup, no two of one node
-pub record AreToldOf (setup : List Node) (told : List Told) : Type 0 where
-  pub each : (t : Told) → Contains told t → IsTold t × (t.replay.setup ≡ setup)
-  pub apart : (i j : ℕ) (t u : Told) → slice_get told i ≡ Some t → slice_get told j ≡ Some u → key (teller t) ≡ key (teller u) → i ≡ j
-
--- each file is the transcript of a node of the setup, which no file before has: it tells just that
-pub record AreTranscripts (setup : List Node) (files : List TranscriptFile) (told : List Told) : Type 0 where
+-- each file is the transcript of a node, over what its store had, of a party that no file before has
+pub record AreTranscripts (files : List TranscriptFile) (told : List Transcript) : Type 0 where
   pub size : length told ≡ length files
-  pub each : (i : ℕ) (f : TranscriptFile) (t : Told) → slice_get files i ≡ Some f → slice_get told i ≡ Some t → IsTranscriptOf setup (take i told) f.text.now t
+  pub each : (i : ℕ) (f : TranscriptFile) (t : Transcript) → slice_get files i ≡ Some f → slice_get told i ≡ Some t
+      → IsTranscriptOf (map teller (take i told)) (start_of f.store) f.text.now t
 
 -- what a history has, whoever holds its entries
 pub record Lived : Type 0 where
   pub party : List ℕ
+  pub before : ℕ
   pub entries : List Entry
 
 abbrev pub lived : NodeHistory → Lived
-lived h = record { party = h.party; entries = h.entries.now }
+lived h = record { party = h.party; before = h.before; entries = h.entries.now }
 
-abbrev pub lived_told : Told → Lived
-lived_told t = record { party = teller t; entries = t.replay.entries }
+-- the serial of the last packet that the node had sent as its first run was opened
+abbrev pub serial_before : List Opening → ℕ
+serial_before [] = 0
+serial_before (x ∷ xs) = x.serial
+
+abbrev pub lived_told : Transcript → Lived
+lived_told t = record { party = teller t; before = serial_before t.openings; entries = t.entries }
 
 -- the histories are those that are told, in their order
-abbrev pub AreHistories : List NodeHistory → List Told → Type 0
+abbrev pub AreHistories : List NodeHistory → List Transcript → Type 0
 AreHistories hs told = map lived hs ≡ map lived_told told

@@ -1,14 +1,16 @@
 //! The parties whose packets are taken as they came.
 
 ghost use Rattle.std.specs.Prelude.{Contains, IfErr, IfNone, IfOk, IfSome, IsTrue, false, ◌≡◌};
+ghost use Rattle.ocpi_types.specs.Setups.{party_of};
 ghost use Rattle.ocpi_types.specs.declared.setup.Node.{Node as NodeOf};
-ghost use Rattle.weave_runs.specs.Parties.{AreGiven, HasFile, IfWrong, IsGiven, IsWrong, NamesNode};
+ghost use Rattle.replays.specs.declared.transcript.Opening.{Opening as OpeningOf};
+ghost use Rattle.weave_runs.specs.Parties.{AreGiven, HasFile, HasNoNode, HasNode, IfWrong, IsGiven, IsSpelledBy, IsWrong, NamesNode};
 
 use crate::fault::GivenFault;
 use ocpi_text::Party;
 use ocpi_types::Node;
+use replays::{Opening, Transcript};
 use std::alloc::Global;
-use transcripts::Transcript;
 
 /// Why there are no parties.
 #[derive(Clone, Copy)]
@@ -17,18 +19,43 @@ pub(crate) enum NotGiven<'a> {
     Memory,
 }
 
-/// The node of a setup that a word names.
-fn node_named<'a>(nodes: &'a [Node], word: &str) -> Option<&'a Node>
-    ensures within { IfSome result (λ n. Contains nodes.now n.now) }
-    ensures some { IfSome result (λ n. NamesNode word.now n.now) }
-    ensures none { IfNone result ((n : NodeOf) → Contains nodes.now n → NamesNode word.now n → ⊥) }
+/// That party, as a setup spells it.
+fn party_named(nodes: &[Node], party: &Party) -> Option<Party>
+    ensures some { IfSome result (IsSpelledBy nodes.now party.now) }
+    ensures none { IfNone result (HasNoNode nodes.now party.now) }
+{
+    for node in nodes {
+        if node.party().is_same(party) {
+            return Some(*node.party());
+        }
+    }
+    None
+}
+
+/// That party, as the first of the setups of these runs spells it that has it.
+fn party_opened(openings: &[Opening<'_>], party: &Party) -> Option<Party>
+    ensures some { IfSome result (λ p. (x : OpeningOf) × Contains openings.now x × IsSpelledBy x.setup party.now p) }
+    ensures none { IfNone result ((x : OpeningOf) → Contains openings.now x → HasNoNode x.setup party.now) }
+{
+    for opening in openings {
+        if let Some(spelled) = party_named(opening.nodes(), party) {
+            return Some(spelled);
+        }
+    }
+    None
+}
+
+/// The party that a word names, as the first of the setups of the runs spells it that has it.
+fn party_of_word(transcripts: &[Transcript<'_>], word: &str) -> Option<Party>
+    ensures some { IfSome result (λ p. (n : NodeOf) × HasNode transcripts.now n × NamesNode word.now n × (p ≡ party_of n)) }
+    ensures none { IfNone result ((n : NodeOf) → HasNode transcripts.now n → NamesNode word.now n → ⊥) }
 {
     let Ok(party) = Party::read(word) else {
         return None;
     };
-    for node in nodes {
-        if node.party().is_same(&party) {
-            return Some(node);
+    for transcript in transcripts {
+        if let Some(spelled) = party_opened(transcript.openings(), &party) {
+            return Some(spelled);
         }
     }
     None
@@ -47,39 +74,33 @@ fn has_file(transcripts: &[Transcript<'_>], party: &Party) -> bool
     false
 }
 
-/// The party that a word names, as the setup spells it.
-fn given_party<'a>(
-    nodes: &[Node],
-    transcripts: &[Transcript<'_>],
-    word: &'a str,
-) -> Result<Party, GivenFault<'a>>
-    ensures given { IfOk result (λ party. IsGiven nodes.now transcripts.now word.now party) }
-    ensures wrong { IfErr result (λ fault. IsWrong nodes.now transcripts.now word.now fault) }
+/// The party that a word names, as a setup spells it.
+fn given_party<'a>(transcripts: &[Transcript<'_>], word: &'a str) -> Result<Party, GivenFault<'a>>
+    ensures given { IfOk result (λ party. IsGiven transcripts.now word.now party) }
+    ensures wrong { IfErr result (λ fault. IsWrong transcripts.now word.now fault) }
 {
-    let Some(node) = node_named(nodes, word) else {
+    let Some(party) = party_of_word(transcripts, word) else {
         return Err(GivenFault::Unknown(word));
     };
-    let party = node.party();
-    if has_file(transcripts, party) {
+    if has_file(transcripts, &party) {
         return Err(GivenFault::HasFile(word));
     }
-    Ok(*party)
+    Ok(party)
 }
 
-/// The parties that words name, in their order, as the setup spells them; or why one of them is none whose packets can
-/// be taken as they came.
+/// The parties that words name, in their order, as a setup spells them; or why one of them is none whose packets can be
+/// taken as they came.
 pub(crate) fn given_parties<'a>(
     alloc: Global,
-    nodes: &[Node],
     transcripts: &[Transcript<'_>],
     words: &[&'a str],
 ) -> Result<Vec<Party>, NotGiven<'a>>
-    ensures given { IfOk result (λ parties. AreGiven nodes.now transcripts.now words.now parties.items) }
-    ensures wrong { IfErr result (IfWrong nodes.now transcripts.now words.now) }
+    ensures given { IfOk result (λ parties. AreGiven transcripts.now words.now parties.items) }
+    ensures wrong { IfErr result (IfWrong transcripts.now words.now) }
 {
     let mut parties = Vec::new(alloc);
     for word in words {
-        let party = match given_party(nodes, transcripts, *word) {
+        let party = match given_party(transcripts, *word) {
             Ok(party) => party,
             Err(fault) => return Err(NotGiven::Wrong(fault)),
         };

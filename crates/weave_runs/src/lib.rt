@@ -9,39 +9,38 @@
 //!
 //! The program `weave`.
 //!
-//! - What it writes of a run is a line that reads as the setup, and a line for each entry of the files' histories.
-//!   These are an interleaving, in which what given parties sent is taken as it came. By `run_weave`: `ok`
-//!   (`IsWovenText` of `specs/Outputs`).
-//! - Where nothing came from a given party, so with the files of all, the events of the lines are a legal run of the
-//!   setup's world. It ends with each node as its history left it, and with all that this sent. By the same
-//!   (`IsWoven`).
-//! - Each file's history is what the whole file tells. By the same (`AreTranscripts`).
+//! - What it writes of a run has a line for each entry of the files' histories. These are an interleaving, in which what
+//!   given parties sent is taken as it came, and so is what a sender had sent before its file. By `run_weave`: `ok`
+//!   (`IsWoven` of `specs/Outputs`).
+//! - Where all runs have one setup and no file begins with rows, the setup line stands in front, as in input of `play`.
+//!   Else each file's opening does, and each setup line before the entries of its node. By the same (`HasLines`).
+//! - Where that is so, and nothing came from a given party, the events of the lines are a legal run of the setup's
+//!   world. It ends with each node as its history left it, and with all that this sent. By the same (`IsWoven`).
+//! - Each file's history is what runs of its node printed, over no rows or over those of its store. By the same
+//!   (`AreTranscripts`).
 //! - A line that came is read as its entry's event. Deliveries and restarts between runs are written as defined, and
-//!   are read as those events where they are no longer than a line may be. A delivery from a given party is the line
-//!   that came, with its packet. By the same (`IsStep` of `specs/Steps`).
-//! - The given parties are nodes of the setup without a file. Where one is not, the fault says so of its word, no file
-//!   is refused, and nothing is written. By `run_weave`: `ok`, `err` (`AreGiven`, `IsWrongAmong` of `specs/Parties`).
+//!   are read as those events where they are no longer than a line may be. A delivery that is taken as it came is the
+//!   line that came, with its packet. By the same (`IsStep` of `specs/Steps`).
+//! - The given parties are nodes of some run's setup, without a file. Where one is not, the fault says so of its word,
+//!   no file is refused, and nothing is written. By `run_weave`: `ok`, `err` (`AreGiven`, `IsWrongAmong` of
+//!   `specs/Parties`).
 //! - `NeverSent`, `Differs` and `NoOrder` are told only where these histories have no interleaving. The first two name
 //!   the packet that comes by an entry and the line of that; `Differs` also the line for which the sender sent another.
 //!   By `run_weave`: `ok` (`HaveNoRun`; `TellsFault` of `specs/Refusals`).
-//! - That packet is the first, by files and their lines, that came from no given party and was not sent so. By the same
+//! - That packet is the first, by files and their lines, that is not taken as it came and was not sent so. By the same
 //!   (`ExplainsTurns` of `weave/specs/TurnFaults`).
 //! - The lines of `NoOrder` are those at which the order comes to its end, and not another block. By the same
 //!   (`IsEnd`).
-//! - A refusal of a file names one behind transcripts of nodes of the setup with which the first file begins; or the
-//!   first. By `run_weave`: `ok` (`RefusesFile` of `specs/Accusations`).
-//! - Where that is `NotARun` or `WrongTranscript`, no history that leaves its node no choice has the file for its
-//!   transcript; and where the first file has no beginning, none of any setup has. By the same (`AccusesRightly` of
-//!   `transcripts/specs/Accusing`; `HasNoBeginning`).
-//! - Where it is `TooManyWays`, more than 64 histories fit that file up to the line that is named. It is never told of
-//!   a first file that has no beginning. By the same (`TooManyFit` of `transcripts/specs/Ways`; `HasNoBeginning`).
+//! - A refusal of a file names one behind transcripts of other parties. No runs of a node of yet another party printed
+//!   it, or none of them was opened; and some runs printed all in front of the line that is named. Asked of the rows of
+//!   its store, where one is given, is that each request has a url of its own. By `run_weave`: `ok` (`RefusesFile` of
+//!   `specs/Accusations`).
 //! - Where writing fails, a beginning of that is written. By `run_weave`: `err`.
-//! - Which line `NotARun` or `WrongTranscript` names, and which of the two it is. No clause says so (tested by the
-//!   examples).
+//! - Which of the refusals of a file it is. No clause says so (tested by the examples).
 //! - No files give nothing, and nothing else does. By `run_weave`: `ok` (`IsRunText`).
 //! - Nothing is written before all of it is made. No clause says so (tested by the examples).
-//! - What standard error says beside a refusal is so: who has no file, and which member differs first. No clause says
-//!   so (tested by the examples).
+//! - What standard error says beside a refusal is so: who has no file, which member differs first, and what a node
+//!   would have printed. No clause says so (tested by the examples).
 #![tactic(auto)]
 
 ghost use Rattle.std.specs.Prelude.{◌≡◌, IfErr, IfOk, List, ℕ, string_bytes, take};
@@ -63,7 +62,7 @@ use refusal::MEMORY_LINE;
 use std::alloc::Global;
 use std::io::Write;
 use tables::HashSeed;
-pub use told::TranscriptFile;
+pub use told::{StoreRows, TranscriptFile};
 use weaving::{Refusal, Written, weave_files};
 
 /// Writes all of these bytes, and has the writer pass them on.
@@ -96,14 +95,15 @@ fn write_refusal<'a, W: Write>(
     write_all(writer, refusal.line.as_bytes(), Ran::WithRefusals)
 }
 
-/// Weaves transcripts of nodes of one setup, in the order of the files, and writes the run as input of `play`, or one
-/// line with the refusal. No files give nothing. What the parties sent that `given` names, in whichever case, is taken
-/// as it came: they have no files. Where one of them is none of the setup, or has a file, nothing is written.
+/// Weaves transcripts of nodes, in the order of the files, and writes the run, or one line with the refusal. No files
+/// give nothing. What the parties sent that `given` names, in whichever case, is taken as it came: they have no files.
+/// Where no run's setup has one of them, or it has a file, nothing is written.
 ///
-/// The run is an interleaving of the histories of the files. Where nothing came from a given party, it is a legal run
-/// of their setup's world from its opening, which ends with each node as its history left it. So the nodes are safe,
-/// what is acknowledged is held, and answers agree. Where packets came that were never sent, or were sent otherwise, or
-/// there is no order, the line says so, and these histories have no interleaving.
+/// The run is an interleaving of the histories of the files. Where all runs have one setup and no file begins with
+/// rows, it is input of `play`; and where nothing came from a given party it is a legal run of the setup's world from
+/// its opening, which ends with each node as its history left it. So the nodes are safe, what is acknowledged is held,
+/// and answers agree. Where packets came that were never sent, or were sent otherwise, or there is no order, the line
+/// says so, and these histories have no interleaving.
 ///
 /// All of it is made before anything is written. Where writing fails, a beginning of it is written. What is said beside
 /// a refusal, if anything, is added to `words`.

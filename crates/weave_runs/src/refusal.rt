@@ -14,6 +14,7 @@ ghost use Rattle.weave_runs.specs.Refusals.{
   memory_line,
   never_sent_line,
   next_number,
+  nodes_at,
   place_line,
   place_text,
   spelled,
@@ -25,16 +26,15 @@ use crate::written::delivered_by;
 use json_text::is_same_party;
 use ocpi_text::Party;
 use ocpi_types::{Node, Packet};
+use replays::{ReplayFault, Transcript};
 use std::alloc::{AllocError, Global};
-use transcript_parts::TranscriptFault;
-use transcripts::{Source, Transcript};
 use weave::{Turn, TurnFault};
 
 /// What is told where memory ran out.
 pub(crate) const MEMORY_LINE: &str = "refused 4 Memory\n";
 
 /// A party as a setup spells it, where that has it.
-fn spelling<'a>(nodes: &'a [Node], party: &'a Party) -> &'a Party
+pub(crate) fn spelling<'a>(nodes: &'a [Node], party: &'a Party) -> &'a Party
     ensures { result.now ≡ spelled nodes.now party.now }
 {
     for node in nodes {
@@ -73,15 +73,16 @@ fn memory_refusal(alloc: Global) -> Result<String, AllocError>
 pub(crate) fn file_refusal(
     alloc: Global,
     name: &str,
-    fault: TranscriptFault,
+    fault: ReplayFault,
 ) -> Result<String, AllocError>
     ensures { IfOk result (λ s. string_bytes s ≡ transcript_line name.now fault) }
 {
     match fault {
-        TranscriptFault::Wrong(line) => place_refusal(alloc, "6 WrongTranscript", name, line),
-        TranscriptFault::NotARun(line) => place_refusal(alloc, "5 NotARun", name, line),
-        TranscriptFault::TooManyWays(line) => place_refusal(alloc, "7 TooManyWays", name, line),
-        TranscriptFault::Memory => memory_refusal(alloc),
+        ReplayFault::NotARun(line) => place_refusal(alloc, "5 NotARun", name, line),
+        ReplayFault::Wrong(line) => place_refusal(alloc, "6 WrongTranscript", name, line),
+        ReplayFault::BegunLater(line) => place_refusal(alloc, "8 BegunLater", name, line),
+        ReplayFault::LinesMissing(line) => place_refusal(alloc, "9 LinesMissing", name, line),
+        ReplayFault::Memory => memory_refusal(alloc),
     }
 }
 
@@ -90,8 +91,10 @@ fn next_line(transcript: &Transcript<'_>, place: usize) -> Option<usize>
     ensures { result ≡ next_number transcript.now place }
 {
     match transcript.sources().get(place) {
-        Some(Source::Echoed(line)) => Some(line.number),
-        Some(Source::Restarted) => None,
+        Some(source) => match source.line() {
+            Some(line) => Some(line.number),
+            None => None,
+        },
         None => None,
     }
 }
@@ -176,6 +179,22 @@ pub(crate) fn place_of<'a>(
     }
 }
 
+/// The nodes of the setup of the run in which the entry of a turn came.
+pub(crate) fn nodes_at<'a>(transcripts: &'a [Transcript<'_>], turn: Turn) -> &'a [Node]
+    ensures { result.now ≡ nodes_at transcripts.now turn }
+{
+    let Some(transcript) = transcripts.get(turn.history) else {
+        return &[];
+    };
+    let Some(source) = transcript.sources().get(turn.entry) else {
+        return &[];
+    };
+    match transcript.openings().get(source.opening()) {
+        Some(opening) => opening.nodes(),
+        None => &[],
+    }
+}
+
 /// The line that tells that a packet came which was never sent. An error is want of memory.
 fn never_sent_line(
     alloc: Global,
@@ -227,17 +246,17 @@ fn differs_line(
 /// The line of a refusal by an entry that delivers a packet which was never sent. An error is want of memory.
 fn never_sent_refusal(
     alloc: Global,
-    nodes: &[Node],
     files: &[TranscriptFile<'_>],
     transcripts: &[Transcript<'_>],
     came: Turn,
 ) -> Result<String, AllocError>
     requires { CanTell files.now transcripts.now (OfNeverSent came) }
-    ensures { IfOk result (λ s. TellsFault nodes.now files.now transcripts.now (OfNeverSent came) (string_bytes s)) }
+    ensures { IfOk result (λ s. TellsFault files.now transcripts.now (OfNeverSent came) (string_bytes s)) }
 {
     let Some(packet) = packet_at(transcripts, came) else {
         return memory_refusal(alloc);
     };
+    let nodes = nodes_at(transcripts, came);
     match place_of(files, transcripts, came) {
         Some(place) => never_sent_line(alloc, nodes, packet, place),
         None => memory_refusal(alloc),
@@ -247,14 +266,13 @@ fn never_sent_refusal(
 /// The line of a refusal by an entry that delivers a packet, and the one that gave another. An error is want of memory.
 fn differs_refusal(
     alloc: Global,
-    nodes: &[Node],
     files: &[TranscriptFile<'_>],
     transcripts: &[Transcript<'_>],
     came: Turn,
     sent: Turn,
 ) -> Result<String, AllocError>
     requires { CanTell files.now transcripts.now (OfDiffers came sent) }
-    ensures { IfOk result (λ s. TellsFault nodes.now files.now transcripts.now (OfDiffers came sent) (string_bytes s)) }
+    ensures { IfOk result (λ s. TellsFault files.now transcripts.now (OfDiffers came sent) (string_bytes s)) }
 {
     let Some(packet) = packet_at(transcripts, came) else {
         return memory_refusal(alloc);
@@ -262,6 +280,7 @@ fn differs_refusal(
     let Some(left) = place_of(files, transcripts, sent) else {
         return memory_refusal(alloc);
     };
+    let nodes = nodes_at(transcripts, came);
     match place_of(files, transcripts, came) {
         Some(right) => differs_line(alloc, nodes, packet, left, right),
         None => memory_refusal(alloc),
@@ -271,19 +290,18 @@ fn differs_refusal(
 /// The line that refuses histories which have no interleaving. An error is want of memory.
 pub(crate) fn weave_refusal(
     alloc: Global,
-    nodes: &[Node],
     files: &[TranscriptFile<'_>],
     transcripts: &[Transcript<'_>],
     fault: &TurnFault,
 ) -> Result<String, AllocError>
     requires told { length transcripts.now ≡ length files.now }
     requires can { CanTell files.now transcripts.now fault.now }
-    ensures { IfOk result (λ s. TellsFault nodes.now files.now transcripts.now fault.now (string_bytes s)) }
+    ensures { IfOk result (λ s. TellsFault files.now transcripts.now fault.now (string_bytes s)) }
 {
     match fault {
-        TurnFault::NeverSent(came) => never_sent_refusal(alloc, nodes, files, transcripts, *came),
+        TurnFault::NeverSent(came) => never_sent_refusal(alloc, files, transcripts, *came),
         TurnFault::Differs(came, sent) => {
-            differs_refusal(alloc, nodes, files, transcripts, *came, *sent)
+            differs_refusal(alloc, files, transcripts, *came, *sent)
         }
         TurnFault::NoOrder(places) => front_refusal(alloc, files, transcripts, places.as_slice()),
         TurnFault::Memory => memory_refusal(alloc),

@@ -1,29 +1,28 @@
 //! Files, woven or refused.
 
-ghost use Rattle.std.specs.Prelude.{◌≡◌, IfOk};
-ghost use Rattle.weave_runs.specs.Accusations.{Begin};
-ghost use Rattle.weave_runs.specs.Histories.{AreHistories, AreToldOf, AreTranscripts, lived, lived_told};
-ghost use Rattle.weave_runs.specs.Outputs.{IsLine, IsWritten, IsWrittenWith};
-ghost use Rattle.weave_runs.specs.Refusals.{transcript_line};
+ghost use Rattle.std.specs.Prelude.{◌≡◌, ◌<◌, ◌↔◌, Contains, IfOk, IsTrue, false, length, List};
+ghost use Rattle.ocpi_types.specs.declared.setup.Node.{Node as NodeOf};
+ghost use Rattle.replays.specs.declared.transcript.Opening.{Opening as OpeningOf};
+ghost use Rattle.weave_runs.specs.Histories.{AreHistories, AreTold, AreTranscripts, lived, lived_told};
+ghost use Rattle.weave_runs.specs.Outputs.{IsOfOneWorld, IsTextOf, IsWritten, IsWrittenWith};
+ghost use Rattle.weave_runs.specs.Steps.{AreNamed, AreSourced};
 
 use crate::fault::GivenFault;
 use crate::given::{NotGiven, given_parties};
 use crate::refusal::{file_refusal, weave_refusal};
 use crate::told::{TranscriptFile, read_files};
-use crate::words::words_for;
-use crate::written::woven_text;
+use crate::words::{words_for, words_for_file};
+use crate::written::{other_text, played_text};
 use histories::NodeHistory;
-use history_laws::laws::{interleavings_are_runs, replays_are_numbered};
-use json_text::Scratch;
+use history_laws::laws::interleavings_are_runs;
 use node_core::nodes_of;
 use ocpi_text::Party;
+use replays::{Opening, Transcript};
+use setup_equality::are_equal;
 use std::alloc::{AllocError, Global};
 use tables::HashSeed;
-use transcript_parts::{Beginning, TranscriptFault, find_beginning};
-use transcripts::Transcript;
-use transcripts::laws::transcripts_have_beginnings;
 use weave::laws::none_given;
-use weave::weave_turns_with;
+use weave::{Turn, weave_turns_with};
 
 /// The line of a refusal, and what is said beside it, if anything.
 #[derive(Drop)]
@@ -48,6 +47,7 @@ fn history_of<'a>(transcript: &'a Transcript<'_>) -> NodeHistory<'a>
 {
     NodeHistory {
         party: *transcript.party(),
+        before: transcript.first().serial,
         entries: transcript.entries(),
     }
 }
@@ -69,90 +69,105 @@ fn histories_of<'a>(
     Ok(histories)
 }
 
-/// Weaves transcripts of nodes of the setup of a beginning. What the given parties sent is taken as it came. An error
-/// is want of memory.
+/// Whether each run of a transcript was opened with the setup of that opening.
+fn has_one_setup(transcript: &Transcript<'_>, first: &Opening<'_>) -> bool
+    ensures { IsTrue result ↔ ((x : OpeningOf) → Contains transcript.now.openings x → x.setup ≡ first.now.setup) }
+{
+    for opening in transcript.openings() {
+        if !are_equal(&opening.setup, &first.setup) {
+            return false;
+        }
+    }
+    true
+}
+
+/// Whether a woven run begins with no rows, and is one of a single setup.
+fn is_of_one_world(transcripts: &[Transcript<'_>]) -> bool
+    requires { 0 < length transcripts.now }
+    ensures yes { IsTrue result → (setup : List NodeOf) × IsOfOneWorld setup transcripts.now }
+    ensures no { result ≡ false → (setup : List NodeOf) → IsOfOneWorld setup transcripts.now → ⊥ }
+{
+    let first = transcripts[0].first();
+    for transcript in transcripts {
+        if transcript.first().rows > 0 {
+            return false;
+        }
+        if !has_one_setup(transcript, first) {
+            return false;
+        }
+    }
+    true
+}
+
+/// The text of a woven run. An error is want of memory.
+fn text_of(
+    alloc: Global,
+    transcripts: &[Transcript<'_>],
+    histories: &[NodeHistory<'_>],
+    given: &[Party],
+    turns: &[Turn],
+) -> Result<Vec<u8>, AllocError>
+    requires some { 0 < length transcripts.now }
+    requires told { AreTold transcripts.now }
+    requires sourced { AreSourced transcripts.now }
+    requires named { AreNamed transcripts.now turns.now }
+    ensures { IfOk result (λ text. IsTextOf given.now histories.now transcripts.now turns.now text.items) }
+{
+    if is_of_one_world(transcripts) {
+        played_text(alloc, transcripts, histories, given, turns)
+    } else {
+        other_text(alloc, transcripts, histories, given, turns)
+    }
+}
+
+/// Weaves transcripts. What the given parties sent is taken as it came. An error is want of memory.
 fn weave_given<'a>(
     alloc: Global,
-    beginning: &Beginning<'_>,
     files: &[TranscriptFile<'_>],
     transcripts: &[Transcript<'_>],
     given: &[Party],
 ) -> Result<Written<'a>, AllocError>
-    requires told { AreToldOf beginning.now.setup transcripts.now }
-    requires transcripts { AreTranscripts beginning.now.setup files.now transcripts.now }
-    ensures { IfOk result (IsWrittenWith given.now files.now beginning.now.setup transcripts.now beginning.now.line.now) }
+    requires some { 0 < length transcripts.now }
+    requires told { AreTold transcripts.now }
+    requires transcripts { AreTranscripts files.now transcripts.now }
+    ensures { IfOk result (IsWrittenWith given.now files.now transcripts.now) }
 {
-    let nodes = nodes_of(&beginning.setup);
-    let histories = histories_of(alloc, transcripts)?;
     interleavings_are_runs();
-    replays_are_numbered();
     none_given();
+    nodes_of(&transcripts[0].first().setup);
+    let histories = histories_of(alloc, transcripts)?;
     match weave_turns_with(alloc, &histories, given) {
-        Ok(turns) => Ok(Written::Run(woven_text(
+        Ok(turns) => Ok(Written::Run(text_of(
             alloc,
-            beginning.line,
             transcripts,
+            &histories,
             given,
             turns.as_slice(),
         )?)),
         Err(fault) => {
-            let line = weave_refusal(alloc, nodes, files, transcripts, &fault)?;
-            let words = words_for(alloc, nodes, files, transcripts, &fault);
+            let line = weave_refusal(alloc, files, transcripts, &fault)?;
+            let words = words_for(alloc, files, transcripts, &fault);
             Ok(Written::Refused(Refusal { line, words }))
         }
     }
 }
 
-/// Weaves transcripts of nodes of the setup of a beginning. What the parties sent that the words name is taken as it
-/// came. An error is want of memory.
+/// Weaves transcripts. What the parties sent that the words name is taken as it came. An error is want of memory.
 fn weave_told<'a>(
     alloc: Global,
-    beginning: &Beginning<'_>,
     files: &[TranscriptFile<'_>],
     transcripts: &[Transcript<'_>],
     words: &[&'a str],
 ) -> Result<Written<'a>, AllocError>
-    requires begins { Begin files.now beginning.now.line.now beginning.now.setup }
-    requires told { AreToldOf beginning.now.setup transcripts.now }
-    requires transcripts { AreTranscripts beginning.now.setup files.now transcripts.now }
+    requires some { 0 < length transcripts.now }
+    requires told { AreTold transcripts.now }
+    requires transcripts { AreTranscripts files.now transcripts.now }
     ensures { IfOk result (IsWritten words.now files.now) }
 {
-    let nodes = nodes_of(&beginning.setup);
-    match given_parties(alloc, nodes, transcripts, words) {
-        Ok(given) => weave_given(alloc, beginning, files, transcripts, given.as_slice()),
+    match given_parties(alloc, transcripts, words) {
+        Ok(given) => weave_given(alloc, files, transcripts, given.as_slice()),
         Err(NotGiven::Wrong(fault)) => Ok(Written::Wrong(fault)),
         Err(NotGiven::Memory) => Err(AllocError),
-    }
-}
-
-/// What is written where a file is refused. An error is want of memory.
-fn refused_file<'a>(
-    alloc: Global,
-    name: &str,
-    fault: TranscriptFault,
-) -> Result<Written<'a>, AllocError>
-    ensures { IfOk result (IsLine (transcript_line name.now fault)) }
-{
-    let line = file_refusal(alloc, name, fault)?;
-    let words = String::new(alloc);
-    Ok(Written::Refused(Refusal { line, words }))
-}
-
-/// Weaves files, the first of which has that beginning. An error is want of memory.
-fn weave_from<'a>(
-    alloc: Global,
-    seed: HashSeed,
-    scratch: &mut Scratch,
-    beginning: &Beginning<'_>,
-    files: &[TranscriptFile<'_>],
-    words: &[&'a str],
-) -> Result<Written<'a>, AllocError>
-    requires { Begin files.now beginning.now.line.now beginning.now.setup }
-    ensures { IfOk result (IsWritten words.now files.now) }
-{
-    match read_files(alloc, seed, scratch, &beginning.setup, files) {
-        Ok(transcripts) => weave_told(alloc, beginning, files, transcripts.as_slice(), words),
-        Err(refused) => refused_file(alloc, refused.name, refused.fault),
     }
 }
 
@@ -165,13 +180,16 @@ pub(crate) fn weave_files<'a>(
 ) -> Result<Written<'a>, AllocError>
     ensures { IfOk result (IsWritten words.now files.now) }
 {
-    let Some(first) = files.first() else {
+    if files.is_empty() {
         return Ok(Written::Run(Vec::new(alloc)));
-    };
-    let mut scratch = Scratch::new(alloc);
-    transcripts_have_beginnings();
-    match find_beginning(alloc, &mut scratch, first.text) {
-        Ok(beginning) => weave_from(alloc, seed, &mut scratch, &beginning, files, words),
-        Err(fault) => refused_file(alloc, first.name, fault),
+    }
+    let mut said = String::new(alloc);
+    match read_files(alloc, seed, files, &mut said) {
+        Ok(transcripts) => weave_told(alloc, files, transcripts.as_slice(), words),
+        Err(refused) => {
+            let line = file_refusal(alloc, refused.name, refused.fault)?;
+            let words = words_for_file(alloc, refused.name, said.as_str());
+            Ok(Written::Refused(Refusal { line, words }))
+        }
     }
 }

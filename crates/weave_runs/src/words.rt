@@ -1,25 +1,24 @@
 //! What standard error says beside a refusal. No clause speaks of it.
 
 use crate::difference::first_difference;
-use crate::refusal::{packet_at, place_of};
+use crate::refusal::{nodes_at, packet_at, place_of};
 use crate::told::TranscriptFile;
 use json_text::is_same_party;
 use ocpi_json::write_packet;
-use ocpi_types::{Node, Packet};
+use ocpi_types::Packet;
+use replays::Transcript;
 use std::alloc::{AllocError, Global};
-use transcripts::Transcript;
 use weave::{Turn, TurnFault};
 
 /// Why histories have no interleaving, in words; no text where the refusal says it all, or memory ran out.
 pub(crate) fn words_for(
     alloc: Global,
-    nodes: &[Node],
     files: &[TranscriptFile<'_>],
     transcripts: &[Transcript<'_>],
     fault: &TurnFault,
 ) -> String {
     let words = match fault {
-        TurnFault::NeverSent(came) => words_for_never_sent(alloc, nodes, transcripts, *came),
+        TurnFault::NeverSent(came) => words_for_never_sent(alloc, transcripts, *came),
         TurnFault::Differs(came, sent) => {
             words_for_difference(alloc, files, transcripts, *came, *sent)
         }
@@ -34,7 +33,6 @@ pub(crate) fn words_for(
 /// That no file is of the sender of a packet which the entry of a turn delivers, where it is so and the setup has it.
 fn words_for_never_sent(
     alloc: Global,
-    nodes: &[Node],
     transcripts: &[Transcript<'_>],
     came: Turn,
 ) -> Result<String, AllocError> {
@@ -47,7 +45,7 @@ fn words_for_never_sent(
             return Ok(words);
         }
     }
-    for node in nodes {
+    for node in nodes_at(transcripts, came) {
         if is_same_party(node.party(), &packet.from) {
             let party = node.party().as_str();
             write!(
@@ -107,4 +105,13 @@ fn words_for_difference(
         path.as_str()
     )?;
     Ok(words)
+}
+
+/// What is said of a file that was refused, behind its name.
+pub(crate) fn words_for_file(alloc: Global, name: &str, words: &str) -> String {
+    let mut output = String::new(alloc);
+    if !words.is_empty() {
+        let _ = write!(output, "weave: {name}: {words}");
+    }
+    output
 }

@@ -1,21 +1,41 @@
-//! A woven run as input of `play`: the setup line, and a line for each entry.
+//! A woven run: a line for each entry, behind the setup line as input of `play`.
 
-ghost use Rattle.std.specs.Prelude.{◌≡◌, IfNone, IfOk, IfSome, OnOk, ℕ};
+ghost use Rattle.std.specs.Prelude.{◌≡◌, ◌<◌, ◌++◌, IfNone, IfOk, IfSome, List, OnOk, length, ℕ};
 ghost use Rattle.histories.specs.Entries.{Delivers};
 ghost use Rattle.ocpi_types.specs.declared.node_events.NodeEventKind.TheVariants.{Deliver};
 ghost use Rattle.ocpi_types.specs.declared.packet.Packet.{Packet as PacketOf};
-ghost use Rattle.transcripts.specs.Told.{IsSource};
-ghost use Rattle.weave.specs.Given.{IsFrom};
-ghost use Rattle.weave_runs.specs.Steps.{AddsDelivery, AddsLine, AddsRestart, AddsStep, AddsTurn, AreNamed, HasSteps, IsNamed};
+ghost use Rattle.ocpi_types.specs.declared.setup.Node.{Node as NodeOf};
+ghost use Rattle.weave_runs.specs.Histories.{AreTold};
+ghost use Rattle.weave_runs.specs.Outputs.{AreOpeningLines, IsOfOneWorld, IsOtherText, IsPlayedText};
+ghost use Rattle.weave_runs.specs.Steps.{
+  AddsDelivery,
+  AddsFirst,
+  AddsLine,
+  AddsNew,
+  AddsOtherSetup,
+  AddsRestart,
+  AddsSetups,
+  AddsStep,
+  AddsTurn,
+  AreNamed,
+  AreSourced,
+  IsNamed,
+  IsOfRuns,
+  IsSourceIn,
+  IsTakenAsItCame,
+  lines_text,
+};
 
-use histories::Entry;
+use crate::refusal::spelling;
+use histories::{Entry, NodeHistory};
 use ocpi_text::{Moment, Party};
-use ocpi_types::{NodeEventKind, Packet};
+use ocpi_types::{Node, NodeEventKind, Packet};
+use replays::{Opening, Source, Transcript};
+use setup_equality::are_equal;
 use std::alloc::{AllocError, Global};
 use transcript_lines::laws::node_lines_are_lines;
 use transcript_lines::{delivery_line, restart_line};
-use transcripts::{Source, Transcript};
-use weave::{Turn, is_from};
+use weave::{Turn, is_from, was_before};
 
 /// Adds a line, and its end.
 fn push_line(text: &mut Vec<u8>, line: &[u8]) -> Result<(), AllocError>
@@ -28,17 +48,19 @@ fn push_line(text: &mut Vec<u8>, line: &[u8]) -> Result<(), AllocError>
     }
 }
 
-/// Adds the line of a delivery at the node of a party.
+/// Adds the line of a delivery at the node of a party, with its sender as the setup spells it.
 fn push_delivery(
     alloc: Global,
+    nodes: &[Node],
     party: &Party,
     at: Moment,
     packet: &Packet,
     text: &mut Vec<u8>,
 ) -> Result<(), AllocError>
-    ensures { OnOk result (AddsDelivery party.now at packet.now text.old.items text.new.items) }
+    ensures { OnOk result (AddsDelivery nodes.now party.now at packet.now text.old.items text.new.items) }
 {
-    let line = delivery_line(alloc, at, &packet.from, party, packet.serial)?;
+    let from = spelling(nodes, &packet.from);
+    let line = delivery_line(alloc, at, from, party, packet.serial)?;
     push_line(text, line.as_bytes())
 }
 
@@ -79,11 +101,15 @@ pub(crate) fn delivered_by(entry: &Entry) -> Option<&Packet>
     }
 }
 
-/// When a packet comes, and which, where that is what happens, and it is from no given party.
-fn awaited<'a>(event: &'a NodeEventKind, given: &[Party]) -> Option<(Moment, &'a Packet)>
+/// When a packet comes, and which, where that is what happens, and it is not taken as it came.
+fn awaited<'a>(
+    histories: &[NodeHistory<'_>],
+    event: &'a NodeEventKind,
+    given: &[Party],
+) -> Option<(Moment, &'a Packet)>
     ensures some { IfSome result (λ d. event.now ≡ Deliver d.0 d.1.now) }
-    ensures asked { IfSome result (λ d. IsFrom given.now d.1.now → ⊥) }
-    ensures none { IfNone result ((at : ℕ) (q : PacketOf) → event.now ≡ Deliver at q → IsFrom given.now q) }
+    ensures asked { IfSome result (λ d. IsTakenAsItCame given.now histories.now d.1.now → ⊥) }
+    ensures none { IfNone result ((at : ℕ) (q : PacketOf) → event.now ≡ Deliver at q → IsTakenAsItCame given.now histories.now q) }
 {
     let Some(delivery) = delivery_of(event) else {
         return None;
@@ -91,27 +117,35 @@ fn awaited<'a>(event: &'a NodeEventKind, given: &[Party]) -> Option<(Moment, &'a
     if is_from(given, delivery.1) {
         return None;
     }
+    if was_before(histories, delivery.1) {
+        return None;
+    }
     Some(delivery)
 }
 
-/// Adds the line of an entry of the node of a party. What a given party sent has its line as it came.
+/// Adds the line of an entry of a run. What is taken as it came has its line as it came.
 fn push_entry(
     alloc: Global,
-    party: &Party,
+    histories: &[NodeHistory<'_>],
+    opening: &Opening<'_>,
     entry: &Entry,
     source: &Source<'_>,
     given: &[Party],
     text: &mut Vec<u8>,
 ) -> Result<(), AllocError>
-    requires { IsSource party.now entry.now source.now }
-    ensures { OnOk result (AddsStep given.now (record { party = party.now; entry = entry.now }) text.old.items text.new.items) }
+    requires member { opening.now.member < length opening.now.setup }
+    requires source { IsSourceIn opening.now entry.now source.now }
+    ensures { OnOk result (AddsStep given.now histories.now opening.now entry.now text.old.items text.new.items) }
 {
     node_lines_are_lines();
-    match awaited(&entry.event, given) {
-        Some(delivery) => push_delivery(alloc, party, delivery.0, delivery.1, text),
-        None => match source {
-            Source::Echoed(line) => push_line(text, line.bytes),
-            Source::Restarted => push_restart(alloc, party, text),
+    let party = opening.party();
+    match awaited(histories, &entry.event, given) {
+        Some(delivery) => {
+            push_delivery(alloc, opening.nodes(), party, delivery.0, delivery.1, text)
+        }
+        None => match source.line() {
+            Some(line) => push_line(text, line.bytes),
+            None => push_restart(alloc, party, text),
         },
     }
 }
@@ -120,42 +154,151 @@ fn push_entry(
 fn push_turn(
     alloc: Global,
     transcripts: &[Transcript<'_>],
+    histories: &[NodeHistory<'_>],
     given: &[Party],
     turn: Turn,
     text: &mut Vec<u8>,
 ) -> Result<(), AllocError>
-    requires { IsNamed transcripts.now turn }
-    ensures { OnOk result (AddsTurn given.now transcripts.now turn text.old.items text.new.items) }
+    requires told { AreTold transcripts.now }
+    requires sourced { AreSourced transcripts.now }
+    requires named { IsNamed transcripts.now turn }
+    ensures { OnOk result (AddsTurn given.now histories.now transcripts.now turn text.old.items text.new.items) }
 {
     let transcript = &transcripts[turn.history];
-    transcript.is_told();
-    let entries = transcript.entries();
-    let sources = transcript.sources();
+    let source = &transcript.sources()[turn.entry];
     push_entry(
         alloc,
-        transcript.party(),
-        &entries[turn.entry],
-        &sources[turn.entry],
+        histories,
+        &transcript.openings()[source.opening()],
+        &transcript.entries()[turn.entry],
+        source,
         given,
         text,
     )
 }
 
-/// The setup line, and the lines of the entries that turns name, in this order. An error is want of memory.
-pub(crate) fn woven_text(
+/// A woven run as input of `play`: the setup line of the first transcript, and the lines of the entries that turns
+/// name, in this order. An error is want of memory.
+pub(crate) fn played_text(
     alloc: Global,
-    line: &[u8],
     transcripts: &[Transcript<'_>],
+    histories: &[NodeHistory<'_>],
     given: &[Party],
     turns: &[Turn],
 ) -> Result<Vec<u8>, AllocError>
-    requires { AreNamed transcripts.now turns.now }
-    ensures { IfOk result (λ text. HasSteps given.now transcripts.now turns.now line.now text.items) }
+    requires some { 0 < length transcripts.now }
+    requires told { AreTold transcripts.now }
+    requires sourced { AreSourced transcripts.now }
+    requires named { AreNamed transcripts.now turns.now }
+    requires one { (setup : List NodeOf) × IsOfOneWorld setup transcripts.now }
+    ensures { IfOk result (λ text. IsPlayedText given.now histories.now transcripts.now turns.now text.items) }
 {
+    let line = transcripts[0].first().line.bytes;
     let mut text = Vec::new(alloc);
     push_line(&mut text, line)?;
     for turn in turns {
-        push_turn(alloc, transcripts, given, *turn, &mut text)?;
+        push_turn(alloc, transcripts, histories, given, *turn, &mut text)?;
+    }
+    Ok(text)
+}
+
+/// Adds the setup line of the first run before the first entry.
+fn push_first_setup(
+    transcript: &Transcript<'_>,
+    place: usize,
+    text: &mut Vec<u8>,
+) -> Result<(), AllocError>
+    ensures { OnOk result (AddsFirst transcript.now.openings place text.old.items text.new.items) }
+{
+    if place == 0 {
+        push_line(text, transcript.first().line.bytes)
+    } else {
+        Ok(())
+    }
+}
+
+/// Adds the setup line of a run at a place behind another, where its setup is another than before.
+fn push_other_setup(
+    openings: &[Opening<'_>],
+    place: usize,
+    text: &mut Vec<u8>,
+) -> Result<(), AllocError>
+    requires place { place < length openings.now }
+    requires later { 0 < place }
+    ensures { OnOk result (AddsOtherSetup openings.now place text.old.items text.new.items) }
+{
+    let before = &openings[place - 1];
+    let now = &openings[place];
+    if are_equal(&before.setup, &now.setup) {
+        return Ok(());
+    }
+    push_line(text, now.line.bytes)
+}
+
+/// Adds that of a run whose opening an entry is, where its setup is another than before.
+fn push_new_setup(
+    openings: &[Opening<'_>],
+    source: &Source<'_>,
+    text: &mut Vec<u8>,
+) -> Result<(), AllocError>
+    requires { IsOfRuns openings.now source.now }
+    ensures { OnOk result (AddsNew openings.now source.now text.old.items text.new.items) }
+{
+    match source {
+        Source::Restarted { opening } => push_other_setup(openings, *opening, text),
+        Source::Echoed { .. } => Ok(()),
+    }
+}
+
+/// Adds the setup lines that are to stand before the entry that a turn names.
+fn push_setups(
+    transcripts: &[Transcript<'_>],
+    turn: Turn,
+    text: &mut Vec<u8>,
+) -> Result<(), AllocError>
+    requires told { AreTold transcripts.now }
+    requires sourced { AreSourced transcripts.now }
+    requires named { IsNamed transcripts.now turn }
+    ensures { OnOk result (AddsSetups transcripts.now turn text.old.items text.new.items) }
+{
+    let transcript = &transcripts[turn.history];
+    push_first_setup(transcript, turn.entry, text)?;
+    push_new_setup(
+        transcript.openings(),
+        &transcript.sources()[turn.entry],
+        text,
+    )
+}
+
+/// Adds the line of each transcript that says that its first run was opened.
+fn push_openings(transcripts: &[Transcript<'_>], text: &mut Vec<u8>) -> Result<(), AllocError>
+    ensures { OnOk result ((lines : List (List ℕ)) × AreOpeningLines transcripts.now lines × (text.new.items ≡ text.old.items ++ lines_text lines)) }
+{
+    for transcript in transcripts {
+        push_line(text, transcript.first().told)?;
+    }
+    Ok(())
+}
+
+/// A woven run that is no input of `play`: how each transcript begins, and the lines of the entries that turns name, in
+/// this order, with the setups of their runs. An error is want of memory.
+pub(crate) fn other_text(
+    alloc: Global,
+    transcripts: &[Transcript<'_>],
+    histories: &[NodeHistory<'_>],
+    given: &[Party],
+    turns: &[Turn],
+) -> Result<Vec<u8>, AllocError>
+    requires told { AreTold transcripts.now }
+    requires sourced { AreSourced transcripts.now }
+    requires named { AreNamed transcripts.now turns.now }
+    ensures { IfOk result (λ text. IsOtherText given.now histories.now transcripts.now turns.now text.items) }
+{
+    let mut text = Vec::new(alloc);
+    push_openings(transcripts, &mut text)?;
+    for turn in turns {
+        push_setups(transcripts, *turn, &mut text)?;
+        push_turn(alloc, transcripts, histories, given, *turn, &mut text)?;
     }
     Ok(text)
 }

@@ -1,5 +1,7 @@
 # The transcripts of a charge whose nodes got several events in a line. The run is that of weave/charge.
 cat > be.transcript <<'END'
+
+
 {"nodes":[{"party":"BE/BEC","site":{"currency":"EUR","locations":[{"address":"Korenmarkt 1","city":"Gent","country":"BEL","evses":[{"connectors":[{"format":"SOCKET","id":"1","power_type":"AC_3_PHASE","standard":"IEC_62196_T2"}],"evse_id":"BE*BEC*E1","uid":"E1"}],"id":"LOC1","latitude":"51.05421","longitude":"3.72180"}],"price":0.25}},{"party":"NL/TNM"}]}
 {"done":"opened","line":1,"party":"BE/BEC","rows":0,"serial":0}
 [{"at":"2025-01-01T09:59:00Z","event":"deliver","node":"BE/BEC","packet":{"body":{"contract_id":"NL-TNM-000001","country_code":"NL","issuer":"TNM","last_updated":"2025-01-01T09:59:00Z","party_id":"TNM","type":"RFID","uid":"AA01","valid":true,"whitelist":"ALWAYS"},"from":"NL/TNM","kind":"put_token","request":1,"serial":1,"to":"BE/BEC"}},{"at":"2025-01-01T10:00:00Z","event":"deliver","node":"BE/BEC","packet":{"body":{"authorization_reference":"414e4c54-4e4d-0000-0000-000000000001","connector_id":"1","evse_uid":"E1","location_id":"LOC1","response_url":"https://node.invalid/NL/TNM/2","token":{"contract_id":"NL-TNM-000001","country_code":"NL","issuer":"TNM","last_updated":"2025-01-01T09:59:00Z","party_id":"TNM","type":"RFID","uid":"AA01","valid":true,"whitelist":"ALWAYS"}},"from":"NL/TNM","kind":"start_session","request":2,"serial":2,"to":"BE/BEC"}},{"event":"accepts","node":"BE/BEC","at":"2025-01-01T10:00:05Z","provider":"NL/TNM","number":2}]
@@ -36,6 +38,8 @@ cat > be.transcript <<'END'
 {"done":"idle","line":7}
 END
 cat > nl.transcript <<'END'
+
+
 {"nodes":[{"party":"BE/BEC","site":{"currency":"EUR","locations":[{"address":"Korenmarkt 1","city":"Gent","country":"BEL","evses":[{"connectors":[{"format":"SOCKET","id":"1","power_type":"AC_3_PHASE","standard":"IEC_62196_T2"}],"evse_id":"BE*BEC*E1","uid":"E1"}],"id":"LOC1","latitude":"51.05421","longitude":"3.72180"}],"price":0.25}},{"party":"NL/TNM"}]}
 {"done":"opened","line":1,"party":"NL/TNM","rows":0,"serial":0}
 {"event":"token","node":"NL/TNM","at":"2025-01-01T09:59:00Z","token":{"contract_id":"NL-TNM-000001","country_code":"NL","issuer":"TNM","last_updated":"2025-01-01T09:00:00Z","party_id":"TNM","type":"RFID","uid":"AA01","valid":true,"whitelist":"ALWAYS"}}

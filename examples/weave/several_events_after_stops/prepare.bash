@@ -1,26 +1,45 @@
-# BE/BEC was stopped in three lines of two or three events. The first and the second were carried out whole: a serial, and a
-# packet, tell it. The third was not carried out at all.
+# BE/BEC was stopped in three lines of two or three events. The first and the second were carried out whole: the next `opened`
+# and a packet tell it. The third was not carried out at all, and is fed again.
 cat > be.transcript <<'END'
-{"nodes":[{"party":"BE/BEC","site":{"currency":"EUR","locations":[{"address":"Korenmarkt 1","city":"Gent","country":"BEL","evses":[{"connectors":[{"format":"SOCKET","id":"1","power_type":"AC_3_PHASE","standard":"IEC_62196_T2"}],"evse_id":"BE*BEC*E1","uid":"E1"}],"id":"LOC1","latitude":"51.05421","longitude":"3.72180"}],"price":0.25}},{"party":"NL/TNM"}]}
+
+
+{"nodes":[{"party":"BE/BEC","site":{"currency":"EUR","locations":[{"address":"Korenmarkt 1","city":"Gent","country":"BEL","evses":[{"connectors":[{"format":"SOCKET","id":"1","power_type":"AC_3_PHASE","standard":"IEC_62196_T2"}],"evse_id":"BE*BEC*E1","uid":"E1"}],"id":"LOC1","latitude":"51.05421","longitude":"3.72180"}],"price":0.25}},{"party":"NL/TNM"}],"line":1}
 {"done":"opened","line":1,"party":"BE/BEC","rows":0,"serial":0}
 [{"at":"2025-01-01T09:59:00Z","event":"deliver","node":"BE/BEC","packet":{"body":{"contract_id":"NL-TNM-000001","country_code":"NL","issuer":"TNM","last_updated":"2025-01-01T09:59:00Z","party_id":"TNM","type":"RFID","uid":"AA01","valid":true,"whitelist":"ALWAYS"},"from":"NL/TNM","kind":"put_token","request":1,"serial":1,"to":"BE/BEC"}},{"event":"service","node":"BE/BEC","evse_uid":"E1","in_service":false}]
-{"nodes":[{"party":"BE/BEC","site":{"currency":"EUR","locations":[{"address":"Korenmarkt 1","city":"Gent","country":"BEL","evses":[{"connectors":[{"format":"SOCKET","id":"1","power_type":"AC_3_PHASE","standard":"IEC_62196_T2"}],"evse_id":"BE*BEC*E1","uid":"E1"}],"id":"LOC1","latitude":"51.05421","longitude":"3.72180"}],"price":0.25}},{"party":"NL/TNM"}]}
-{"done":"opened","line":1,"party":"BE/BEC","rows":4,"serial":1}
+
+
+{"nodes":[{"party":"BE/BEC","site":{"currency":"EUR","locations":[{"address":"Korenmarkt 1","city":"Gent","country":"BEL","evses":[{"connectors":[{"format":"SOCKET","id":"1","power_type":"AC_3_PHASE","standard":"IEC_62196_T2"}],"evse_id":"BE*BEC*E1","uid":"E1"}],"id":"LOC1","latitude":"51.05421","longitude":"3.72180"}],"price":0.25}},{"party":"NL/TNM"}],"line":1}
+{"done":"opened","line":2,"party":"BE/BEC","rows":4,"serial":1}
+[{"at":"2025-01-01T09:59:00Z","event":"deliver","node":"BE/BEC","packet":{"body":{"contract_id":"NL-TNM-000001","country_code":"NL","issuer":"TNM","last_updated":"2025-01-01T09:59:00Z","party_id":"TNM","type":"RFID","uid":"AA01","valid":true,"whitelist":"ALWAYS"},"from":"NL/TNM","kind":"put_token","request":1,"serial":1,"to":"BE/BEC"}},{"event":"service","node":"BE/BEC","evse_uid":"E1","in_service":false}]
+{"done":"known","line":2}
 [{"at":"2025-01-01T09:59:10Z","event":"deliver","node":"BE/BEC","packet":{"body":{"contract_id":"NL-TNM-000001","country_code":"NL","issuer":"TNM","last_updated":"2025-01-01T09:59:00Z","party_id":"TNM","type":"RFID","uid":"AA01","valid":true,"whitelist":"ALWAYS"},"from":"NL/TNM","kind":"put_token","request":1,"serial":1,"to":"BE/BEC"}},{"event":"service","node":"BE/BEC","evse_uid":"E1","in_service":true},{"event":"tick","node":"BE/BEC","at":"2025-01-01T09:59:10Z"}]
 {"body":{"status_code":1000,"timestamp":"2025-01-01T09:59:00Z"},"from":"BE/BEC","kind":"ack","request":1,"serial":2,"to":"NL/TNM"}
-{"done":"stepped","event":0,"line":2,"packets":1}
-{"nodes":[{"party":"BE/BEC","site":{"currency":"EUR","locations":[{"address":"Korenmarkt 1","city":"Gent","country":"BEL","evses":[{"connectors":[{"format":"SOCKET","id":"1","power_type":"AC_3_PHASE","standard":"IEC_62196_T2"}],"evse_id":"BE*BEC*E1","uid":"E1"}],"id":"LOC1","latitude":"51.05421","longitude":"3.72180"}],"price":0.25}},{"party":"NL/TNM"}]}
-{"done":"opened","line":1,"party":"BE/BEC","rows":3,"serial":2}
+{"done":"stepped","event":0,"line":3,"packets":1}
+
+
+{"nodes":[{"party":"BE/BEC","site":{"currency":"EUR","locations":[{"address":"Korenmarkt 1","city":"Gent","country":"BEL","evses":[{"connectors":[{"format":"SOCKET","id":"1","power_type":"AC_3_PHASE","standard":"IEC_62196_T2"}],"evse_id":"BE*BEC*E1","uid":"E1"}],"id":"LOC1","latitude":"51.05421","longitude":"3.72180"}],"price":0.25}},{"party":"NL/TNM"}],"line":2}
+{"done":"opened","line":3,"party":"BE/BEC","rows":3,"serial":2}
+[{"at":"2025-01-01T09:59:10Z","event":"deliver","node":"BE/BEC","packet":{"body":{"contract_id":"NL-TNM-000001","country_code":"NL","issuer":"TNM","last_updated":"2025-01-01T09:59:00Z","party_id":"TNM","type":"RFID","uid":"AA01","valid":true,"whitelist":"ALWAYS"},"from":"NL/TNM","kind":"put_token","request":1,"serial":1,"to":"BE/BEC"}},{"event":"service","node":"BE/BEC","evse_uid":"E1","in_service":true},{"event":"tick","node":"BE/BEC","at":"2025-01-01T09:59:10Z"}]
+{"done":"known","line":3}
 [{"at":"2025-01-01T09:59:20Z","event":"deliver","node":"BE/BEC","packet":{"body":{"contract_id":"NL-TNM-000001","country_code":"NL","issuer":"TNM","last_updated":"2025-01-01T09:59:00Z","party_id":"TNM","type":"RFID","uid":"AA01","valid":true,"whitelist":"ALWAYS"},"from":"NL/TNM","kind":"put_token","request":1,"serial":1,"to":"BE/BEC"}},{"event":"service","node":"BE/BEC","evse_uid":"E1","in_service":false}]
-{"nodes":[{"party":"BE/BEC","site":{"currency":"EUR","locations":[{"address":"Korenmarkt 1","city":"Gent","country":"BEL","evses":[{"connectors":[{"format":"SOCKET","id":"1","power_type":"AC_3_PHASE","standard":"IEC_62196_T2"}],"evse_id":"BE*BEC*E1","uid":"E1"}],"id":"LOC1","latitude":"51.05421","longitude":"3.72180"}],"price":0.25}},{"party":"NL/TNM"}]}
-{"done":"opened","line":1,"party":"BE/BEC","rows":3,"serial":2}
+
+
+{"nodes":[{"party":"BE/BEC","site":{"currency":"EUR","locations":[{"address":"Korenmarkt 1","city":"Gent","country":"BEL","evses":[{"connectors":[{"format":"SOCKET","id":"1","power_type":"AC_3_PHASE","standard":"IEC_62196_T2"}],"evse_id":"BE*BEC*E1","uid":"E1"}],"id":"LOC1","latitude":"51.05421","longitude":"3.72180"}],"price":0.25}},{"party":"NL/TNM"}],"line":3}
+{"done":"opened","line":3,"party":"BE/BEC","rows":3,"serial":2}
+[{"at":"2025-01-01T09:59:20Z","event":"deliver","node":"BE/BEC","packet":{"body":{"contract_id":"NL-TNM-000001","country_code":"NL","issuer":"TNM","last_updated":"2025-01-01T09:59:00Z","party_id":"TNM","type":"RFID","uid":"AA01","valid":true,"whitelist":"ALWAYS"},"from":"NL/TNM","kind":"put_token","request":1,"serial":1,"to":"BE/BEC"}},{"event":"service","node":"BE/BEC","evse_uid":"E1","in_service":false}]
+{"body":{"status_code":1000,"timestamp":"2025-01-01T09:59:00Z"},"from":"BE/BEC","kind":"ack","request":1,"serial":3,"to":"NL/TNM"}
+{"done":"stepped","event":0,"line":4,"packets":1}
+{"done":"stepped","event":1,"line":4,"packets":0}
+{"done":"all","events":2,"line":4}
 [{"event":"tick","node":"BE/BEC","at":"2025-01-01T09:59:30Z"},{"event":"service","node":"BE/BEC","evse_uid":"E1","in_service":false}]
-{"done":"idle","event":0,"line":2}
-{"done":"stepped","event":1,"line":2,"packets":0}
-{"done":"all","events":2,"line":2}
+{"done":"idle","event":0,"line":5}
+{"done":"idle","event":1,"line":5}
+{"done":"all","events":2,"line":5}
 END
 cat > nl.transcript <<'END'
-{"nodes":[{"party":"BE/BEC","site":{"currency":"EUR","locations":[{"address":"Korenmarkt 1","city":"Gent","country":"BEL","evses":[{"connectors":[{"format":"SOCKET","id":"1","power_type":"AC_3_PHASE","standard":"IEC_62196_T2"}],"evse_id":"BE*BEC*E1","uid":"E1"}],"id":"LOC1","latitude":"51.05421","longitude":"3.72180"}],"price":0.25}},{"party":"NL/TNM"}]}
+
+
+{"nodes":[{"party":"BE/BEC","site":{"currency":"EUR","locations":[{"address":"Korenmarkt 1","city":"Gent","country":"BEL","evses":[{"connectors":[{"format":"SOCKET","id":"1","power_type":"AC_3_PHASE","standard":"IEC_62196_T2"}],"evse_id":"BE*BEC*E1","uid":"E1"}],"id":"LOC1","latitude":"51.05421","longitude":"3.72180"}],"price":0.25}},{"party":"NL/TNM"}],"line":1}
 {"done":"opened","line":1,"party":"NL/TNM","rows":0,"serial":0}
 {"event":"token","node":"NL/TNM","at":"2025-01-01T09:59:00Z","token":{"contract_id":"NL-TNM-000001","country_code":"NL","issuer":"TNM","last_updated":"2025-01-01T09:00:00Z","party_id":"TNM","type":"RFID","uid":"AA01","valid":true,"whitelist":"ALWAYS"}}
 {"body":{"contract_id":"NL-TNM-000001","country_code":"NL","issuer":"TNM","last_updated":"2025-01-01T09:59:00Z","party_id":"TNM","type":"RFID","uid":"AA01","valid":true,"whitelist":"ALWAYS"},"from":"NL/TNM","kind":"put_token","request":1,"serial":1,"to":"BE/BEC"}

@@ -1,6 +1,8 @@
 # The transcripts of two of four parties: BE/BEC, at which drivers of NL/TNM and of DE/EMP start, and NL/TNM, which also has
 # FR/FRC for an operator.
 cat > be.transcript <<'END'
+
+
 {"nodes":[{"party":"BE/BEC","site":{"currency":"EUR","locations":[{"address":"Korenmarkt 1","city":"Gent","country":"BEL","evses":[{"connectors":[{"format":"SOCKET","id":"1","power_type":"AC_3_PHASE","standard":"IEC_62196_T2"}],"evse_id":"BE*BEC*E1","uid":"E1"},{"connectors":[{"format":"SOCKET","id":"1","power_type":"AC_3_PHASE","standard":"IEC_62196_T2"}],"evse_id":"BE*BEC*E2","uid":"E2"}],"id":"LOC1","latitude":"51.05421","longitude":"3.72180"}],"price":0.25}},{"party":"FR/FRC","site":{"currency":"EUR","locations":[{"address":"Rue Nationale 1","city":"Lille","country":"FRA","evses":[{"connectors":[{"format":"SOCKET","id":"1","power_type":"AC_3_PHASE","standard":"IEC_62196_T2"}],"evse_id":"FR*FRC*E1","uid":"E1"}],"id":"LOC1","latitude":"50.63569","longitude":"3.06279"}],"price":0.25}},{"party":"NL/TNM"},{"party":"DE/EMP"}]}
 {"done":"opened","line":1,"party":"BE/BEC","rows":0,"serial":0}
 {"at":"2025-01-01T09:59:01Z","event":"deliver","node":"BE/BEC","packet":{"body":{"contract_id":"NL-TNM-000001","country_code":"NL","issuer":"TNM","last_updated":"2025-01-01T09:59:00Z","party_id":"TNM","type":"RFID","uid":"AA01","valid":true,"whitelist":"ALWAYS"},"from":"NL/TNM","kind":"put_token","request":1,"serial":1,"to":"BE/BEC"}}
@@ -51,6 +53,8 @@ cat > be.transcript <<'END'
 {"done":"stepped","line":18,"packets":0}
 END
 cat > nl.transcript <<'END'
+
+
 {"nodes":[{"party":"BE/BEC","site":{"currency":"EUR","locations":[{"address":"Korenmarkt 1","city":"Gent","country":"BEL","evses":[{"connectors":[{"format":"SOCKET","id":"1","power_type":"AC_3_PHASE","standard":"IEC_62196_T2"}],"evse_id":"BE*BEC*E1","uid":"E1"},{"connectors":[{"format":"SOCKET","id":"1","power_type":"AC_3_PHASE","standard":"IEC_62196_T2"}],"evse_id":"BE*BEC*E2","uid":"E2"}],"id":"LOC1","latitude":"51.05421","longitude":"3.72180"}],"price":0.25}},{"party":"FR/FRC","site":{"currency":"EUR","locations":[{"address":"Rue Nationale 1","city":"Lille","country":"FRA","evses":[{"connectors":[{"format":"SOCKET","id":"1","power_type":"AC_3_PHASE","standard":"IEC_62196_T2"}],"evse_id":"FR*FRC*E1","uid":"E1"}],"id":"LOC1","latitude":"50.63569","longitude":"3.06279"}],"price":0.25}},{"party":"NL/TNM"},{"party":"DE/EMP"}]}
 {"done":"opened","line":1,"party":"NL/TNM","rows":0,"serial":0}
 {"event":"token","node":"NL/TNM","at":"2025-01-01T09:59:00Z","token":{"contract_id":"NL-TNM-000001","country_code":"NL","issuer":"TNM","last_updated":"2025-01-01T09:00:00Z","party_id":"TNM","type":"RFID","uid":"AA01","valid":true,"whitelist":"ALWAYS"}}

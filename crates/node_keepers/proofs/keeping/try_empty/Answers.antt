@@ -1,29 +1,28 @@
-use Rattle.std.proofs.Common.{◌≡◌, ◌⊎◌, [], arith, inl, inr, rules, refl, sym, ap, ◌∙◌}
-use Rattle.std.proofs.lemmas.Bool.{eqb-false}
-use Rattle.node_store.specs.Contents.{rows_of}
+use Rattle.std.proofs.Common.{◌≡◌, ◌⊎◌, inl, inr, refl, ap, ◌∙◌}
+use Rattle.node_store.specs.Contents.{line_of, rows_of}
 use Rattle.node_store.specs.declared.fault.Cause.TheVariants.{NotEmpty}
 use Rattle.node_store.specs.declared.fault.StoreFault.TheVariants.{Refused}
-use Rattle.node_keepers.specs.Keeping.{CannotLoad, KeepsRows, keeping_of}
-use Rattle.node_keepers.proofs.KeeperLemmas.{err_one, keeps_nothing, none_of, not_empty}
+use Rattle.node_keepers.specs.Keeping.{CannotLoad, KeepsSomething, keeping_of}
+use Rattle.node_keepers.proofs.KeeperLemmas.{err_one, keeps_nothing}
 use Rattle.node_keepers.proofs.keeping.try_empty.Goals as goal
 
-pub returns-then-is_empty-clause-ok : goal.returns-then-is_empty-clause-ok
-returns-then-is_empty-clause-ok g c = λ honest.
-    let none : c.in_ok-rows.rows.items ≡ [] = none_of c.in_ok-rows.rows.items (search rules) in
-    c.in_ok-rows.ensures.kept honest ∙ keeps_nothing _ c.in_ok-rows.rows.items (c.in_ok-rows.ensures.rows honest) none
+pub returns-then-is_new-clause-ok : goal.returns-then-is_new-clause-ok
+returns-then-is_new-clause-ok g c = λ honest.
+    let kept = c.in_ok-kept.kept in
+    let new = c.is_new.ensures.new c.if-is_new.true in
+    c.in_ok-kept.ensures.kept honest ∙ keeps_nothing _ kept.rows.items kept.line (c.in_ok-kept.ensures.rows honest) (c.in_ok-kept.ensures.line honest) new.0 new.1
 
-pub returns-in_err-rows-clause-err : goal.returns-in_err-rows-clause-err
-returns-in_err-rows-clause-err g c =
+pub returns-in_err-kept-clause-err : goal.returns-in_err-kept-clause-err
+returns-in_err-kept-clause-err g c =
     let keeping = keeping_of g.K.Keep.content g.K.Keep.is_honest g.K.Keep.refusals in
     let before = c.args.keep.now in
     let after = c.load.new.self in
-    err_one (λ fault. CannotLoad keeping fault before after ⊎ (KeepsRows keeping after × (fault ≡ Refused NotEmpty))) c.from_residual.result _ c.from_residual.ensures.1
-    (inl (record { counted = c.in_err-rows.ensures.counted; bad = c.in_err-rows.ensures.bad; layout = c.in_err-rows.ensures.layout }))
+    err_one (λ fault. CannotLoad keeping fault before after ⊎ (KeepsSomething keeping after × (fault ≡ Refused NotEmpty))) c.from_residual.result _ c.from_residual.ensures.1
+    (inl (record { counted = c.in_err-kept.ensures.counted; bad = c.in_err-kept.ensures.bad; layout = c.in_err-kept.ensures.layout }))
 
 pub returns-clause-err : goal.returns-clause-err
 returns-clause-err g c =
-    let are = λ (honest : g.K.Keep.is_honest c.load.new.self). ap rows_of (c.in_ok-rows.ensures.kept honest) ∙ c.in_ok-rows.ensures.rows honest in
-    let held = eqb-false _ _ (sym c.is_empty.ensures ∙ c.if-is_empty.false) in
-    let long = c.in_ok-rows.rows.ok.0 in
-    let some = not_empty c.in_ok-rows.rows.items (λ none. held (omega (arith, none, long))) in
-    inr (record { rows = c.in_ok-rows.rows.items; are = are; some = some }, refl)
+    let kept = c.in_ok-kept.kept in
+    let are = λ (honest : g.K.Keep.is_honest c.load.new.self). ap rows_of (c.in_ok-kept.ensures.kept honest) ∙ c.in_ok-kept.ensures.rows honest in
+    let number = λ (honest : g.K.Keep.is_honest c.load.new.self). ap line_of (c.in_ok-kept.ensures.kept honest) ∙ c.in_ok-kept.ensures.line honest in
+    inr (record { rows = kept.rows.items; line = kept.line; are = are; number = number; some = c.is_new.ensures.used c.if-is_new.false }, refl)

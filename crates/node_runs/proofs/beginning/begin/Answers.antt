@@ -25,7 +25,7 @@ returns-in-Ok-clause-ok g c =
       member,
       is,
       r.0,
-      subst (λ (nodes : List Node). Begins keeper source nodes member b.rows b.running.node) c.nodes_of-nodes.ensures.value
+      subst (λ (nodes : List Node). Begins keeper source nodes member b.rows b.line b.running.node) c.nodes_of-nodes.ensures.value
           (record { starts = r.1; found = subst (g.S.Keeps.found 1) (sym r.2) c.in-Ok.ensures.found }),
     )) c.begin_over.ensures.ok
 

@@ -3,7 +3,7 @@ use Rattle.node_runs.proofs.beginning.begin_over.Goals as goal
 
 pub returns-in-Ok-clause-ok : goal.returns-in-Ok-clause-ok
 returns-in-Ok-clause-ok g c =
-    (c.party-party.ensures, record { fresh = c.args.keep; settled = c.requires.settled; reopens = c.in-Ok.ensures.ok; again = c.in-Ok.ensures.again }, refl)
+    (c.party-party.ensures, record { fresh = c.args.keep; settled = c.requires.settled; reopens = c.in-Ok.ensures.ok; stored = c.is_stored.ensures; again = c.in-Ok.ensures.again }, refl)
 
 pub returns-in-Err-clause-err : goal.returns-in-Err-clause-err
 returns-in-Err-clause-err g c = (

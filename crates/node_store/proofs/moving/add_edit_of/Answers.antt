@@ -1,7 +1,10 @@
-use Rattle.std.proofs.Common.{◌∙◌}
-use Rattle.node_store.proofs.MovedTexts.{movable}
+use Rattle.std.proofs.Common.{sym, ◌∙◌}
+use Rattle.node_store.proofs.MovedTexts.{passed, passed_edits}
 use Rattle.node_store.proofs.moving.add_edit_of.Goals as goal
 
-pub returns-clause-movable : goal.returns-clause-movable
-returns-clause-movable c =
-    movable c.args.text.now c.kind.result.now c.name.result.now c.as_bytes.result.now c.in_ok-row.row c.kind.ensures c.name.ensures (c.as_bytes.ensures.value ∙ c.text.ensures) c.in_ok-row.ensures.row c.in_ok-row.ensures.place c.in_ok-add_edit.ensures.again
+pub returns-then-is_line_place-clause-edits : goal.returns-then-is_line_place-clause-edits
+returns-then-is_line_place-clause-edits c =
+    passed_edits c.args.text.now c.kind.result.now c.name.result.now c.kind.ensures c.name.ensures c.args.edits.now.items (sym c.is_line_place.ensures ∙ c.if-is_line_place.true)
+
+pub returns-then-is_line_place-clause-movable : goal.returns-then-is_line_place-clause-movable
+returns-then-is_line_place-clause-movable c = passed c.args.text.now c.kind.result.now c.name.result.now c.kind.ensures c.name.ensures (sym c.is_line_place.ensures ∙ c.if-is_line_place.true)

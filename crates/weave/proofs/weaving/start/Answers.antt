@@ -11,6 +11,6 @@ returns c =
     let zeros = places.items_if_clones_equal (λ y h. h) in
     record {
       reached = subst (λ l. Reached c.args._given.now c.args.histories.now c.in_ok-places.places.items c.in_ok-newest.newest.items l) (sym c.new.ensures.items)
-          (subst₂ (λ a b. Reached c.args._given.now c.args.histories.now a b []) (sym zeros) (sym (newest.items_if_clones_equal (λ y h. h))) (start_reached c.args._given.now c.args.histories.now));
+          (subst₂ (λ a b. Reached c.args._given.now c.args.histories.now a b []) (sym zeros) (sym newest) (start_reached c.args._given.now c.args.histories.now));
       waits = waits_first c.args.needs.now (length c.args.histories.now) c.in_ok-places.places.items c.in_ok-waits.waits.items zeros c.in_ok-waits.ensures;
     }

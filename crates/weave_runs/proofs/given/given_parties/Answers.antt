@@ -7,5 +7,5 @@ pub loop-word-preserved : goal.loop-word-preserved
 loop-word-preserved c =
     let before = c.loop-word.parties.items in
     let items : c.push.new.self.items ≡ before ++ c.in-Ok.party ∷ [] = search rules in
-    given_more c.args.nodes.now c.args.transcripts.now c.args.words.now c.loop-word.word-index _ before c.push.new.self.items c.in-Ok.party
+    given_more c.args.transcripts.now c.args.words.now c.loop-word.word-index _ before c.push.new.self.items c.in-Ok.party
     (slice_get-get_or c.args.words.now c.loop-word.word-index _ (omega arith)) c.loop-word.invariant c.in-Ok.ensures.given items

@@ -24,7 +24,7 @@ loop-i-preserved c =
       | in-Some+in_ok-push_place-in-Some w ↦
           subst (λ o. string_bytes o ++ marked c.match-next_line.is_first rest ≡ whole) (sym w.output-is)
           (subst (λ b. string_bytes w.push_place.new.output ++ marked b rest ≡ whole) (sym w.is_first-is)
-          (place_more files told front i _ c.index-transcripts-i.result _ (slice_get-get_or files i _ (omega arith)) told_at place_at _ c.loop-i.is_first (string_bytes c.loop-i.output)
+          (place_more files told front i c.index-files-i.result c.index-transcripts-i.result _ (got_by files i c.index-files-i.result (omega arith) c.index-files-i.is) told_at place_at _ c.loop-i.is_first (string_bytes c.loop-i.output)
           (string_bytes w.push_place.new.output) whole (sym w.in-Some.is ∙ c.next_line.ensures) c.loop-i.invariant w.in_ok-push_place-in-Some.ensures))
       | in-None w ↦
           subst (λ o. string_bytes o ++ marked c.match-next_line.is_first rest ≡ whole) (sym w.output-is)

@@ -5,4 +5,4 @@ use Rattle.weave_runs.proofs.refusal.weave_refusal.Goals as goal
 
 pub returns-in-Differs : goal.returns-in-Differs
 returns-in-Differs c =
-    subst (λ (f : TurnFault). IfOk c.differs_refusal.result (λ s. TellsFault c.args.nodes.now c.args.files.now c.args.transcripts.now f (string_bytes s))) (sym c.in-Differs.is) c.differs_refusal.ensures
+    subst (λ (f : TurnFault). IfOk c.differs_refusal.result (λ s. TellsFault c.args.files.now c.args.transcripts.now f (string_bytes s))) (sym c.in-Differs.is) c.differs_refusal.ensures

@@ -1,17 +1,18 @@
-use Rattle.std.proofs.Common.{subst}
-use Rattle.transcripts.specs.Told.{IsSource}
-use Rattle.weave_runs.proofs.StepLemmas.{came, delivered, on_ok, restarted}
+use Rattle.std.proofs.Common.{refl}
+use Rattle.weave_runs.proofs.StepLemmas.{came_so, delivered_so, on_ok, restarted_so}
 use Rattle.weave_runs.proofs.written.push_entry.Goals as goal
 
 pub returns-in-Some : goal.returns-in-Some
-returns-in-Some c = on_ok c.push_delivery.result (λ adds. delivered c.args.given.now _ _ _ _ _ _ c.in-Some.ensures.some c.in-Some.ensures.asked adds) c.push_delivery.ensures
+returns-in-Some c =
+    on_ok c.push_delivery.result (λ adds. delivered_so c.args.given.now c.args.histories.now c.args.opening.now c.args.entry.now c.nodes.result.now c.party-party.result.now c.nodes.ensures c.party-party.ensures
+    _ _ c.args.text.now.items c.push_delivery.new.text.items c.in-Some.ensures.some c.in-Some.ensures.asked adds) c.push_delivery.ensures
 
-pub returns-in-Echoed : goal.returns-in-Echoed
-returns-in-Echoed c =
-    let is = subst (IsSource c.args.party.now c.args.entry.now) c.in-Echoed.is c.requires in
-    on_ok c.push_line.result (λ adds. came c.args.given.now c.node_lines_are_lines.ensures _ c.args.entry.now c.in-Echoed.line.bytes.now _ _ is c.in-None.ensures.none adds) c.push_line.ensures
+pub returns-in-Some-line : goal.returns-in-Some-line
+returns-in-Some-line c =
+    on_ok c.push_line.result (λ adds. came_so c.args.given.now c.args.histories.now c.args.opening.now c.args.entry.now c.node_lines_are_lines.ensures c.args.source.now _ _ c.args.text.now.items
+    c.push_line.new.text.items c.in-Some-line.ensures.some c.requires.source c.in-None.ensures.none adds) c.push_line.ensures
 
-pub returns-in-Restarted : goal.returns-in-Restarted
-returns-in-Restarted c =
-    let is = subst (IsSource c.args.party.now c.args.entry.now) c.in-Restarted.is c.requires in
-    on_ok c.push_restart.result (λ adds. restarted c.args.given.now _ c.args.entry.now _ _ is adds) c.push_restart.ensures
+pub returns-in-None-line : goal.returns-in-None-line
+returns-in-None-line c =
+    on_ok c.push_restart.result (λ adds. restarted_so c.args.given.now c.args.histories.now c.args.opening.now c.args.entry.now c.args.opening.now.setup c.party-party.result.now refl c.party-party.ensures
+    c.args.source.now _ c.args.text.now.items c.push_restart.new.text.items c.in-None-line.ensures.none c.requires.source adds) c.push_restart.ensures

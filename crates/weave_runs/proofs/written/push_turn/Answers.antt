@@ -1,26 +1,23 @@
-use Rattle.std.proofs.Common.{◌≡◌, ap, sym, subst, ◌∙◌, ◌<◌, length, List}
-use Rattle.std.specs.Prelude.{Some, slice_get}
-use Rattle.std.proofs.lemmas.Option.{slice_get_within}
-use Rattle.histories.specs.declared.entry.Entry.{Entry}
-use Rattle.histories.proofs.Lists.{some_same}
-use Rattle.histories.specs.Weaving.{Woven}
-use Rattle.transcripts.specs.Told.{Told}
-use Rattle.weave_runs.specs.Steps.{Names}
-use Rattle.weave.proofs.Places.{got_by}
-use Rattle.weave_runs.proofs.StepLemmas.{on_ok}
+use Rattle.std.proofs.Common.{◌<◌, ◌∙◌, List, [], ap, length, subst, sym}
+use Rattle.replays.specs.declared.transcript.Source.TheVariants.{Echoed}
+use Rattle.weave_runs.proofs.StepLemmas.{as_read, on_ok, turn_adds}
 use Rattle.weave_runs.proofs.written.push_turn.Goals as goal
+
+pub push_entry-requires-clause-member : goal.push_entry-requires-clause-member
+push_entry-requires-clause-member c =
+    let at = as_read c.args.transcripts.now c.args.turn c.index-transcripts-turn.result c.requires.named c.requires.told c.index-transcripts-turn.is c.sources.ensures c.openings.ensures c.entries.ensures
+    (Echoed 0 (record { number = 0; bytes = record { ref_ptr = (0, 0); now = [] } })) c.opening.ensures c.index-openings-opening.is c.index-entries-turn.is in
+    (c.requires.told.each c.index-transcripts-turn.result at.inside).members c.index-openings-opening.result at.opened
+
+pub push_entry-requires-clause-source : goal.push_entry-requires-clause-source
+push_entry-requires-clause-source c =
+    let at = as_read c.args.transcripts.now c.args.turn c.index-transcripts-turn.result c.requires.named c.requires.told c.index-transcripts-turn.is c.sources.ensures c.openings.ensures c.entries.ensures
+    (Echoed 0 (record { number = 0; bytes = record { ref_ptr = (0, 0); now = [] } })) c.opening.ensures c.index-openings-opening.is c.index-entries-turn.is in
+    (c.requires.sourced c.index-transcripts-turn.result at.inside).each c.args.turn.entry c.index-entries-turn.result _ c.index-openings-opening.result at.stands at.comes at.of_run
 
 pub returns : goal.returns
 returns c =
-    let told = c.args.transcripts.now in
-    let t = c.args.turn in
-    let u = c.index-transcripts-turn.result in
-    let (x, names) = c.requires in
-    let here = got_by told t.history u (slice_get_within told t.history names.teller_of names.here) c.index-transcripts-turn.is in
-    let same = some_same names.teller_of u (sym names.here ∙ here) in
-    let named = subst (λ (v : Told). slice_get v.replay.entries t.entry ≡ Some x.entry) same names.stands in
-    let within = subst (λ (es : List Entry). t.entry < length es) (sym c.entries-entries.ensures) (slice_get_within u.replay.entries t.entry x.entry named) in
-    let stands = got_by c.entries-entries.result.now t.entry c.index-entries-turn.result within c.index-entries-turn.is in
-    let woven : Woven = record { party = c.party.result.now; entry = c.index-entries-turn.result } in
-    let is : Names told t woven = record { teller_of = u; here = here; party = sym c.party.ensures; stands = ap (λ (es : List Entry). slice_get es t.entry) (sym c.entries-entries.ensures) ∙ stands } in
-    on_ok c.push_entry.result (λ adds. (woven, is, adds)) c.push_entry.ensures
+    let at = as_read c.args.transcripts.now c.args.turn c.index-transcripts-turn.result c.requires.named c.requires.told c.index-transcripts-turn.is c.sources.ensures c.openings.ensures c.entries.ensures
+    (Echoed 0 (record { number = 0; bytes = record { ref_ptr = (0, 0); now = [] } })) c.opening.ensures c.index-openings-opening.is c.index-entries-turn.is in
+    on_ok c.push_entry.result (λ adds. turn_adds c.args.transcripts.now c.args.turn c.index-transcripts-turn.result at.here c.args.given.now c.args.histories.now c.index-entries-turn.result at.stands _ at.comes
+    c.index-openings-opening.result at.of_run c.args.text.now.items c.push_entry.new.text.items adds) c.push_entry.ensures

@@ -1,3 +1,0 @@
-pub mod PlainTexts
-pub mod NamedMembers
-pub mod DoneReads

@@ -1,5 +1,0 @@
-use Rattle.feeding_laws.proofs.Feeding as laws
-use Rattle.feeding_laws.proofs.laws.feeding_again_does_the_same.Goals as goal
-
-pub returns : goal.returns
-returns c = laws.feeding_again_does_the_same

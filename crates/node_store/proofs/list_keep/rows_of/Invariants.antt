@@ -1,6 +1,0 @@
-use Rattle.std.proofs.Common.{◌≡◌, []}
-use Rattle.node_store.specs.Contents.{rows_after}
-use Rattle.node_store.proofs.list_keep.rows_of.Given as goal
-
-abbrev pub invariant-loop-place : goal.invariant-loop-place
-invariant-loop-place l = rows_after l.rows.items l.place-iterator ≡ rows_after [] l.initial.place-iterator

@@ -1,5 +1,0 @@
-pub mod Readable
-pub mod Laws
-pub mod LaterRuns
-pub mod Outputs
-pub mod RunKinds

@@ -1,0 +1,16 @@
+pub mod LineTurns
+pub mod Happenings
+pub mod Openings
+pub mod Cutting
+pub mod CutRuns
+pub mod Fronts
+pub mod Printed
+pub mod Telling
+pub mod Walks
+pub mod Reading
+pub mod Ways
+pub mod Answering
+pub mod Transcripts
+pub mod RunParts
+pub mod Laws
+pub mod Outputs

@@ -1,5 +1,0 @@
-mod LineLemmas
-pub mod ToldFaults
-mod UniqueParts
-pub mod PartLemmas
-mod BeginningLemmas

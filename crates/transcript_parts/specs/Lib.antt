@@ -1,4 +1,0 @@
-pub mod Lines
-pub mod LineReads
-pub mod Parts
-pub mod Beginnings

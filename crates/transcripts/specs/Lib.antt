@@ -1,9 +1,0 @@
-pub mod LineEvents
-pub mod Told
-pub mod Diverging
-pub mod Following
-pub mod Covering
-pub mod Exact
-pub mod Accusing
-pub mod Ways
-pub mod Laws

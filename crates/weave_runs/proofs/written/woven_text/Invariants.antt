@@ -1,7 +1,0 @@
-use Rattle.std.proofs.Common.{take}
-use Rattle.weave_runs.specs.Steps.{HasSteps}
-use Rattle.weave_runs.proofs.written.woven_text.Given as goal
-
--- the lines of the turns before this one are written
-abbrev pub invariant-loop-turn : goal.invariant-loop-turn
-invariant-loop-turn l = HasSteps l.given l.transcripts (take l.turn-index l.turns) l.line l.text.items
