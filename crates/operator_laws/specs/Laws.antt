@@ -2,7 +2,7 @@
 -- of times, what charge points report, bills that are to be taken back, time that passes, at moments that may go back,
 -- EVSEs that go out of service and come back, and restarts of the operator from what it stored; events that are refused
 -- among them.
-use Rattle.std.specs.Prelude.{◌≡◌, ◌⊎◌, ℕ, ◌+◌, ◌≤◌, ◌<◌, List, Some, Ok, Contains, slice_get}
+use Rattle.std.specs.Prelude.{◌≡◌, ◌⊎◌, ℕ, ◌+◌, ◌≤◌, ◌<◌, List, [], ◌∷◌, Some, Ok, Contains, slice_get}
 use Rattle.std.specs.List.{flat_map}
 use Rattle.std.specs.FinMap.{get}
 use Rattle.ocpi_text.specs.Party.{party_at}
@@ -29,12 +29,29 @@ use Rattle.node_laws.specs.Runs as runs
 use Rattle.outbox.specs.declared.push_book.Outgoing.{Outgoing}
 use Rattle.operator_rows.specs.State.{State, opening}
 use Rattle.operator_rows.specs.Sound.{IsConsistent}
-use Rattle.operator_steps.specs.Events.{Arrives, Event, Happens}
+use Rattle.operator_steps.specs.Events.{Arrives, Credits, Event, Happens, Input, Reopens, Reports, Restarts, Serves, Ticks}
 use Rattle.operator_laws.specs.References.{AreSpent, HaveOneCarrier, Uses}
 
 -- a run from one state to another, event by event
 abbrev pub Run : State → List Event → State → Type 0
 Run s es t = runs.Run Happens s es t
+
+-- the setups under which the operator started again in the run
+abbrev pub setup_of : Input → List SiteLine
+setup_of (Arrives at q) = []
+setup_of (Serves evse in_service) = []
+setup_of (Reports at report) = []
+setup_of (Credits at session) = []
+setup_of (Ticks at) = []
+setup_of Restarts = []
+setup_of (Reopens line) = line ∷ []
+
+abbrev pub setups_in : List Event → List SiteLine
+setups_in es = flat_map (λ (e : Event). setup_of e.input) es
+
+-- all providers that the operator was ever set up with, as they were spelled
+abbrev pub providers_in : SiteLine → List Event → List (List ℕ)
+providers_in line es = flat_map (λ (l : SiteLine). l.parties.providers) (line ∷ setups_in es)
 
 -- all packets of a run, in order
 abbrev pub sent : List Event → List Packet

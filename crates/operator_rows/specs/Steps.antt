@@ -23,9 +23,10 @@ use Rattle.outbox.specs.Resend.{Resend, SendRooms, HasRoomUntil}
 use Rattle.node_steps.specs.Drafts.{Step}
 use Rattle.node_steps.specs.declared.plan.Volatile.{Volatile}
 pub use Rattle.node_steps.specs.Timing.{HasTimeRoom, HaveTimeRoom, number_of, time_taken, timed, timed_all, untimed, untimed_all}
+use Rattle.ocpi_types.specs.declared.site.SiteLine.{SiteLine}
 use Rattle.operator_rows.specs.State.{State}
 use Rattle.operator_rows.specs.Stored.{AreApart, Each, HasRoom, Rooms, changed, changed_all, change_key}
-use Rattle.operator_rows.specs.Sound.{MayAwait, MayChangeAll}
+use Rattle.operator_rows.specs.Sound.{IsSound, MayAwait, MayChangeAll}
 
 -- the state once a change is carried out
 abbrev pub after_change : Change → State → State
@@ -51,6 +52,15 @@ after_full x s = let t = after x.step s in record t { waits = waited_all x.waits
 -- the operator starts again from what it stored: each push is due at once, and no authorization is awaited
 abbrev pub restarted : State → State
 restarted s = record s { resend = empty; waits = empty }
+
+-- the operator starts again from what it stored, under another setup: other providers, another site
+abbrev pub reopened : SiteLine → State → State
+reopened line s = record s { providers = line.parties.providers; site = line.site; resend = empty; waits = empty }
+
+-- it may: the setup is of the same party, and no row that is stored is bad under it
+pub record MayReopen (s : State) (line : SiteLine) : Type 0 where
+  pub party : line.parties.operator ≡ s.party
+  pub sound : IsSound (reopened line s)
 
 -- a push that has no resend time, or that no change is of
 abbrev pub KeepsTime : Resend → List Change → ℕ → Type 0

@@ -5,8 +5,8 @@ use Rattle.ocpi_types.specs.declared.packet.Packet.{Packet}
 use Rattle.ocpi_types.specs.declared.rows.Change.{Change}
 use Rattle.ocpi_types.specs.declared.token.Token.{Token}
 use Rattle.node_steps.specs.Acts.{Act}
-use Rattle.provider_rows.specs.State.{State}
-use Rattle.provider_rows.specs.Steps.{restarted}
+use Rattle.provider_rows.specs.State.{Peering, State}
+use Rattle.provider_rows.specs.Steps.{MayReopen, reopened, restarted}
 use Rattle.provider_steps.specs.Moves.{Out, StepBy, idle}
 use Rattle.provider_steps.specs.Orders.{OrderLine}
 use Rattle.provider_steps.specs.Packets.{Comes}
@@ -21,6 +21,7 @@ pub data Input : Type 0 where
   Gives : ℕ → Token → Input
   Ticks : ℕ → Input
   Restarts : Input
+  Reopens : Peering → Input
 
 -- what an input comes to, were there no last number. A restart is no list of acts
 abbrev pub Asks : State → Input → List Act → Type 0
@@ -29,6 +30,7 @@ Asks s (Submits at operator order) acts = OrderLine s at operator order acts
 Asks s (Gives at t) acts = TokenLine s at t acts
 Asks s (Ticks at) acts = TickLine s at acts
 Asks s Restarts acts = ⊥
+Asks s (Reopens p) acts = ⊥
 
 -- what reached the provider, the rows that it changed, and the packets that it sent
 pub record Event : Type 0 where
@@ -44,4 +46,5 @@ event_out e t = record { state = t; changes = e.changes; packets = e.packets }
 pub data Happens (s : State) (e : Event) (t : State) : Type 0 where
   Done : StepBy (Asks s e.input) s (event_out e t) → Happens s e t
   Restarted : e.input ≡ Restarts → event_out e t ≡ idle (restarted s) → Happens s e t
+  Reopened : (p : Peering) → e.input ≡ Reopens p → MayReopen s p → event_out e t ≡ idle (reopened p s) → Happens s e t
   Refused : event_out e t ≡ idle s → Happens s e t

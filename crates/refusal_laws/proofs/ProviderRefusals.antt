@@ -26,7 +26,7 @@ use Rattle.node_steps.specs.declared.fault.NodeFault.{NodeFault}
 use Rattle.node_steps.specs.declared.fault.NodeFault.TheVariants.{NotForMe, UnknownOperator, UnknownToken, StampEnd, NumbersUsedUp, Memory}
 use Rattle.provider_rows.specs.State.{State}
 use Rattle.provider_steps.specs.Acts.{replaced, stored, token_acts}
-use Rattle.provider_steps.specs.Events.{Arrives, Asks, Gives, Input, Restarts, Submits, Ticks}
+use Rattle.provider_steps.specs.Events.{Arrives, Asks, Gives, Input, Reopens, Restarts, Submits, Ticks}
 use Rattle.provider_steps.specs.Faults.{PassesLast}
 use Rattle.provider_steps.specs.Moves.{AreInRange, Out, StepBy, counters_of}
 use Rattle.provider_steps.specs.Orders as orders
@@ -264,3 +264,4 @@ module _ (s : State) (out : Out) where
   provider_excludes (Gives at t) fault h other step = of_token at t fault h other step
   provider_excludes (Ticks at) fault h other step = of_tick at fault h other step
   provider_excludes Restarts fault h other step = h
+  provider_excludes (Reopens p) fault h other step = h

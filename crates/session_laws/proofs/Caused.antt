@@ -42,7 +42,7 @@ use Rattle.operator_steps.specs.Charger as charger
 use Rattle.operator_steps.specs.Charger.{ChargerLine}
 use Rattle.operator_steps.specs.Credits as credits
 use Rattle.operator_steps.specs.Credits.{CreditLine, next_credit}
-use Rattle.operator_steps.specs.Events.{Event, Input, Arrives, Serves, Reports, Credits, Ticks, Restarts, Asks}
+use Rattle.operator_steps.specs.Events.{Event, Input, Arrives, Serves, Reports, Credits, Ticks, Restarts, Reopens, Asks}
 use Rattle.operator_steps.specs.Moves.{AreInRange, Quietly, Work, quiet}
 use Rattle.operator_steps.specs.Service as service
 use Rattle.operator_steps.specs.Service.{ServiceLine}
@@ -320,6 +320,7 @@ asked_caused s (Reports at report) work fine line range = report_caused s (Repor
 asked_caused s (Credits at session) work fine line range = credit_caused s (Credits at session) at session refl work line
 asked_caused s (Ticks at) work fine line range = tick_caused s (Ticks at) at refl work ((stages_see s at work fine).0 line) range
 asked_caused s Restarts work fine line range = absurd line
+asked_caused s (Reopens other) work fine line range = absurd line
 
 -- an event puts versions and records for a cause
 module _ (s t : State) (e : Event) (fine : IsConsistent s) (d : Does s e t) where

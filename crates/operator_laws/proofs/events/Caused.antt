@@ -39,7 +39,7 @@ use Rattle.operator_steps.specs.Charger.{ChargerLine}
 use Rattle.operator_steps.specs.Credits as credits
 use Rattle.operator_steps.specs.Credits.{CreditLine, next_credit}
 use Rattle.operator_steps.specs.Ends.{IsOfSite, IsOpen, end_acts, ends_acts, expired_acts}
-use Rattle.operator_steps.specs.Events.{Input, Arrives, Serves, Reports, Credits, Ticks, Restarts, Asks}
+use Rattle.operator_steps.specs.Events.{Input, Arrives, Serves, Reports, Credits, Ticks, Restarts, Reopens, Asks}
 use Rattle.operator_steps.specs.Moves.{Work}
 use Rattle.operator_steps.specs.Service as service
 use Rattle.operator_steps.specs.Service.{ServiceLine}
@@ -320,3 +320,4 @@ asked_caused s (Reports at report) work line = report_caused s (Reports at repor
 asked_caused s (Credits at session) work (part, line, is) = credit_caused s (Credits at session) work.acts at session (subst (λ (w : Work). CreditLine s at session w.acts) (sym is) line)
 asked_caused s (Ticks at) work line = tick_caused s (Ticks at) work.acts at work refl line
 asked_caused s Restarts work line = absurd line
+asked_caused s (Reopens other) work line = absurd line

@@ -60,7 +60,7 @@ use Rattle.operator_steps.specs.Charger.{ChargerLine, IsStarted, Shows, outcome}
 use Rattle.operator_steps.specs.Credits as credits
 use Rattle.operator_steps.specs.Credits.{CreditLine, next_credit}
 use Rattle.operator_steps.specs.Ends.{all_resent, ends_acts, expired_acts}
-use Rattle.operator_steps.specs.Events.{Input, Arrives, Serves, Reports, Credits, Ticks, Restarts, Asks}
+use Rattle.operator_steps.specs.Events.{Input, Arrives, Serves, Reports, Credits, Ticks, Restarts, Reopens, Asks}
 use Rattle.operator_steps.specs.Moves.{Work}
 use Rattle.operator_steps.specs.Service as service
 use Rattle.operator_steps.specs.Service.{ServiceLine}
@@ -428,3 +428,4 @@ asked_reason s (Credits at session) work fine (part, line, is) =
     credit_reason s (Credits at session) work.acts at session refl (subst (λ (w : Work). CreditLine s at session w.acts) (sym is) line)
 asked_reason s (Ticks at) work fine line = tick_reason s (Ticks at) work.acts at work refl ((stages_see s at work fine).0 line)
 asked_reason s Restarts work fine line = absurd line
+asked_reason s (Reopens other) work fine line = absurd line

@@ -44,7 +44,7 @@ use Rattle.operator_steps.specs.Charger.{ChargerLine}
 use Rattle.operator_steps.specs.Credits as credits
 use Rattle.operator_steps.specs.Credits.{CreditLine, next_credit}
 use Rattle.operator_steps.specs.Ends.{all_resent, end_acts, ends_acts, expired_acts, resent_acts, url_in}
-use Rattle.operator_steps.specs.Events.{Input, Arrives, Serves, Reports, Credits, Ticks, Restarts, Asks}
+use Rattle.operator_steps.specs.Events.{Input, Arrives, Serves, Reports, Credits, Ticks, Restarts, Reopens, Asks}
 use Rattle.operator_steps.specs.Moves.{Work}
 use Rattle.operator_steps.specs.Service as service
 use Rattle.operator_steps.specs.Service.{ServiceLine}
@@ -289,3 +289,4 @@ asked_said s (Reports at report) work fine line = report_said s (Reports at repo
 asked_said s (Credits at session) work fine (part, line, is) = credit_said s (Credits at session) work.acts at session (subst (λ (w : Work). CreditLine s at session w.acts) (sym is) line)
 asked_said s (Ticks at) work fine line = tick_said s (Ticks at) work.acts at work refl ((stages_see s at work fine).0 line)
 asked_said s Restarts work fine line = absurd line
+asked_said s (Reopens other) work fine line = absurd line

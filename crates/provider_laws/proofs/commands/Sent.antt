@@ -26,7 +26,7 @@ use Rattle.node_laws.proofs.BodyKinds.{command_or_push, no_command}
 use Rattle.provider_rows.specs.State.{Rows, State}
 use Rattle.provider_steps.specs.declared.pushing.Pushing.{Pushing}
 use Rattle.provider_steps.specs.Acts.{referenced, replaced, token_acts}
-use Rattle.provider_steps.specs.Events.{Arrives, Asks, Done, Event, Gives, Happens, Input, Refused, Restarted, Restarts, Submits, Ticks}
+use Rattle.provider_steps.specs.Events.{Arrives, Asks, Done, Event, Gives, Happens, Input, Refused, Reopened, Reopens, Restarted, Restarts, Submits, Ticks}
 use Rattle.provider_steps.specs.Moves.{Out}
 use Rattle.provider_steps.specs.Orders as orders
 use Rattle.provider_steps.specs.Orders.{Makes, next_reference, next_request}
@@ -164,6 +164,7 @@ asked_said s (Gives at t) acts line =
 asked_said s (Ticks at) acts line =
     subst (AreSaid s.rows.outbox.commands (through acts s.rows).outbox.commands) (sym (ap all_messages line.acts_are)) (resent_said s.rows.outbox (through acts s.rows).outbox.commands at line.due)
 asked_said s Restarts acts line = absurd line
+asked_said s (Reopens p) acts line = absurd line
 
 abbrev Stands : State → Packet → Command → Type 0
 Stands t x c = (d : SentCommand) × (get t.rows.outbox.commands x.request ≡ Some d) × (d.to ≡ x.to) × (d.command ≡ c)
@@ -186,6 +187,7 @@ module _ (s t : State) (e : Event) (happens : Happens s e t) (counted : AreCount
           let f = of_numbered s.party s.rows.serial (all_messages by.acts) x (subst (λ l. Contains l x) (ap (λ (o : Out). o.packets) by.out_is) h) in
           by_says (all_messages by.acts) f (subst (λ (r : Rows). Says s.rows.outbox.commands r.outbox.commands f.message) (sym rows) (asked_said s e.input by.acts by.line f.message f.listed))
       in_event (Restarted now out_is) = absurd (in_none x (subst (λ l. Contains l x) (ap (λ (o : Out). o.packets) out_is) h))
+      in_event (Reopened p now may out_is) = absurd (in_none x (subst (λ l. Contains l x) (ap (λ (o : Out). o.packets) out_is) h))
       in_event (Refused out_is) = absurd (in_none x (subst (λ l. Contains l x) (ap (λ (o : Out). o.packets) out_is) h))
 
 stand_from : (s t : State) (es : List Event) → AreCounted s → Run s es t → (x : Packet) (c : Command) → Contains (sent es) x → x.body ≡ body.Command c → Stands t x c

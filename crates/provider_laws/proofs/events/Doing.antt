@@ -31,10 +31,10 @@ use Rattle.token_desk.specs.References.{reference_of}
 use Rattle.node_steps.specs.Acts.{Act, all_changes, all_requests, answered, commanded, in_turn, pushed, unanswered}
 use Rattle.node_steps.specs.Drafts.{Counters, count_change, count_changes, counted}
 use Rattle.node_steps.proofs.Gathering.{changes_append}
-use Rattle.provider_rows.specs.State.{Rows, State}
+use Rattle.provider_rows.specs.State.{Peering, Rows, State}
 use Rattle.provider_steps.specs.declared.pushing.Pushing.{Pushing}
 use Rattle.provider_steps.specs.Acts.{billed, held, kept, referenced, replaced, stored, token_acts, with_answer, with_result}
-use Rattle.provider_steps.specs.Events.{Arrives, Asks, Done, Event, Gives, Happens, Input, Refused, Restarted, Restarts, Submits, Ticks}
+use Rattle.provider_steps.specs.Events.{Arrives, Asks, Done, Event, Gives, Happens, Input, Refused, Reopened, Reopens, Restarted, Restarts, Submits, Ticks}
 use Rattle.provider_steps.specs.Moves.{Out, counters_of, step_of_acts}
 use Rattle.provider_steps.specs.Orders.{Makes, next_reference, next_request}
 use Rattle.provider_steps.specs.Orders as orders
@@ -443,6 +443,7 @@ asked_plain s (Submits at operator o) acts line = subst (λ l. ArePlain (all_cha
 asked_plain s (Gives at t) acts line = subst (λ l. ArePlain (all_changes l)) (sym line.acts_are) (tt, tokens_plain at line.version s.rows.outbox.last line.pushes)
 asked_plain s (Ticks at) acts line = subst (λ l. ArePlain (all_changes l)) (sym line.acts_are) (resent_plain at s.rows.outbox line.due)
 asked_plain s Restarts acts line = absurd line
+asked_plain s (Reopens p) acts line = absurd line
 
 asked_does : (s : State) (i : Input) (acts : List Act) → Asks s i acts → ((n : ℕ) → Contains (all_changes acts) (Put (row.Count Reference n)) → n ≤ max_whole) → s.rows.outbox.last + all_requests acts ≤ max_whole → DoesAll s i acts
 asked_does s (Arrives at q) acts comes range most = line_does s at q comes.operator acts comes.line range
@@ -454,6 +455,7 @@ asked_does s (Gives at t) acts line range most = subst (DoesAll s (Gives at t)) 
     (tokens_untouched at line.version s.rows.outbox.last line.pushes (one_act (stored line.version) s.rows) (omega arith))))
 asked_does s (Ticks at) acts line range most = subst (DoesAll s (Ticks at)) (sym line.acts_are) (untouched_does s (Ticks at) _ _ (resent_put_none at s.rows.outbox line.due) (resent_untouched at s.rows.outbox line.due s.rows))
 asked_does s Restarts acts line range most = absurd line
+asked_does s (Reopens p) acts line range most = absurd line
 
 -- the rows of counters are no records
 counts_put_none : (s : State) (acts : List Act) → cdrs_put (step_of_acts s acts).changes ≡ cdrs_put (all_changes acts)
@@ -482,10 +484,23 @@ does s t e (Done by) = of_step s e.input (all_changes by.acts) (through by.acts 
     (ap (λ (o : Out). o.state.rows) by.out_is ∙ acted_through s by.acts (asked_plain s e.input by.acts by.line))
     (asked_does s e.input by.acts by.line by.in_range.references by.in_range.counters.request)
 does s t e (Restarted now is) = untouched_does s e.input e.changes t.rows (ap (λ (o : Out). cdrs_put o.changes) is) (subst (Untouched s.rows) (sym (ap (λ (o : Out). o.state.rows) is)) (same_rows s.rows))
+does s t e (Reopened p now may is) = untouched_does s e.input e.changes t.rows (ap (λ (o : Out). cdrs_put o.changes) is) (subst (Untouched s.rows) (sym (ap (λ (o : Out). o.state.rows) is)) (same_rows s.rows))
 does s t e (Refused is) = untouched_does s e.input e.changes t.rows (ap (λ (o : Out). cdrs_put o.changes) is) (subst (Untouched s.rows) (sym (ap (λ (o : Out). o.state.rows) is)) (same_rows s.rows))
+
+-- whom the provider deals with is as it was, or as it starts again
+pub data IsAmong (s : State) (i : Input) (t : State) : Type 0 where
+  Same : t.operators ≡ s.operators → IsAmong s i t
+  Other : (p : Peering) → i ≡ Reopens p → t.operators ≡ p.operators → IsAmong s i t
+
+pub is_among : (s t : State) (e : Event) → Happens s e t → IsAmong s e.input t
+is_among s t e (Done by) = Same (ap (λ (o : Out). o.state.operators) by.out_is)
+is_among s t e (Restarted now is) = Same (ap (λ (o : Out). o.state.operators) is)
+is_among s t e (Reopened p now may is) = Other p now (ap (λ (o : Out). o.state.operators) is)
+is_among s t e (Refused is) = Same (ap (λ (o : Out). o.state.operators) is)
 
 -- the party stays
 pub same_party : (s t : State) (e : Event) → Happens s e t → t.party ≡ s.party
 same_party s t e (Done by) = ap (λ (o : Out). o.state.party) by.out_is
 same_party s t e (Restarted now is) = ap (λ (o : Out). o.state.party) is
+same_party s t e (Reopened p now may is) = ap (λ (o : Out). o.state.party) is
 same_party s t e (Refused is) = ap (λ (o : Out). o.state.party) is
