@@ -14,7 +14,7 @@ use Rattle.provider_steps.specs.Tick.{TickLine}
 use Rattle.provider_steps.specs.Tokens.{TokenLine}
 
 -- what reaches a provider: a packet comes at a moment, an order to an operator is submitted, a token is given, time
--- passes, and the provider starts again from what it stored
+-- passes, and the provider starts again from what it stored, among the operators that it had or among others
 pub data Input : Type 0 where
   Arrives : ℕ → Packet → Input
   Submits : ℕ → List ℕ → Order → Input
