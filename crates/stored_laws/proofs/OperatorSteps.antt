@@ -279,7 +279,7 @@ all_stay s t e fine whole (events.Done by) = happens_stays s t e (asks_none s e.
 all_stay s t e fine whole (events.Restarted now is) = happens_stays s t e (ap setup_of now) fine whole (events.Restarted now is)
 all_stay s t e fine whole (events.Reopened line now may is) =
     ((does s t e fine (events.Reopened line now may is)).consistent, subst (λ (o : Out). IsWhole o.state) (sym is) (reopened_is_whole s line may whole))
-all_stay s t e fine whole (events.Refused is) = (subst (λ (o : Out). IsConsistent o.state) (sym is) fine, subst (λ (o : Out). IsWhole o.state) (sym is) whole)
+all_stay s t e fine whole (events.Refused same_setup is) = (subst (λ (o : Out). IsConsistent o.state) (sym is) fine, subst (λ (o : Out). IsWhole o.state) (sym is) whole)
 
 -- and at the opening
 pub opening_is_whole : (line : SiteLine) → party_at line.parties.operator ≡ Ok line.parties.operator → IsConsistent (opening line) × IsWhole (opening line)
