@@ -1,7 +1,7 @@
 -- The laws of an operator over every list of events from its opening: packets that come, in any order and any number
 -- of times, what charge points report, bills that are to be taken back, time that passes, at moments that may go back,
--- EVSEs that go out of service and come back, and restarts of the operator from what it stored; events that are refused
--- among them.
+-- EVSEs that go out of service and come back, and restarts of the operator from what it stored, also under another
+-- setup; events that are refused among them.
 use Rattle.std.specs.Prelude.{◌≡◌, ◌⊎◌, ℕ, ◌+◌, ◌≤◌, ◌<◌, List, [], ◌∷◌, Some, Ok, Contains, slice_get}
 use Rattle.std.specs.List.{flat_map}
 use Rattle.std.specs.FinMap.{get}

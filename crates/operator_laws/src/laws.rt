@@ -156,7 +156,7 @@ pub fn opened_commands_came()
     ensures { OpenedCommandsCame }
 {}
 
-/// Each event of an operator is a step of a node.
+/// Each event of an operator is a step of a node, whose peers are all providers that the operator was ever set up with.
 pub fn steps_are_node_steps()
     ensures { StepsAreNodeSteps }
 {}
@@ -166,7 +166,7 @@ pub fn runs_are_node_runs()
     ensures { RunsAreNodeRuns }
 {}
 
-/// Each packet is from this operator, and to a provider of its site.
+/// Each packet is from this operator, and to a provider that it was ever set up with.
 pub fn packets_are_addressed()
     ensures { PacketsAreAddressed }
 {}

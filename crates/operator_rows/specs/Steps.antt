@@ -12,6 +12,7 @@ use Rattle.ocpi_types.specs.declared.cdrs.Cdr.{Cdr}
 use Rattle.ocpi_types.specs.declared.sessions.Session.{Session}
 use Rattle.ocpi_types.specs.declared.words.SessionStatus.TheVariants.{Pending}
 use Rattle.session_state.specs.Pasts as pasts
+use Rattle.session_state.specs.Resuming.{CannotResume}
 use Rattle.session_state.specs.Versions.{IsPriced, IsUncharged}
 use Rattle.authorization_book.specs.Waits as waits
 use Rattle.authorization_book.specs.Waits.{HaveRoomForAll, MayWait, waited_all}
@@ -57,10 +58,12 @@ restarted s = record s { resend = empty; waits = empty }
 abbrev pub reopened : SiteLine → State → State
 reopened line s = record s { providers = line.parties.providers; site = line.site; resend = empty; waits = empty }
 
--- it may: the setup is of the same party, and no row that is stored is bad under it
+-- it may: the setup is of the same party, and no row that is stored is bad under it. So each session can go on from its
+-- newest version, at the price of its start under that setup
 pub record MayReopen (s : State) (line : SiteLine) : Type 0 where
   pub party : line.parties.operator ≡ s.party
   pub sound : IsSound (reopened line s)
+  pub resumable : (id : List ℕ) (v : Session) → get s.rows.charged.sessions id ≡ Some v → ¬ CannotResume (price_at line.site v.start_date_time) v
 
 -- a push that has no resend time, or that no change is of
 abbrev pub KeepsTime : Resend → List Change → ℕ → Type 0
@@ -82,8 +85,8 @@ pub record Outlasts (resend : Resend) (changes : List Change) (n : ℕ) : Type 0
 abbrev pub KeepsTimeRoom : Resend → List Change → SendRooms → SendRooms → Type 0
 KeepsTimeRoom resend changes s t = (n moment : ℕ) → Outlasts resend changes n → HasRoomUntil s n moment → HasRoomUntil t n moment
 
--- the version may be put by the prices of the moments: a new session begins with it, or it may follow the version that stands (OCPI 2.2.1, Sessions:
--- SessionStatus)
+-- the version may be put by the prices of the moments: a new session begins with it, or it may follow the version that
+-- stands (OCPI 2.2.1, Sessions: SessionStatus)
 abbrev pub IsNextOf : (ℕ → ℤ) → Option Session → Session → Type 0
 IsNextOf price None v = (v.status ≡ Pending) × IsPriced price v × IsUncharged v
 IsNextOf price (Some w) v = pasts.MayFollow price w v

@@ -1,5 +1,5 @@
 -- The events of an operator, each with what it may leave.
-use Rattle.std.specs.Prelude.{◌≡◌, ℕ, Bool, List}
+use Rattle.std.specs.Prelude.{◌≡◌, ◌≢◌, ℕ, Bool, List}
 use Rattle.ocpi_types.specs.declared.events.ChargerEvent.{ChargerEvent}
 use Rattle.ocpi_types.specs.declared.packet.Packet.{Packet}
 use Rattle.ocpi_types.specs.declared.rows.Change.{Change}
@@ -44,10 +44,15 @@ pub record Event : Type 0 where
 abbrev pub event_out : Event → State → Out
 event_out e t = record { state = t; changes = e.changes; packets = e.packets }
 
+-- it is no start under another setup
+abbrev pub IsUnderSame : Input → Type 0
+IsUnderSame i = (line : SiteLine) → i ≢ Reopens line
+
 -- an event leads from one state to another: the operator does what the input asks for, or starts again; or the event
--- is refused, by the operator or by the keeper of its rows, and then nothing changes and nothing is sent
+-- is refused, by the operator or by the keeper of its rows, and then nothing changes and nothing is sent. A start under
+-- another setup is no event where it is refused
 pub data Happens (s : State) (e : Event) (t : State) : Type 0 where
   Done : StepBy (Asks s e.input) s (event_out e t) → Happens s e t
   Restarted : e.input ≡ Restarts → event_out e t ≡ idle (restarted s) → Happens s e t
   Reopened : (line : SiteLine) → e.input ≡ Reopens line → MayReopen s line → event_out e t ≡ idle (reopened line s) → Happens s e t
-  Refused : event_out e t ≡ idle s → Happens s e t
+  Refused : IsUnderSame e.input → event_out e t ≡ idle s → Happens s e t

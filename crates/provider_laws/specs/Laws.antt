@@ -1,6 +1,6 @@
 -- The laws of a provider over every list of events from its opening: packets that come, in any order and any number of
 -- times, orders that are submitted, tokens that are given, time that passes, at moments that may go back, and restarts
--- of the provider from what it stored; events that are refused among them.
+-- of the provider from what it stored, also among other operators; events that are refused among them.
 use Rattle.std.specs.Prelude.{◌≡◌, ◌⊎◌, ℕ, ◌+◌, List, [], Some, None, Contains, slice_get, ◌++◌, ◌∷◌}
 use Rattle.std.specs.List.{flat_map}
 use Rattle.std.specs.FinMap.{get}
@@ -91,7 +91,7 @@ RepliesAnswer = (s t : State) (es : List Event) → Run s es t → (p : List ℕ
 abbrev pub Numbered : Type 0
 Numbered = (p : Peering) (es : List Event) (t : State) → Run (opening p) es t → (i : ℕ) (x : Packet) → slice_get (sent es) i ≡ Some x → x.serial ≡ i + 1
 
--- each packet is from this provider, to an operator that it deals with, as it spells it
+-- each packet is from this provider, to an operator that it was ever set up with, as that setup spells it
 abbrev pub PacketsAreAddressed : Type 0
 PacketsAreAddressed = (p : Peering) (es : List Event) (t : State) → Run (opening p) es t → (x : Packet) → Contains (sent es) x → (x.from ≡ p.provider) × Contains (operators_in p es) x.to
 

@@ -154,7 +154,7 @@ pub fn references_are_own()
     ensures { ReferencesAreOwn }
 {}
 
-/// Each event of a provider is a step of a node.
+/// Each event of a provider is a step of a node, whose peers are all operators that the provider was ever set up with.
 pub fn steps_are_node_steps()
     ensures { StepsAreNodeSteps }
 {}
@@ -169,7 +169,7 @@ pub fn numbered()
     ensures { Numbered }
 {}
 
-/// Each packet is from this provider, to an operator that it deals with.
+/// Each packet is from this provider, to an operator that it was ever set up with.
 pub fn packets_are_addressed()
     ensures { PacketsAreAddressed }
 {}

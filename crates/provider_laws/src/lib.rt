@@ -10,8 +10,8 @@
 //!
 //! # Promises
 //!
-//! Over every list of events from the opening on (`provider_steps/specs/Events`: `Happens`), and from any state to a
-//! later one where a law speaks of two.
+//! Over every list of events from the opening on, restarts among other operators too (`provider_steps/specs/Events`:
+//! `Happens`), and from any state to a later one where a law speaks of two.
 //!
 //! - All that `consistency` says holds. By `always_consistent`.
 //! - What is held was held before, or came in a packet of its own operator, for a token of this provider. By

@@ -1,5 +1,5 @@
 -- The events of a provider, each with what it may leave.
-use Rattle.std.specs.Prelude.{◌≡◌, ℕ, List}
+use Rattle.std.specs.Prelude.{◌≡◌, ◌≢◌, ℕ, List}
 use Rattle.ocpi_types.specs.declared.events.Order.{Order}
 use Rattle.ocpi_types.specs.declared.packet.Packet.{Packet}
 use Rattle.ocpi_types.specs.declared.rows.Change.{Change}
@@ -14,7 +14,7 @@ use Rattle.provider_steps.specs.Tick.{TickLine}
 use Rattle.provider_steps.specs.Tokens.{TokenLine}
 
 -- what reaches a provider: a packet comes at a moment, an order to an operator is submitted, a token is given, time
--- passes, and the provider starts again from what it stored
+-- passes, and the provider starts again from what it stored, among the operators that it had or among others
 pub data Input : Type 0 where
   Arrives : ℕ → Packet → Input
   Submits : ℕ → List ℕ → Order → Input
@@ -41,10 +41,15 @@ pub record Event : Type 0 where
 abbrev pub event_out : Event → State → Out
 event_out e t = record { state = t; changes = e.changes; packets = e.packets }
 
+-- it is no start among other operators
+abbrev pub IsAmongSame : Input → Type 0
+IsAmongSame i = (p : Peering) → i ≢ Reopens p
+
 -- an event leads from one state to another: the provider does what the input asks for, or starts again; or the event
--- is refused, by the provider or by the keeper of its rows, and then nothing changes and nothing is sent
+-- is refused, by the provider or by the keeper of its rows, and then nothing changes and nothing is sent. A start among
+-- other operators is no event where it is refused
 pub data Happens (s : State) (e : Event) (t : State) : Type 0 where
   Done : StepBy (Asks s e.input) s (event_out e t) → Happens s e t
   Restarted : e.input ≡ Restarts → event_out e t ≡ idle (restarted s) → Happens s e t
   Reopened : (p : Peering) → e.input ≡ Reopens p → MayReopen s p → event_out e t ≡ idle (reopened p s) → Happens s e t
-  Refused : event_out e t ≡ idle s → Happens s e t
+  Refused : IsAmongSame e.input → event_out e t ≡ idle s → Happens s e t

@@ -120,4 +120,4 @@ does s t e fine (Done by) = does_step s e t fine by
 does s t e fine (Restarted now is) = does_nothing s e t (restarted s) fine (restarted_consistent s fine) refl refl is (Same (ap (λ (o : Out). o.state.site) is) (ap (λ (o : Out). o.state.providers) is))
 does s t e fine (Reopened line now may is) =
     does_nothing s e t (reopened line s) fine (reopened_consistent line s may.sound fine) refl refl is (Other line now (ap (λ (o : Out). o.state.site) is) (ap (λ (o : Out). o.state.providers) is))
-does s t e fine (Refused is) = does_nothing s e t s fine fine refl refl is (Same (ap (λ (o : Out). o.state.site) is) (ap (λ (o : Out). o.state.providers) is))
+does s t e fine (Refused same_setup is) = does_nothing s e t s fine fine refl refl is (Same (ap (λ (o : Out). o.state.site) is) (ap (λ (o : Out). o.state.providers) is))

@@ -21,7 +21,7 @@ use Rattle.operator_rows.proofs.KeepingTimes.{opening_consistent}
 use Rattle.operator_steps.specs.Events.{Event}
 use Rattle.operator_laws.specs.Laws.{IsOfParty, Run, setup_of, setups_in}
 use Rattle.operator_laws.proofs.events.Doing.{IsUnder, Same, Other}
-use Rattle.session_laws.specs.Pasts.{FinalVersionsAreLast, FollowAt, HadPrice, IsOrderlyAt, MayComeNext, PastsAreOrderly, PastsGoOn, Prices, past, stored, versions_put}
+use Rattle.session_laws.specs.Pasts.{FinalVersionsAreLast, FollowAt, HadPrices, IsOrderlyAt, MayComeNext, PastsAreOrderly, PastsGoOn, Prices, past, stored, versions_put}
 use Rattle.session_laws.proofs.Doing.{Does, does}
 use Rattle.session_laws.proofs.Versions.{ArePut, NoVersion, Version, event_puts, stands, stays}
 
@@ -72,8 +72,8 @@ grows P s t (e ∷ es) had others fine (u, first, rest) id =
     grow P s u e d id (past id es) (versions_put id e.changes) (stored t id) had fine (event_puts s u e d id) later
 
 -- with the prices that there were
-pub grows_at : (s t : State) (es : List Event) → IsConsistent s → Run s es t → (id : List ℕ) → Grows (HadPrice s.site es) (stored s id) (past id es) (stored t id)
-grows_at s t es fine run id = grows (HadPrice s.site es) s t es (inl refl) (λ line i. inr (line, i, refl)) fine run id
+pub grows_at : (s t : State) (es : List Event) → IsConsistent s → Run s es t → (id : List ℕ) → Grows (HadPrices s.site es) (stored s id) (past id es) (stored t id)
+grows_at s t es fine run id = grows (HadPrices s.site es) s t es (inl refl) (λ line i. inr (line, i, refl)) fine run id
 
 pub pasts_go_on : PastsGoOn
 pasts_go_on s t es fine run id = let h = grows_at s t es fine run id in (h.next, h.newest)
@@ -83,7 +83,7 @@ none_at_first id o none P vs now h = let g = subst (λ z. Grows P z vs now) none
 
 pub pasts_are_orderly : PastsAreOrderly
 pasts_are_orderly line es t own run id =
-    none_at_first id (stored (opening line) id) (get-empty text_cmp id) (HadPrice line.site es) (past id es) (stored t id)
+    none_at_first id (stored (opening line) id) (get-empty text_cmp id) (HadPrices line.site es) (past id es) (stored t id)
     (grows_at (opening line) t es (opening_consistent line own) run id)
 
 -- the same, at any prices that have all that there were
@@ -106,6 +106,6 @@ none_follow P v (w ∷ ws) final ((price, had, cost, follows), more) = absurd (n
 
 pub final_versions_are_last : FinalVersionsAreLast
 final_versions_are_last s t es fine run id v has final =
-    let h = subst (λ o. Grows (HadPrice s.site es) o (past id es) (stored t id)) has (grows_at s t es fine run id) in
-    let none = none_follow (HadPrice s.site es) v (past id es) final h.next in
+    let h = subst (λ o. Grows (HadPrices s.site es) o (past id es) (stored t id)) has (grows_at s t es fine run id) in
+    let none = none_follow (HadPrices s.site es) v (past id es) final h.next in
     (none, h.newest ∙ ap (last_or (Some v)) none)

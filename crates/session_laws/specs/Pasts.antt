@@ -61,15 +61,15 @@ IsOrderlyAt P [] = ⊤
 IsOrderlyAt P (v ∷ vs) = (v.status ≡ Pending) × IsPricedAt P v × FollowAt P v vs
 
 -- the prices that the operator had, from that setup on
-abbrev pub HadPrice : Site → List Event → Prices
-HadPrice first es price = (price ≡ price_at first) ⊎ ((line : SiteLine) × Contains (setups_in es) line × (price ≡ price_at line.site))
+abbrev pub HadPrices : Site → List Event → Prices
+HadPrices first es prices = (prices ≡ price_at first) ⊎ ((line : SiteLine) × Contains (setups_in es) line × (prices ≡ price_at line.site))
 
 -- from the opening on the past of each session is orderly: it begins PENDING, its statuses follow one another, each
 -- version is later than the one before it, its energy never falls, its cost is that of its energy at a price that the
 -- operator had, and what a session is of stays. What is stored of a session is its last version
 abbrev pub PastsAreOrderly : Type 0
 PastsAreOrderly = (line : SiteLine) (es : List Event) (t : State) → IsOfParty line → Run (opening line) es t → (id : List ℕ) →
-    IsOrderlyAt (HadPrice line.site es) (past id es) × (stored t id ≡ last_or None (past id es))
+    IsOrderlyAt (HadPrices line.site es) (past id es) × (stored t id ≡ last_or None (past id es))
 
 -- versions that may come next, at those prices, where that version is stored, or none is
 abbrev pub MayComeNext : Prices → Option Session → List Session → Type 0
@@ -80,7 +80,7 @@ MayComeNext P (Some v) vs = FollowAt P v vs
 -- is stored then
 abbrev pub PastsGoOn : Type 0
 PastsGoOn = (s t : State) (es : List Event) → IsConsistent s → Run s es t → (id : List ℕ) →
-    MayComeNext (HadPrice s.site es) (stored s id) (past id es) × (stored t id ≡ last_or (stored s id) (past id es))
+    MayComeNext (HadPrices s.site es) (stored s id) (past id es) × (stored t id ≡ last_or (stored s id) (past id es))
 
 -- a version that is COMPLETED or INVALID is the last: none is put after it, and it is stored for good
 abbrev pub FinalVersionsAreLast : Type 0

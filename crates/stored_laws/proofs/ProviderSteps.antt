@@ -252,14 +252,14 @@ consistent_stays s t e fine (Done by) =
     subst (λ (o : Out). IsConsistent o.state) (sym by.out_is) (follow_consistent s (step_of_acts s by.acts) (asked_may s e.input by.acts fine by.line by.in_range) fine)
 consistent_stays s t e fine (Restarted now is) = subst (λ (o : Out). IsConsistent o.state) (sym is) (restarted_consistent s fine)
 consistent_stays s t e fine (Reopened p now may is) = subst (λ (o : Out). IsConsistent o.state) (sym is) (reopened_consistent p s may)
-consistent_stays s t e fine (Refused is) = subst (λ (o : Out). IsConsistent o.state) (sym is) fine
+consistent_stays s t e fine (Refused same_setup is) = subst (λ (o : Out). IsConsistent o.state) (sym is) fine
 
 keyed_stays : (s t : State) (e : Event) → AreKeyed s.rows → Happens s e t → AreKeyed t.rows
 keyed_stays s t e keyed (Done by) =
     subst (λ (o : Out). AreKeyed o.state.rows) (sym by.out_is) (keyed_changes (step_of_acts s by.acts).changes s.rows keyed)
 keyed_stays s t e keyed (Restarted now is) = subst (λ (o : Out). AreKeyed o.state.rows) (sym is) keyed
 keyed_stays s t e keyed (Reopened p now may is) = subst (λ (o : Out). AreKeyed o.state.rows) (sym is) keyed
-keyed_stays s t e keyed (Refused is) = subst (λ (o : Out). AreKeyed o.state.rows) (sym is) keyed
+keyed_stays s t e keyed (Refused same_setup is) = subst (λ (o : Out). AreKeyed o.state.rows) (sym is) keyed
 
 abbrev OwnTokens : State → Type 0
 OwnTokens s = (u : Token) → HasRow s.rows (row.Token u) → key u.party ≡ key s.party
@@ -277,7 +277,7 @@ tokens_stay : (s t : State) (e : Event) → IsConsistent s → OwnTokens s → H
 tokens_stay s t e fine own (Done by) = subst (λ (o : Out). OwnTokens o.state) (sym by.out_is) (tokens_after s e.input by.acts fine own by.line by.in_range)
 tokens_stay s t e fine own (Restarted now is) = subst (λ (o : Out). OwnTokens o.state) (sym is) own
 tokens_stay s t e fine own (Reopened p now may is) = subst (λ (o : Out). OwnTokens o.state) (sym is) own
-tokens_stay s t e fine own (Refused is) = subst (λ (o : Out). OwnTokens o.state) (sym is) own
+tokens_stay s t e fine own (Refused same_setup is) = subst (λ (o : Out). OwnTokens o.state) (sym is) own
 
 module _ (s t : State) (e : Event) (keyed : AreKeyed s.rows) (w : IsWhole s) (happens : Happens s e t) where
   party_is : t.party ≡ s.party

@@ -1,9 +1,10 @@
--- A node of a world starts again under the setup that it had, and under no other: so its site, its price and whom it
--- deals with stay.
+-- A node of a world starts again under the setup that it had, and under no other: so its site, its prices and whom
+-- it deals with stay.
 use Rattle.std.proofs.Common.{◌≡◌, ◌⊎◌, ℕ, ℤ, List, [], ◌∷◌, ◌++◌, refl, sym, ap, subst, ◌∙◌, append-nil}
 use Rattle.std.specs.Prelude.{None, Contains}
 use Rattle.std.specs.List.{flat_map, last_or}
 use Rattle.tables.proofs.Elements.{in_none}
+use Rattle.ocpi_types.specs.Prices.{price_at}
 use Rattle.ocpi_types.specs.declared.sessions.Session.{Session}
 use Rattle.ocpi_types.specs.declared.site.SiteLine.{SiteLine}
 use Rattle.node_steps.specs.Acts.{Act}
@@ -21,12 +22,12 @@ use Rattle.provider_steps.specs.Events as provider_events
 use Rattle.session_laws.specs.Pasts.{FollowAt, IsOrderlyAt, past, stored}
 use Rattle.session_laws.proofs.Growing.{pasts_at}
 use Rattle.session_state.specs.Pasts.{Follow, IsOrderly, MayFollow}
-use Rattle.session_state.specs.Versions.{HasCost}
+use Rattle.session_state.specs.Versions.{IsPriced}
 use Rattle.world_steps.specs.Steps as steps
 use Rattle.world_steps.specs.Steps.{OperatorDoes, ProviderDoes}
 
 -- what is asked for is no start under another setup
-asks_none : (s : operator.State) (i : operator_events.Input) (work : Work) → operator_events.Asks s i work → setup_of i ≡ []
+pub asks_none : (s : operator.State) (i : operator_events.Input) (work : Work) → operator_events.Asks s i work → setup_of i ≡ []
 asks_none s (operator_events.Arrives at q) work line = refl
 asks_none s (operator_events.Serves evse in_service) work line = refl
 asks_none s (operator_events.Reports at report) work line = refl
@@ -101,17 +102,17 @@ pub of_first_peers : (p : provider.Peering) (es : List provider_events.Event) �
 of_first_peers p es none x i =
     subst (λ l. Contains l x) (ap (λ ls. p.operators ++ flat_map (λ (q : provider.Peering). q.operators) ls) none ∙ append-nil p.operators) i
 
--- at one price
-one_price : (price : ℤ) (v : Session) (vs : List Session) → FollowAt (λ p. p ≡ price) v vs → Follow price v vs
+-- at the prices of one setup
+one_price : (price : ℕ → ℤ) (v : Session) (vs : List Session) → FollowAt (λ p. p ≡ price) v vs → Follow price v vs
 one_price price v [] h = tt
 one_price price v (w ∷ ws) ((p, is, cost, follows), more) = (subst (λ z. MayFollow z v w) is follows, one_price price w ws more)
 
-orderly_at_one : (price : ℤ) (vs : List Session) → IsOrderlyAt (λ p. p ≡ price) vs → IsOrderly price vs
+orderly_at_one : (price : ℕ → ℤ) (vs : List Session) → IsOrderlyAt (λ p. p ≡ price) vs → IsOrderly price vs
 orderly_at_one price [] h = tt
-orderly_at_one price (v ∷ vs) (pending, (p, is, cost), more) = (pending, subst (λ z. HasCost z v) is cost, one_price price v vs more)
+orderly_at_one price (v ∷ vs) (pending, (p, is, cost), more) = (pending, subst (λ z. IsPriced z v) is cost, one_price price v vs more)
 
 pub pasts_are_orderly : (line : SiteLine) (es : List operator_events.Event) (t : operator.State) → IsOfParty line → operator_laws.Run (operator.opening line) es t → setups_in es ≡ [] → (id : List ℕ) →
-    IsOrderly line.site.price (past id es) × (stored t id ≡ last_or None (past id es))
+    IsOrderly (price_at line.site) (past id es) × (stored t id ≡ last_or None (past id es))
 pasts_are_orderly line es t own run none id =
-    let law = pasts_at (λ p. p ≡ line.site.price) line es t own run refl (λ other i. absurd (in_none other (subst (λ l. Contains l other) none i))) id in
-    (orderly_at_one line.site.price (past id es) law.0, law.1)
+    let law = pasts_at (λ p. p ≡ price_at line.site) line es t own run refl (λ other i. absurd (in_none other (subst (λ l. Contains l other) none i))) id in
+    (orderly_at_one (price_at line.site) (past id es) law.0, law.1)

@@ -174,7 +174,7 @@ pub does : (s t : State) (e : Event) → Happens s e t → Does s e t
 does s t e (Done by) = does_step s e t by
 does s t e (Restarted now is) = does_nothing s e t (restarted s) refl refl is (Same (ap (λ (o : Out). o.state.site) is) (ap (λ (o : Out). o.state.providers) is))
 does s t e (Reopened line now may is) = does_nothing s e t (reopened line s) refl refl is (Other line now (ap (λ (o : Out). o.state.site) is) (ap (λ (o : Out). o.state.providers) is))
-does s t e (Refused is) = does_nothing s e t s refl refl is (Same (ap (λ (o : Out). o.state.site) is) (ap (λ (o : Out). o.state.providers) is))
+does s t e (Refused same_setup is) = does_nothing s e t s refl refl is (Same (ap (λ (o : Out). o.state.site) is) (ap (λ (o : Out). o.state.providers) is))
 
 -- the key of a row of its own is no counter's
 no_count : (r : Row) (c : Counter) → IsOwn r → key_of r ≢ keys.Count c

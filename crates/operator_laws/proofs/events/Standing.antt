@@ -26,7 +26,7 @@ consistent_stays s t e (Done by) fine =
     subst (λ (o : Out). IsConsistent o.state) (sym by.out_is) (follow_full_consistent s (step_of_work s by.work) (asked_may s e.input by.work fine by.line by.in_range) fine)
 consistent_stays s t e (Restarted now is) fine = subst (λ (o : Out). IsConsistent o.state) (sym is) (restarted_consistent s fine)
 consistent_stays s t e (Reopened line now may is) fine = subst (λ (o : Out). IsConsistent o.state) (sym is) (reopened_consistent line s may.sound fine)
-consistent_stays s t e (Refused is) fine = subst (λ (o : Out). IsConsistent o.state) (sym is) fine
+consistent_stays s t e (Refused same_setup is) fine = subst (λ (o : Out). IsConsistent o.state) (sym is) fine
 
 -- two decisions of one event are on one packet
 pub one_packet : (s : State) (i : Input) (acts : List Act) (g h : DecidesIt s i acts) → g.packet ≡ h.packet

@@ -188,7 +188,7 @@ module _ (s t : State) (e : Event) (happens : Happens s e t) (counted : AreCount
           by_says (all_messages by.acts) f (subst (λ (r : Rows). Says s.rows.outbox.commands r.outbox.commands f.message) (sym rows) (asked_said s e.input by.acts by.line f.message f.listed))
       in_event (Restarted now out_is) = absurd (in_none x (subst (λ l. Contains l x) (ap (λ (o : Out). o.packets) out_is) h))
       in_event (Reopened p now may out_is) = absurd (in_none x (subst (λ l. Contains l x) (ap (λ (o : Out). o.packets) out_is) h))
-      in_event (Refused out_is) = absurd (in_none x (subst (λ l. Contains l x) (ap (λ (o : Out). o.packets) out_is) h))
+      in_event (Refused same_setup out_is) = absurd (in_none x (subst (λ l. Contains l x) (ap (λ (o : Out). o.packets) out_is) h))
 
 stand_from : (s t : State) (es : List Event) → AreCounted s → Run s es t → (x : Packet) (c : Command) → Contains (sent es) x → x.body ≡ body.Command c → Stands t x c
 stand_from s t [] counted run x c h is = absurd (in_none x h)

@@ -485,7 +485,7 @@ does s t e (Done by) = of_step s e.input (all_changes by.acts) (through by.acts 
     (asked_does s e.input by.acts by.line by.in_range.references by.in_range.counters.request)
 does s t e (Restarted now is) = untouched_does s e.input e.changes t.rows (ap (λ (o : Out). cdrs_put o.changes) is) (subst (Untouched s.rows) (sym (ap (λ (o : Out). o.state.rows) is)) (same_rows s.rows))
 does s t e (Reopened p now may is) = untouched_does s e.input e.changes t.rows (ap (λ (o : Out). cdrs_put o.changes) is) (subst (Untouched s.rows) (sym (ap (λ (o : Out). o.state.rows) is)) (same_rows s.rows))
-does s t e (Refused is) = untouched_does s e.input e.changes t.rows (ap (λ (o : Out). cdrs_put o.changes) is) (subst (Untouched s.rows) (sym (ap (λ (o : Out). o.state.rows) is)) (same_rows s.rows))
+does s t e (Refused same_setup is) = untouched_does s e.input e.changes t.rows (ap (λ (o : Out). cdrs_put o.changes) is) (subst (Untouched s.rows) (sym (ap (λ (o : Out). o.state.rows) is)) (same_rows s.rows))
 
 -- whom the provider deals with is as it was, or as it starts again
 pub data IsAmong (s : State) (i : Input) (t : State) : Type 0 where
@@ -496,11 +496,11 @@ pub is_among : (s t : State) (e : Event) → Happens s e t → IsAmong s e.input
 is_among s t e (Done by) = Same (ap (λ (o : Out). o.state.operators) by.out_is)
 is_among s t e (Restarted now is) = Same (ap (λ (o : Out). o.state.operators) is)
 is_among s t e (Reopened p now may is) = Other p now (ap (λ (o : Out). o.state.operators) is)
-is_among s t e (Refused is) = Same (ap (λ (o : Out). o.state.operators) is)
+is_among s t e (Refused same_setup is) = Same (ap (λ (o : Out). o.state.operators) is)
 
 -- the party stays
 pub same_party : (s t : State) (e : Event) → Happens s e t → t.party ≡ s.party
 same_party s t e (Done by) = ap (λ (o : Out). o.state.party) by.out_is
 same_party s t e (Restarted now is) = ap (λ (o : Out). o.state.party) is
 same_party s t e (Reopened p now may is) = ap (λ (o : Out). o.state.party) is
-same_party s t e (Refused is) = ap (λ (o : Out). o.state.party) is
+same_party s t e (Refused same_setup is) = ap (λ (o : Out). o.state.party) is

@@ -34,7 +34,7 @@ pub step_from : (ps : List (List ℕ)) (s t : State) (e : Event) → AreAmong s.
 step_from ps s t e peers well (Done by) = subst (StepTo ps s peers e.input) (sym by.out_is) (acted_step ps s peers e.input by.acts well by.line)
 step_from ps s t e peers well (Restarted now is) = subst (StepTo ps s peers e.input) (sym is) (idle_step (node (wide ps s)) (came_in e.input))
 step_from ps s t e peers well (Reopened p now may is) = subst (StepTo ps s peers e.input) (sym is) (idle_step (node (wide ps s)) (came_in e.input))
-step_from ps s t e peers well (Refused is) = subst (StepTo ps s peers e.input) (sym is) (idle_step (node (wide ps s)) (came_in e.input))
+step_from ps s t e peers well (Refused same_setup is) = subst (StepTo ps s peers e.input) (sym is) (idle_step (node (wide ps s)) (came_in e.input))
 
 pub steps_are_node_steps : StepsAreNodeSteps
 steps_are_node_steps ps s t e peers fine happens = step_from ps s t e peers (well_of s fine) happens

@@ -35,7 +35,7 @@ module _ (hold : StepsHold) where
       subst (λ (o : Out). IsConsistent o.state) (sym by.out_is) (hold.rows.by_steps s (step_of_acts s by.acts) (asked_may s e.input by.acts fine by.line by.in_range) fine)
   consistent_stays s t e (Restarted now is) fine = subst (λ (o : Out). IsConsistent o.state) (sym is) (hold.rows.by_restarts s fine)
   consistent_stays s t e (Reopened p now may is) fine = subst (λ (o : Out). IsConsistent o.state) (sym is) (reopened_consistent p s may)
-  consistent_stays s t e (Refused is) fine = subst (λ (o : Out). IsConsistent o.state) (sym is) fine
+  consistent_stays s t e (Refused same_setup is) fine = subst (λ (o : Out). IsConsistent o.state) (sym is) fine
 
 pub consistent_over_runs : StepsHold → AlwaysConsistent
 consistent_over_runs hold p es t peers run = kept_runs Happens IsConsistent (consistent_stays hold) (opening p) t es run (hold.rows.at_first p peers)
