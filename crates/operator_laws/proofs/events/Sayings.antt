@@ -242,10 +242,10 @@ module _ (s : State) (i : Input) (acts : List Act) where
   credit_said at session (credits.NothingToCredit none is) = all_plain [] is tt
 
   -- what is sent again stood
-  again_said : (at : ℕ) (due : List ℕ) (m : Message) → Contains (all_messages (all_resent at s.rows.pushes due)) m → Saying s i acts m
+  again_said : (at : ℕ) (due : List ℕ) (m : Message) → Contains (all_messages (all_resent s.providers at s.rows.pushes due)) m → Saying s i acts m
   again_said at [] m j = absurd (in_none m j)
-  again_said at (n ∷ ns) m j = elim (Contains-append_cases (all_messages (resent_acts at n (get s.rows.pushes n))) (all_messages (all_resent at s.rows.pushes ns)) m
-      (subst (λ l. Contains l m) (messages_append (resent_acts at n (get s.rows.pushes n)) (all_resent at s.rows.pushes ns)) j)) [
+  again_said at (n ∷ ns) m j = elim (Contains-append_cases (all_messages (resent_acts at n (get s.rows.pushes n))) (all_messages (all_resent s.providers at s.rows.pushes ns)) m
+      (subst (λ l. Contains l m) (messages_append (resent_acts at n (get s.rows.pushes n)) (all_resent s.providers at s.rows.pushes ns)) j)) [
         | inl here ↦ by (get s.rows.pushes n) refl here
         | inr there ↦ again_said at ns m there
       ]
@@ -261,7 +261,7 @@ module _ (s : State) (i : Input) (acts : List Act) where
       let ends : List Act = ends_acts at s.rows.commands.pending s.rows.request h.ends in
       let expiring : List Act = expired_acts h.expired in
       let counts : List Act = map changed (count_change counter.Session s.rows.charged.last_session h.now) in
-      let again : List Act = all_resent at s.rows.pushes h.due in
+      let again : List Act = all_resent s.providers at s.rows.pushes h.due in
       let front : List Act = ends ++ expiring in
       let middle : List Act = counts ++ h.begun in
       let is : acts ≡ front ++ (middle ++ again) = same ∙ ap acts_in h.work_is in

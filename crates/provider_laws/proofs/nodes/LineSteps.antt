@@ -231,13 +231,13 @@ module _ (qs : List (List ℕ)) (s : State) (peers : AreAmong s.operators qs) (c
   again_commands at n None None r = refl
 
   resent_steps : (at : ℕ) (due : List ℕ) (r : Rows) → r.outbox.pushes ≡ s.rows.outbox.pushes → r.outbox.commands ≡ s.rows.outbox.commands → ((n : ℕ) → Contains due n → Waits s.rows.outbox n) →
-      AreStep (wide qs s) came r (all_resent at s.rows.outbox due)
+      AreStep (wide qs s) came r (all_resent s.operators at s.rows.outbox due)
   resent_steps at [] r pushes commands wait = no_step (wide qs s) came r
   resent_steps at (n ∷ ns) r pushes commands wait =
       let o = get s.rows.outbox.pushes n in
       let c = get s.rows.outbox.commands n in
       let first : List Act = resent_acts at n o c in
-      step_append (wide qs s) came first (all_resent at s.rows.outbox ns) r (again_step at n r pushes commands (wait n (in_front n ns)) o c refl refl)
+      step_append (wide qs s) came first (all_resent s.operators at s.rows.outbox ns) r (again_step at n r pushes commands (wait n (in_front n ns)) o c refl refl)
       (resent_steps at ns (through first r) (again_pushes at n o c r ∙ pushes) (again_commands at n o c r ∙ commands) (λ m i. wait m (Contains-append_right (n ∷ []) ns m i)))
 
 pub asked_steps : (qs : List (List ℕ)) (s : State) → AreAmong s.operators qs → (i : Input) (acts : List Act) → AreWell s.rows.outbox → Asks s i acts → AreStep (wide qs s) (came_in i) s.rows acts
