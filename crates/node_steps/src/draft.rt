@@ -291,8 +291,7 @@ impl Draft {
         ensures { OnOk result (self.new ≡ with_acts (resent at number (spelled peers.now outgoing.now.to) outgoing.now.push ∷ []) self.old) }
     {
         let body = outgoing.push.copy()?.into_body();
-        let to = spelling(peers, outgoing.to);
-        self.send(to, number, body)?;
+        self.send(spelling(peers, outgoing.to), number, body)?;
         self.note(at, number)
     }
 
@@ -333,8 +332,7 @@ impl Draft {
         ensures { OnOk result (self.new ≡ with_acts (command_resent at number (spelled peers.now command.now.to) command.now.command ∷ []) self.old) }
     {
         let body = Body::Command(command.command.copy()?);
-        let to = spelling(peers, command.to);
-        self.send(to, number, body)?;
+        self.send(spelling(peers, command.to), number, body)?;
         self.note(at, number)
     }
 

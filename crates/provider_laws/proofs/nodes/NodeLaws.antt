@@ -107,4 +107,4 @@ sent_replies_are_kept p es t run x r h is = laws.sent_replies_are_kept (before p
 pub requests_agree : RequestsAgree
 requests_agree p es t run x y i j x_apart y_apart same =
     let one = laws.requests_agree (before p es t run) (after p es t run) (map exchange es) (as_run p es t run) (all_given (operators_in p es) p) x y (is_sent es x i) (is_sent es y j) x_apart y_apart same in
-    (ap (λ (r : Request). r.body) one, ap (λ (r : Request). r.to) one)
+    (one.body, one.to)
