@@ -35,7 +35,7 @@ use Rattle.operator_rows.specs.State.{State}
 use Rattle.operator_rows.specs.Stored.{change_key}
 use Rattle.operator_rows.specs.Sound.{IsConsistent}
 use Rattle.operator_steps.specs.Events.{Event, Input}
-use Rattle.operator_laws.specs.AsNode.{AreAmong, node, wide, came_in, exchange, pushed_request, StepsAreNodeSteps}
+use Rattle.operator_laws.specs.AsNode.{AreAmong, node, wide, came_in, exchange, pushed_request, PacketsAreSpelled, StepsAreNodeSteps}
 use Rattle.operator_laws.specs.Laws.{IsReplyTo}
 use Rattle.operator_laws.proofs.events.Causes.{Answering}
 use Rattle.operator_laws.proofs.events.Doing.{Does, does, put_now, stays_or, stood_or_put}
@@ -134,6 +134,16 @@ module _ (s t : State) (e : Event) (d : Does s e t) where
     pub numbered_below : (n : ℕ) (o : Outgoing) → get t.rows.pushes n ≡ Some o → n ≤ t.rows.request
     numbered_below n o has = after.sound.outbox.pushes_counted n (ap is_some has)
 
+    -- each packet is to a provider of the site, as it spells it
+    listed_now : (x : Packet) → Saying s e.input d.acts (message_of x) → Contains s.providers x.to
+    listed_now x (reasons.Replies q is listed how) = listed
+    listed_now x (reasons.Pushes p is puts) = (pushing x.request x.to p puts).listed
+    listed_now x (reasons.Again to p is to_is stood) = subst (Contains s.providers) (sym to_is) (spelled_listed s.providers to (fine.sound.pushes x.request (record { to = to; push = p }) stood))
+    listed_now x (reasons.Asks a is listed number acts_are) = listed
+
+    pub spelled_now : (x : Packet) → Contains e.packets x → Contains s.providers x.to
+    spelled_now x i = listed_now x (saying x i)
+
     module _ (ps : List (List ℕ)) (among : AreAmong s.providers ps) where
       keeps_replies : KeepsReplies (node (wide ps s)) (exchange e) (node (wide ps t))
       keeps_replies = record {
@@ -165,13 +175,6 @@ module _ (s t : State) (e : Event) (d : Does s e t) where
         sent_how x apart (reasons.Asks a is listed number acts_are) =
             Only (ap all_messages acts_are ∙ (λ i. record { to = x.to; request = (sym number) i; body = (sym is) i } ∷ [])) (omega (arith, number))
             (let more = d.request in let one = ap all_requests acts_are in omega (arith, number, more, one))
-
-        to_listed : (x : Packet) → Saying s e.input d.acts (message_of x) → Contains ps x.to
-        to_listed x (reasons.Replies q is listed how) = among x.to listed
-        to_listed x (reasons.Pushes p is puts) = among x.to (pushing x.request x.to p puts).listed
-        to_listed x (reasons.Again to p is to_is stood) =
-            among x.to (subst (Contains s.providers) (sym to_is) (spelled_listed s.providers to (fine.sound.pushes x.request (record { to = to; push = p }) stood)))
-        to_listed x (reasons.Asks a is listed number acts_are) = among x.to listed
 
         own : (x : Packet) → Sent x → IsOwn (node (wide ps s)) (node (wide ps t)) x
         own x (Old stood) = inl stood
@@ -249,7 +252,7 @@ module _ (s t : State) (e : Event) (d : Does s e t) where
 
         asks : KeepsRequests (node (wide ps s)) (exchange e) (node (wide ps t))
         asks = record {
-          to_peer = λ x i. to_listed x (saying x i);
+          to_peer = λ x i. among x.to (spelled_now x i);
           own = λ x i apart. own x (sent_how x apart (saying x i));
           one = λ x y i j x_apart y_apart equal. one x y i j equal (sent_how x x_apart (saying x i)) (sent_how y y_apart (saying y j));
           made = made;
@@ -262,3 +265,6 @@ module _ (s t : State) (e : Event) (d : Does s e t) where
 
 pub steps_are_node_steps : StepsAreNodeSteps
 steps_are_node_steps ps s t e among fine happens = node_step s t e (does s t e happens) fine (consistent_stays s t e happens fine) ps among
+
+pub packets_are_spelled : PacketsAreSpelled
+packets_are_spelled s t e fine happens x i = spelled_now s t e (does s t e happens) fine (consistent_stays s t e happens fine) x i

@@ -46,14 +46,14 @@ same_command : (c d : Command) → body.Command c ≡ body.Command d → c ≡ d
 same_command c d e = cc
 
 -- a packet carries one of the messages
-record Carried (ms : List Message) (x : Packet) : Type 0 where
-  message : Message
-  listed : Contains ms message
-  to : message.to ≡ x.to
-  request : message.request ≡ x.request
-  body : message.body ≡ x.body
+pub record Carried (ms : List Message) (x : Packet) : Type 0 where
+  pub message : Message
+  pub listed : Contains ms message
+  pub to : message.to ≡ x.to
+  pub request : message.request ≡ x.request
+  pub body : message.body ≡ x.body
 
-of_numbered : (party : List ℕ) (serial : ℕ) (ms : List Message) (x : Packet) → Contains (numbered party serial ms) x → Carried ms x
+pub of_numbered : (party : List ℕ) (serial : ℕ) (ms : List Message) (x : Packet) → Contains (numbered party serial ms) x → Carried ms x
 of_numbered party serial [] x h = absurd (in_none x h)
 of_numbered party serial (m ∷ ms) x h =
     let first : Packet = record { from = party; to = m.to; serial = serial + 1; request = m.request; body = m.body } in
@@ -111,7 +111,7 @@ module _ (operators : List (List ℕ)) (r : OutboxRows) (after : Commands) (at :
       acts_said r.commands after (resent_acts operators at n (get r.pushes n) (get r.commands n)) (all_resent operators at r ns) (again_said n (get r.pushes n) (get r.commands n) refl) (resent_said ns)
 
 -- what is done beside an answer says nothing
-own_silent : (s : State) (at : ℕ) (q : Packet) (w : Reply) (own : List Act) → Answers s at q w own → all_messages own ≡ []
+pub own_silent : (s : State) (at : ℕ) (q : Packet) (w : Reply) (own : List Act) → Answers s at q w own → all_messages own ≡ []
 own_silent s at q w own (lines.ResultTaken r carries n c fits none w_is is) = ap all_messages is
 own_silent s at q w own (lines.ResultKnown r carries n c fits x had w_is is) = ap all_messages is
 own_silent s at q w own (lines.ResultOfNone r carries none w_is is) = ap all_messages is
