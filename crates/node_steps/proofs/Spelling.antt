@@ -1,6 +1,8 @@
 -- A party as peers spell it is the same party, and one of the peers where any peer is.
-use Rattle.std.proofs.Common.{◌≡◌, ◌⊎◌, ℕ, List, [], ◌∷◌, true, false, inl, inr, refl, sym, ap, ◌∙◌}
+use Rattle.std.proofs.Common.{◌≡◌, ◌≢◌, ◌⊎◌, ◌+◌, ◌<◌, ℕ, List, [], ◌∷◌, length, get_or, drop, true, false, inl, inr, refl, sym, ap, ◌∙◌}
 use Rattle.std.specs.Prelude.{Bool, Contains, bytes_eq, cond}
+use Rattle.std.proofs.lemmas.List.{drop_more}
+use Rattle.std.proofs.lemmas.Bool.{false_from_ne_true}
 use Rattle.std.proofs.lemmas.Slice.Eq.{bytes_eq-Decides}
 use Rattle.tables.proofs.Elements.{in_front, in_later, in_none, of_cons}
 use Rattle.ocpi_text.specs.Text.{key}
@@ -36,3 +38,16 @@ spelled_either (p ∷ ps) party = either_by ps p (spelled ps party) party (bytes
 pub spelled_listed : (ps : List (List ℕ)) (party : List ℕ) → HasPeer ps (key party) → Contains ps (spelled ps party)
 spelled_listed [] party peer = absurd (in_none peer.0 peer.1)
 spelled_listed (p ∷ ps) party peer = listed_by ps p (spelled ps party) party (bytes_eq (key p) (key party)) refl (spelled_listed ps party) peer
+
+-- a walk over the peers, none of which was this party so far
+module _ (ps : List (List ℕ)) (party : List ℕ) (i : ℕ) (p : List ℕ) (within : i < length ps) (at : p ≡ get_or ps i p) (so_far : spelled ps party ≡ spelled (drop i ps) party) where
+  on : (b : Bool) → bytes_eq (key p) (key party) ≡ b → spelled ps party ≡ cond b p (spelled (drop (i + 1) ps) party)
+  on b is =
+      so_far ∙ ap (λ l. spelled l party) (drop_more ps i p within) ∙ ap (λ q. spelled (q ∷ drop (i + 1) ps) party) (sym at)
+      ∙ ap (λ c. cond c p (spelled (drop (i + 1) ps) party)) is
+
+  pub spelled_here : key p ≡ key party → p ≡ spelled ps party
+  spelled_here same = sym (on true ((bytes_eq-Decides (key p) (key party)).1 same))
+
+  pub spelled_later : key p ≢ key party → spelled ps party ≡ spelled (drop (i + 1) ps) party
+  spelled_later apart = on false (false_from_ne_true (bytes_eq (key p) (key party)) (λ t. apart ((bytes_eq-Decides (key p) (key party)).0 t)))
