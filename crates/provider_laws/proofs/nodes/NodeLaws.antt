@@ -8,7 +8,7 @@ use Rattle.std.proofs.lemmas.List.Elements.{Contains-append_cases, Contains-appe
 use Rattle.tables.proofs.Elements.{in_front, in_none, in_single}
 use Rattle.tables.proofs.Options.{none_some, not_both}
 use Rattle.ocpi_types.specs.declared.packet.Packet.{Packet}
-use Rattle.node_laws.specs.Nodes.{AreGiven, Node, Request}
+use Rattle.node_laws.specs.Nodes.{AreGiven, Node}
 use Rattle.node_laws.specs.Laws as nodes
 use Rattle.node_laws.proofs.NodeRuns as laws
 use Rattle.provider_rows.specs.State.{Peering, State, opening}

@@ -21,11 +21,11 @@ use Rattle.node_steps.proofs.Spelling.{spelled_listed}
 use Rattle.provider_rows.specs.Sound.{IsConsistent}
 use Rattle.provider_rows.specs.State.{State}
 use Rattle.provider_steps.specs.declared.pushing.Pushing.{Pushing}
-use Rattle.provider_steps.specs.Acts.{referenced, replaced, token_acts}
-use Rattle.provider_steps.specs.Events.{Arrives, Asks, Done, Event, Gives, Happens, Input, Refused, Reopened, Reopens, Restarted, Restarts, Submits, Ticks}
+use Rattle.provider_steps.specs.Acts.{replaced, token_acts}
+use Rattle.provider_steps.specs.Events.{Arrives, Asks, Done, Gives, Happens, Input, Refused, Reopened, Reopens, Restarted, Restarts, Submits, Ticks}
 use Rattle.provider_steps.specs.Moves.{Out}
 use Rattle.provider_steps.specs.Orders as orders
-use Rattle.provider_steps.specs.Orders.{Makes, next_reference, next_request}
+use Rattle.provider_steps.specs.Orders.{Makes, next_request}
 use Rattle.provider_steps.specs.Packets as lines
 use Rattle.provider_steps.specs.Packets.{PacketLine}
 use Rattle.provider_steps.specs.Tick.{all_resent, resent_acts}
