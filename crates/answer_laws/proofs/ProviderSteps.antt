@@ -119,7 +119,7 @@ one_token s at t fine xs ys h g =
     h.acts_are ∙ (λ i. stored (version i) ∷ in_turn (token_acts at (version i)) s.rows.outbox.last (pushes i)) ∙ sym g.acts_are
 
 one_moment : (s : State) (at : ℕ) → AtMostOne (TickLine s at)
-one_moment s at xs ys h g = h.acts_are ∙ ap (all_resent at s.rows.outbox) (one_exactly _ h.due g.due h.are_due g.are_due) ∙ sym g.acts_are
+one_moment s at xs ys h g = h.acts_are ∙ ap (all_resent s.operators at s.rows.outbox) (one_exactly _ h.due g.due h.are_due g.are_due) ∙ sym g.acts_are
 
 -- ---- any input
 

@@ -61,6 +61,10 @@ abbrev pub PacketsAreAddressed : Type 0
 PacketsAreAddressed = (line : SiteLine) (es : List Event) (t : State) → IsOfParty line → Run (opening line) es t → (x : Packet) → Contains (sent es) x →
     (x.from ≡ line.parties.operator) × Contains (providers_in line es) x.to
 
+-- each packet of an event is to a provider of the site at that time, as it spells it then
+abbrev pub PacketsAreSpelled : Type 0
+PacketsAreSpelled = (s t : State) (e : Event) → IsConsistent s → Happens s e t → (x : Packet) → Contains e.packets x → Contains s.providers x.to
+
 -- a push that stands was sent under its number
 abbrev pub PushesWereSent : Type 0
 PushesWereSent = (line : SiteLine) (es : List Event) (t : State) → IsOfParty line → Run (opening line) es t → (n : ℕ) (o : Outgoing) → get t.rows.pushes n ≡ Some o →

@@ -118,10 +118,10 @@ abbrev pub Numbered : Type 0
 Numbered = (line : SiteLine) (es : List Event) (t : State) → Run (opening line) es t → (i : ℕ) (x : Packet) → slice_get (sent es) i ≡ Some x → x.serial ≡ i + 1
 
 -- each of the operator's own requests, be it a result, a session, a charge detail record or a question about a token,
--- has one number, one body and one addressee, however often it is sent
+-- has one number, one body and one addressee, however often it is sent, and however the addressee is spelled
 abbrev pub RequestsAgree : Type 0
 RequestsAgree = (line : SiteLine) (es : List Event) (t : State) → IsOfParty line → Run (opening line) es t → (x y : Packet) → Contains (sent es) x → Contains (sent es) y →
-    ¬ IsReply x.body → ¬ IsReply y.body → x.request ≡ y.request → (x.body ≡ y.body) × (x.to ≡ y.to)
+    ¬ IsReply x.body → ¬ IsReply y.body → x.request ≡ y.request → (x.body ≡ y.body) × (key x.to ≡ key y.to)
 
 -- the party acknowledged the request of that number, in the run
 abbrev pub Acknowledged : List Event → List ℕ → ℕ → Type 0
@@ -129,7 +129,7 @@ Acknowledged es to n = (q : Packet) × Came es q × ((a : Ack) × (q.body ≡ bo
 
 -- the push of that number stands, to that party, with that body
 abbrev pub IsPushed : State → ℕ → List ℕ → Body → Type 0
-IsPushed t n to b = (o : Outgoing) × (get t.rows.pushes n ≡ Some o) × (o.to ≡ to) × (body_of_push o.push ≡ b)
+IsPushed t n to b = (o : Outgoing) × (get t.rows.pushes n ≡ Some o) × (key o.to ≡ key to) × (body_of_push o.push ≡ b)
 
 -- a result, or a charge detail record
 abbrev pub IsResultOrRecord : Body → Type 0

@@ -2,7 +2,7 @@
 //! (`Happens`), which is what `Operator::on_packet`, `on_charger`, `on_credit`, `on_tick`, `on_service` and `restart`
 //! do.
 
-ghost use Rattle.operator_laws.specs.AsNode.{StepsAreNodeSteps, RunsAreNodeRuns, PacketsAreAddressed, PushesWereSent};
+ghost use Rattle.operator_laws.specs.AsNode.{StepsAreNodeSteps, RunsAreNodeRuns, PacketsAreAddressed, PacketsAreSpelled, PushesWereSent};
 ghost use Rattle.operator_laws.specs.Made.{OpenCommandsCame, OpenedCommandsCame, RepliesWereGiven, ReservationsAreMade};
 ghost use Rattle.operator_laws.specs.Replied.{
   AcceptedIsOpenOrSettled,
@@ -169,6 +169,11 @@ pub fn runs_are_node_runs()
 /// Each packet is from this operator, and to a provider that it was ever set up with.
 pub fn packets_are_addressed()
     ensures { PacketsAreAddressed }
+{}
+
+/// Each packet is to a provider of the site at that time, as it spells it then.
+pub fn packets_are_spelled()
+    ensures { PacketsAreSpelled }
 {}
 
 /// A push that stands was sent under its number.

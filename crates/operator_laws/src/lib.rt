@@ -32,6 +32,7 @@
 //! - Packets are numbered from 1, each by the next number. By `numbered`.
 //! - Each request of the operator's own, of every kind, has one number, one body and one addressee, however often it is
 //!   sent. By `requests_agree`.
+//! - Each packet is to a provider of the site, as that spells it when the packet is sent. By `packets_are_spelled`.
 //! - A result that was sent is pushed until its addressee acknowledges its number. By `pushes_stand`.
 //! - A result that was sent answers a command that came from its addressee, is posted where that command says, and is
 //!   the one that is kept for it. By `results_are_posted`.

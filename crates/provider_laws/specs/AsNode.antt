@@ -75,3 +75,7 @@ StepsAreNodeSteps = (ps : List (List ℕ)) (s t : State) (e : Event) → AreAmon
 abbrev pub RunsAreNodeRuns : Type 0
 RunsAreNodeRuns = (ps : List (List ℕ)) (s t : State) (es : List Event) → AreAmong s.operators ps → ((p : Peering) → Contains (peerings_in es) p → AreAmong p.operators ps) →
     IsConsistent s → Run s es t → NodeRun (node (wide ps s)) (map exchange es) (node (wide ps t))
+
+-- each packet of an event is to an operator that the provider deals with at that time, as it spells it then
+abbrev pub PacketsAreSpelled : Type 0
+PacketsAreSpelled = (s t : State) (e : Event) → IsConsistent s → Happens s e t → (x : Packet) → Contains e.packets x → Contains s.operators x.to

@@ -101,7 +101,7 @@ SentRepliesAreKept = (p : Peering) (es : List Event) (t : State) → Run (openin
     get t.rows.replies (key x.to, x.request) ≡ Some r
 
 -- each of the provider's own requests, commands and tokens together, has one number, one body and one addressee,
--- however often it is sent
+-- however often it is sent, and however the addressee is spelled
 abbrev pub RequestsAgree : Type 0
 RequestsAgree = (p : Peering) (es : List Event) (t : State) → Run (opening p) es t → (x y : Packet) → Contains (sent es) x → Contains (sent es) y →
-    ¬ IsReply x.body → ¬ IsReply y.body → x.request ≡ y.request → (x.body ≡ y.body) × (x.to ≡ y.to)
+    ¬ IsReply x.body → ¬ IsReply y.body → x.request ≡ y.request → (x.body ≡ y.body) × (key x.to ≡ key y.to)

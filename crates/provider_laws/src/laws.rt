@@ -32,7 +32,7 @@ ghost use Rattle.provider_laws.specs.Commands.{
   UrlsHaveOneNumber,
 };
 ghost use Rattle.provider_laws.specs.References.{ReferencesNeverFall, ReferencesHaveOneCarrier, ReferencesAreOwn};
-ghost use Rattle.provider_laws.specs.AsNode.{StepsAreNodeSteps, RunsAreNodeRuns};
+ghost use Rattle.provider_laws.specs.AsNode.{PacketsAreSpelled, StepsAreNodeSteps, RunsAreNodeRuns};
 
 use provider_rows::stays_consistent;
 use provider_steps::facts;
@@ -172,6 +172,11 @@ pub fn numbered()
 /// Each packet is from this provider, to an operator that it was ever set up with.
 pub fn packets_are_addressed()
     ensures { PacketsAreAddressed }
+{}
+
+/// Each packet is to an operator that the provider deals with at that time, as it spells it then.
+pub fn packets_are_spelled()
+    ensures { PacketsAreSpelled }
 {}
 
 /// Each reply that was sent is the one that is kept for its request.

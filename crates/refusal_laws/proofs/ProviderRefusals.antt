@@ -210,7 +210,7 @@ one_moment : (s : State) (at : ℕ) (xs ys : List Act) → TickLine s at xs → 
 one_moment s at xs ys h g =
     let due : h.due ≡ g.due = one_listing (λ (a b : ℕ). a < b) not_below_both h.due g.due h.are_due.in_order g.are_due.in_order
     (λ z i. (g.are_due.exact z).1 ((h.are_due.exact z).0 i)) (λ z i. (h.are_due.exact z).1 ((g.are_due.exact z).0 i)) in
-    ap tally (h.acts_are ∙ ap (all_resent at s.rows.outbox) due ∙ sym g.acts_are)
+    ap tally (h.acts_are ∙ ap (all_resent s.operators at s.rows.outbox) due ∙ sym g.acts_are)
 
 -- ---- refusals
 

@@ -181,16 +181,16 @@ module _ (party : List ℕ) where
       let rest : List Act = in_turn (token_acts at v) (last + all_requests first) ps in
       acts_append first rest (pushed_own at (last + 1) p.to (push.PutToken v) p.replaced) (tokens_own at v (last + all_requests first) ps)
 
-  again_own : (at n : ℕ) (o : Option Outgoing) (c : Option SentCommand) → OwnActs (resent_acts at n o c)
-  again_own at n (Some o) c = tt
-  again_own at n None (Some c) = tt
-  again_own at n None None = tt
+  again_own : (operators : List (List ℕ)) (at n : ℕ) (o : Option Outgoing) (c : Option SentCommand) → OwnActs (resent_acts operators at n o c)
+  again_own operators at n (Some o) c = tt
+  again_own operators at n None (Some c) = tt
+  again_own operators at n None None = tt
 
-  resent_own : (at : ℕ) (from : OutboxRows) (numbers : List ℕ) → OwnActs (all_resent at from numbers)
-  resent_own at from [] = tt
-  resent_own at from (n ∷ ns) =
-      let first : List Act = resent_acts at n (get from.pushes n) (get from.commands n) in
-      acts_append first (all_resent at from ns) (again_own at n (get from.pushes n) (get from.commands n)) (resent_own at from ns)
+  resent_own : (operators : List (List ℕ)) (at : ℕ) (from : OutboxRows) (numbers : List ℕ) → OwnActs (all_resent operators at from numbers)
+  resent_own operators at from [] = tt
+  resent_own operators at from (n ∷ ns) =
+      let first : List Act = resent_acts operators at n (get from.pushes n) (get from.commands n) in
+      acts_append first (all_resent operators at from ns) (again_own operators at n (get from.pushes n) (get from.commands n)) (resent_own operators at from ns)
 
   order_own : (s : State) (at : ℕ) (to : List ℕ) (o : Order) (c : Command) (b : List Act) → Makes s o c b → OwnActs (b ++ (commanded at (next_request s) to c ∷ []))
   order_own s at to o c b (orders.Start uid type location evse connector t has) = (tt, (tt, tt))
@@ -228,7 +228,7 @@ asked_own s (Submits at operator o) acts line = subst (OwnActs s.party) (sym lin
 asked_own s (Gives at t) acts line =
     subst (OwnActs s.party) (sym line.acts_are)
     (ap (λ (v : Token). key v.party) line.version_is ∙ line.own, tokens_own s.party at line.version s.rows.outbox.last line.pushes)
-asked_own s (Ticks at) acts line = subst (OwnActs s.party) (sym line.acts_are) (resent_own s.party at s.rows.outbox line.due)
+asked_own s (Ticks at) acts line = subst (OwnActs s.party) (sym line.acts_are) (resent_own s.party s.operators at s.rows.outbox line.due)
 asked_own s Restarts acts line = absurd line
 asked_own s (Reopens p) acts line = absurd line
 

@@ -8,6 +8,7 @@ use Rattle.std.specs.List.{flat_map}
 use Rattle.std.proofs.lemmas.List.Elements.{Contains-append_cases, Contains-append_left, Contains-append_right}
 use Rattle.tables.proofs.Elements.{in_none, in_front, in_single}
 use Rattle.tables.proofs.Options.{not_both}
+use Rattle.ocpi_text.specs.Text.{key}
 use Rattle.ocpi_types.specs.Stored.{body_of_push}
 use Rattle.ocpi_types.specs.declared.packet.Packet.{Packet}
 use Rattle.ocpi_types.specs.declared.packet.Body.{Body}
@@ -125,7 +126,7 @@ module _ (line : SiteLine) (es : List Event) (t : State) (own : IsOfParty line) 
 
   standing_or_settled : (x : Packet) → Contains (sent es) x → IsResultOrRecord x.body → IsPushed t x.request x.to x.body ⊎ WasAcknowledged es x.to x.request
   standing_or_settled x h is = elim (laws.requests_stand before after (map exchange es) as_run (all_given ps line) x (is_sent es x h) (inr (plain_push x.body is))) [
-    | inl stands ↦ let (o, has, same) = shown (get t.rows.pushes x.request) (request_of x) stands in inl (o, has, ap (λ (r : Request). r.to) same, ap (λ (r : Request). r.body) same)
+    | inl (r, stands, carries) ↦ let (o, has, same) = shown (get t.rows.pushes x.request) r stands in inl (o, has, ap (λ (r : Request). key r.to) same ∙ sym carries.to, ap (λ (r : Request). r.body) same ∙ sym carries.body)
     | inr settled ↦ inr (by settled)
   ]
     where
@@ -168,7 +169,7 @@ sent_replies_are_kept line es t own run x r h is = laws.sent_replies_are_kept (b
 pub requests_agree : RequestsAgree
 requests_agree line es t own run x y i j x_apart y_apart same =
     let one = laws.requests_agree (before line es t own run) (after line es t own run) (map exchange es) (as_run line es t own run) (all_given (providers_in line es) line) x y (is_sent es x i) (is_sent es y j) x_apart y_apart same in
-    (ap (λ (r : Request). r.body) one, ap (λ (r : Request). r.to) one)
+    (one.body, one.to)
 
 pub pushes_stand : PushesStand
 pushes_stand line es t own run x h is = standing_or_settled line es t own run x h is

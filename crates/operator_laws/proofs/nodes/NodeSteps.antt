@@ -25,15 +25,17 @@ use Rattle.outbox.specs.declared.push_book.Outgoing.{Outgoing}
 use Rattle.outbox.specs.declared.push_book.Subject.{Subject}
 use Rattle.node_steps.specs.Acts.{all_changes, all_messages, all_requests, push_message}
 use Rattle.node_steps.specs.Messages.{Message}
+use Rattle.node_steps.specs.Peers.{spelled}
+use Rattle.node_steps.proofs.Spelling.{spelled_listed, spelled_same}
 use Rattle.node_laws.specs.Nodes as node_specs
-use Rattle.node_laws.specs.Nodes.{AreAboutSame, AreGiven, Answers, CountsPackets, IsAnswer, IsMade, IsOwn, IsReply, IsRepeated, IsSettled, KeepsReplies, KeepsRequests, NodeStep, Request, request_of}
+use Rattle.node_laws.specs.Nodes.{AreAboutSame, AreGiven, Answers, Carries, CarriesStanding, CountsPackets, IsAnswer, IsMade, IsOwn, IsReply, IsRepeated, IsSettled, KeepsReplies, KeepsRequests, NodeStep, Request, request_of}
 use Rattle.node_laws.proofs.BodyKinds.{asked_once, no_push, one_reply, reply_or_repeated}
-use Rattle.node_laws.proofs.Joining.{one_value}
+use Rattle.node_laws.proofs.Joining.{carries_back, carries_equal, carry_one, one_value, settled_carried}
 use Rattle.operator_rows.specs.State.{State}
 use Rattle.operator_rows.specs.Stored.{change_key}
 use Rattle.operator_rows.specs.Sound.{IsConsistent}
 use Rattle.operator_steps.specs.Events.{Event, Input}
-use Rattle.operator_laws.specs.AsNode.{AreAmong, node, wide, came_in, exchange, pushed_request, StepsAreNodeSteps}
+use Rattle.operator_laws.specs.AsNode.{AreAmong, node, wide, came_in, exchange, pushed_request, PacketsAreSpelled, StepsAreNodeSteps}
 use Rattle.operator_laws.specs.Laws.{IsReplyTo}
 use Rattle.operator_laws.proofs.events.Causes.{Answering}
 use Rattle.operator_laws.proofs.events.Doing.{Does, does, put_now, stays_or, stood_or_put}
@@ -113,7 +115,7 @@ module _ (s t : State) (e : Event) (d : Does s e t) where
     kept_reply x r is (reasons.Replies q body_is listed (inl puts)) = subst (KeptReply x) (one_reply q r (sym body_is ∙ is)) (put_now s t e d fine (row.Reply (key x.to) x.request q) puts)
     kept_reply x r is (reasons.Replies q body_is listed (inr had)) = subst (KeptReply x) (one_reply q r (sym body_is ∙ is)) (reply_stays s t e d (key x.to) x.request q had)
     kept_reply x r is (reasons.Pushes p body_is puts) = absurd (no_push r p (sym is ∙ body_is))
-    kept_reply x r is (reasons.Again p body_is stood) = absurd (no_push r p (sym is ∙ body_is))
+    kept_reply x r is (reasons.Again to p body_is to_is stood) = absurd (no_push r p (sym is ∙ body_is))
     kept_reply x r is (reasons.Asks a body_is listed number acts_are) = absurd ((asked_once x.body a body_is).0 (r, is))
 
     answered : (p : List ℕ) (n : ℕ) (r : Reply) → Answering s e.input d.acts p n r → IsAnswer (exchange e) p n r
@@ -132,6 +134,16 @@ module _ (s t : State) (e : Event) (d : Does s e t) where
     pub numbered_below : (n : ℕ) (o : Outgoing) → get t.rows.pushes n ≡ Some o → n ≤ t.rows.request
     numbered_below n o has = after.sound.outbox.pushes_counted n (ap is_some has)
 
+    -- each packet is to a provider of the site, as it spells it
+    listed_now : (x : Packet) → Saying s e.input d.acts (message_of x) → Contains s.providers x.to
+    listed_now x (reasons.Replies q is listed how) = listed
+    listed_now x (reasons.Pushes p is puts) = (pushing x.request x.to p puts).listed
+    listed_now x (reasons.Again to p is to_is stood) = subst (Contains s.providers) (sym to_is) (spelled_listed s.providers to (fine.sound.pushes x.request (record { to = to; push = p }) stood))
+    listed_now x (reasons.Asks a is listed number acts_are) = listed
+
+    pub spelled_now : (x : Packet) → Contains e.packets x → Contains s.providers x.to
+    spelled_now x i = listed_now x (saying x i)
+
     module _ (ps : List (List ℕ)) (among : AreAmong s.providers ps) where
       keeps_replies : KeepsReplies (node (wide ps s)) (exchange e) (node (wide ps t))
       keeps_replies = record {
@@ -143,28 +155,26 @@ module _ (s t : State) (e : Event) (d : Does s e t) where
       module _ (given : AreGiven (node (wide ps s))) where
         -- a request that is sent: one that stood, or a new one, or the only message
         data Sent (x : Packet) : Type 0 where
-          Old : (node (wide ps s)).standing x.request ≡ Some (request_of x) → Sent x
+          Old : CarriesStanding (node (wide ps s)) x → Sent x
           New : s.rows.request < x.request → (node (wide ps t)).standing x.request ≡ Some (request_of x) → x.request ≤ t.rows.request → Sent x
           Only : all_messages d.acts ≡ message_of x ∷ [] → s.rows.request < x.request → x.request ≤ t.rows.request → Sent x
 
         request_is : (x : Packet) (p : Push) → x.body ≡ body_of_push p → pushed_request (record { to = x.to; push = p }) ≡ request_of x
         request_is x p is = ap (λ (b : Body). record { to = x.to; body = b }) (sym is)
 
+        -- what is sent again carries what stood
+        carries_old : (x : Packet) (to : List ℕ) (p : Push) → x.body ≡ body_of_push p → x.to ≡ spelled s.providers to → Carries x (pushed_request (record { to = to; push = p }))
+        carries_old x to p is to_is = record { to = ap key to_is ∙ spelled_same s.providers to; body = is }
+
         sent_how : (x : Packet) → ¬ IsReply x.body → Saying s e.input d.acts (message_of x) → Sent x
         sent_how x apart (reasons.Replies q is listed how) = absurd (apart (q, is))
         sent_how x apart (reasons.Pushes p is puts) =
             let stands = made_stands x.request x.to p puts in
             New (pushing x.request x.to p puts).above (ap (option_map pushed_request) stands ∙ ap (λ z. Some z) (request_is x p is)) (numbered_below x.request _ stands)
-        sent_how x apart (reasons.Again p is stood) = Old (ap (option_map pushed_request) stood ∙ ap (λ z. Some z) (request_is x p is))
+        sent_how x apart (reasons.Again to p is to_is stood) = Old (pushed_request (record { to = to; push = p }), ap (option_map pushed_request) stood, carries_old x to p is to_is)
         sent_how x apart (reasons.Asks a is listed number acts_are) =
             Only (ap all_messages acts_are ∙ (λ i. record { to = x.to; request = (sym number) i; body = (sym is) i } ∷ [])) (omega (arith, number))
             (let more = d.request in let one = ap all_requests acts_are in omega (arith, number, more, one))
-
-        to_listed : (x : Packet) → Saying s e.input d.acts (message_of x) → Contains ps x.to
-        to_listed x (reasons.Replies q is listed how) = among x.to listed
-        to_listed x (reasons.Pushes p is puts) = among x.to (pushing x.request x.to p puts).listed
-        to_listed x (reasons.Again p is stood) = (given x.request (pushed_request (record { to = x.to; push = p })) (ap (option_map pushed_request) stood)).peer
-        to_listed x (reasons.Asks a is listed number acts_are) = among x.to listed
 
         own : (x : Packet) → Sent x → IsOwn (node (wide ps s)) (node (wide ps t)) x
         own x (Old stood) = inl stood
@@ -172,18 +182,19 @@ module _ (s t : State) (e : Event) (d : Does s e t) where
         own x (Only alone above below) = inr (above, below)
 
         -- the only message is that of each packet
-        only : (x y : Packet) → all_messages d.acts ≡ message_of x ∷ [] → Contains e.packets y → request_of x ≡ request_of y
+        only : (x y : Packet) → all_messages d.acts ≡ message_of x ∷ [] → Contains e.packets y → Carries x (request_of y)
         only x y alone j =
             let same = in_single (message_of x) (message_of y) (subst (λ l. Contains l (message_of y)) alone (message_in y j)) in
-            ap (λ (m : Message). record { to = m.to; body = m.body }) same
+            record { to = ap (λ (m : Message). key m.to) same; body = ap (λ (m : Message). m.body) same }
 
-        one : (x y : Packet) → Contains e.packets x → Contains e.packets y → x.request ≡ y.request → Sent x → Sent y → request_of x ≡ request_of y
+        one : (x y : Packet) → Contains e.packets x → Contains e.packets y → x.request ≡ y.request → Sent x → Sent y → Carries x (request_of y)
         one x y i j equal (Only alone above below) other = only x y alone j
-        one x y i j equal other (Only alone above below) = sym (only y x alone i)
-        one x y i j equal (Old a) (Old b) = one_value (request_of x) (request_of y) (sym a ∙ ap (node (wide ps s)).standing equal ∙ b)
-        one x y i j equal (New above a below) (New over b under) = one_value (request_of x) (request_of y) (sym a ∙ ap (node (wide ps t)).standing equal ∙ b)
-        one x y i j equal (Old a) (New above b below) = absurd (let under = (given x.request (request_of x) a).below in omega (arith, under, above, equal))
-        one x y i j equal (New above a below) (Old b) = absurd (let under = (given y.request (request_of y) b).below in omega (arith, under, above, equal))
+        one x y i j equal other (Only alone above below) = carries_back y x (only y x alone i)
+        one x y i j equal (Old a) (Old b) = carry_one x y a.0 b.0 a.2 b.2 (one_value a.0 b.0 (sym a.1 ∙ ap (node (wide ps s)).standing equal ∙ b.1))
+        one x y i j equal (New above a below) (New over b under) =
+            carries_equal x (request_of x) (request_of y) (record { to = refl; body = refl }) (one_value (request_of x) (request_of y) (sym a ∙ ap (node (wide ps t)).standing equal ∙ b))
+        one x y i j equal (Old a) (New above b below) = absurd (let under = (given x.request a.0 a.1).below in omega (arith, under, above, equal))
+        one x y i j equal (New above a below) (Old b) = absurd (let under = (given y.request b.0 b.1).below in omega (arith, under, above, equal))
 
         made_now : (n : ℕ) (o : Outgoing) → get t.rows.pushes n ≡ Some o → Contains (all_changes d.acts) (Put (row.Push n o.to o.push)) → IsMade (node (wide ps s)) (exchange e) (node (wide ps t)) n (pushed_request o)
         made_now n o has puts =
@@ -226,15 +237,22 @@ module _ (s t : State) (e : Event) (d : Does s e t) where
               | inr (c, i, same) ↦ inr (subst (IsSettled (exchange e) n) is (changed_push n o stood c i (of_push n c same)))
             ]
 
-        stands : (x : Packet) → IsRepeated x.body → Saying s e.input d.acts (message_of x) → ((node (wide ps t)).standing x.request ≡ Some (request_of x)) ⊎ IsSettled (exchange e) x.request (request_of x)
+        stands : (x : Packet) → IsRepeated x.body → Saying s e.input d.acts (message_of x) → CarriesStanding (node (wide ps t)) x ⊎ IsSettled (exchange e) x.request (request_of x)
         stands x repeated (reasons.Replies q is listed how) = absurd (reply_or_repeated x.body (q, is) repeated)
-        stands x repeated (reasons.Pushes p is puts) = inl (ap (option_map pushed_request) (made_stands x.request x.to p puts) ∙ ap (λ z. Some z) (request_is x p is))
-        stands x repeated (reasons.Again p is stood) = stays x.request (request_of x) (ap (option_map pushed_request) stood ∙ ap (λ z. Some z) (request_is x p is))
+        stands x repeated (reasons.Pushes p is puts) =
+            inl (request_of x, ap (option_map pushed_request) (made_stands x.request x.to p puts) ∙ ap (λ z. Some z) (request_is x p is), record { to = refl; body = refl })
+        stands x repeated (reasons.Again to p is to_is stood) =
+            let r = pushed_request (record { to = to; push = p }) in
+            let carries = carries_old x to p is to_is in
+            elim (stays x.request r (ap (option_map pushed_request) stood)) [
+              | inl still ↦ inl (r, still, carries)
+              | inr settled ↦ inr (settled_carried (exchange e) x.request x r carries settled)
+            ]
         stands x repeated (reasons.Asks a is listed number acts_are) = absurd ((asked_once x.body a is).1 repeated)
 
         asks : KeepsRequests (node (wide ps s)) (exchange e) (node (wide ps t))
         asks = record {
-          to_peer = λ x i. to_listed x (saying x i);
+          to_peer = λ x i. among x.to (spelled_now x i);
           own = λ x i apart. own x (sent_how x apart (saying x i));
           one = λ x y i j x_apart y_apart equal. one x y i j equal (sent_how x x_apart (saying x i)) (sent_how y y_apart (saying y j));
           made = made;
@@ -247,3 +265,6 @@ module _ (s t : State) (e : Event) (d : Does s e t) where
 
 pub steps_are_node_steps : StepsAreNodeSteps
 steps_are_node_steps ps s t e among fine happens = node_step s t e (does s t e happens) fine (consistent_stays s t e happens fine) ps among
+
+pub packets_are_spelled : PacketsAreSpelled
+packets_are_spelled s t e fine happens x i = spelled_now s t e (does s t e happens) fine (consistent_stays s t e happens fine) x i

@@ -1,5 +1,5 @@
 -- Each line is a step of a node.
-use Rattle.std.proofs.Common.{◌≡◌, ◌+◌, ◌≤◌, ◌++◌, ℕ, List, [], ◌∷◌, inl, inr, refl, sym, ap, subst, ◌∙◌, arith}
+use Rattle.std.proofs.Common.{◌≡◌, ◌⊎◌, ◌+◌, ◌≤◌, ◌++◌, ℕ, List, [], ◌∷◌, inl, inr, refl, sym, ap, subst, ◌∙◌, arith}
 use Rattle.std.specs.Prelude.{Option, Some, None, Contains, is_some}
 use Rattle.std.specs.FinMap.{get}
 use Rattle.std.proofs.lemmas.List.Elements.{Contains-append_right}
@@ -27,7 +27,8 @@ use Rattle.outbox.specs.Pushes.{IsReplaced, subject, type_number}
 use Rattle.outbox.specs.declared.push_book.Outgoing.{Outgoing}
 use Rattle.outbox.specs.declared.push_book.Subject.{Subject}
 use Rattle.node_steps.specs.Acts.{Act, all_requests, answered, commanded, in_turn, pushed}
-use Rattle.node_steps.specs.Peers.{IsPeer}
+use Rattle.node_steps.specs.Peers.{IsPeer, spelled}
+use Rattle.node_steps.proofs.Spelling.{spelled_either, spelled_same}
 use Rattle.node_laws.specs.Nodes.{AreAboutSame, Tokens}
 use Rattle.provider_rows.specs.State.{Rows, State}
 use Rattle.provider_rows.specs.Sound.{IsConsistent}
@@ -209,35 +210,38 @@ module _ (qs : List (List ℕ)) (s : State) (peers : AreAmong s.operators qs) (c
         (tokens_steps ps s.rows.outbox.last r (omega arith) (record { replies = refl; commands = refl; inbox = refl; references = refl; last = omega arith; pushes = λ n o has. inl has })
         (λ p i. subst (λ l. Contains l p.to) are.to_all (in_map (λ (z : Pushing). z.to) ps p i)) are.replaced)
 
-  -- what is due is sent again
+  -- what is due is sent again, to its party as these operators spell it
+  spelled_now : (to : List ℕ) → (key (spelled s.operators to) ≡ key to) × ((spelled s.operators to ≡ to) ⊎ Contains qs (spelled s.operators to))
+  spelled_now to = (spelled_same s.operators to, elim (spelled_either s.operators to) [ inl same ↦ inl same | inr listed ↦ inr (peers (spelled s.operators to) listed) ])
+
   again_step : (at n : ℕ) (r : Rows) → r.outbox.pushes ≡ s.rows.outbox.pushes → r.outbox.commands ≡ s.rows.outbox.commands → Waits s.rows.outbox n →
-      (o : Option Outgoing) (c : Option SentCommand) → get s.rows.outbox.pushes n ≡ o → get s.rows.outbox.commands n ≡ c → AreStep (wide qs s) came r (resent_acts at n o c)
-  again_step at n r pushes commands waits (Some o) c o_is c_is = resent_step (wide qs s) came r at n o (ap (λ m. get m n) pushes ∙ o_is)
+      (o : Option Outgoing) (c : Option SentCommand) → get s.rows.outbox.pushes n ≡ o → get s.rows.outbox.commands n ≡ c → AreStep (wide qs s) came r (resent_acts s.operators at n o c)
+  again_step at n r pushes commands waits (Some o) c o_is c_is = resent_step (wide qs s) came r at n o (spelled s.operators o.to) (spelled_now o.to) (ap (λ m. get m n) pushes ∙ o_is)
   again_step at n r pushes commands waits None None o_is c_is = no_step (wide qs s) came r
   again_step at n r pushes commands (inl pushed_one) None (Some c) o_is c_is = none_contained (get s.rows.outbox.pushes n) pushed_one o_is
   again_step at n r pushes commands (inr (d, stands, open_one)) None (Some c) o_is c_is =
       let same : d ≡ c = one_command d c (sym stands ∙ c_is) in
-      command_resent_step (wide qs s) came r at n c (ap (λ m. get m n) pushes ∙ o_is) (ap (λ m. get m n) commands ∙ c_is)
+      command_resent_step (wide qs s) came r at n c (spelled s.operators c.to) (spelled_now c.to) (ap (λ m. get m n) pushes ∙ o_is) (ap (λ m. get m n) commands ∙ c_is)
       (sym (ap (λ (z : SentCommand). z.answer) same) ∙ open_one.answer) (sym (ap (λ (z : SentCommand). z.result) same) ∙ open_one.result)
 
-  again_pushes : (at n : ℕ) (o : Option Outgoing) (c : Option SentCommand) (r : Rows) → (through (resent_acts at n o c) r).outbox.pushes ≡ r.outbox.pushes
+  again_pushes : (at n : ℕ) (o : Option Outgoing) (c : Option SentCommand) (r : Rows) → (through (resent_acts s.operators at n o c) r).outbox.pushes ≡ r.outbox.pushes
   again_pushes at n (Some o) c r = refl
   again_pushes at n None (Some c) r = refl
   again_pushes at n None None r = refl
 
-  again_commands : (at n : ℕ) (o : Option Outgoing) (c : Option SentCommand) (r : Rows) → (through (resent_acts at n o c) r).outbox.commands ≡ r.outbox.commands
+  again_commands : (at n : ℕ) (o : Option Outgoing) (c : Option SentCommand) (r : Rows) → (through (resent_acts s.operators at n o c) r).outbox.commands ≡ r.outbox.commands
   again_commands at n (Some o) c r = refl
   again_commands at n None (Some c) r = refl
   again_commands at n None None r = refl
 
   resent_steps : (at : ℕ) (due : List ℕ) (r : Rows) → r.outbox.pushes ≡ s.rows.outbox.pushes → r.outbox.commands ≡ s.rows.outbox.commands → ((n : ℕ) → Contains due n → Waits s.rows.outbox n) →
-      AreStep (wide qs s) came r (all_resent at s.rows.outbox due)
+      AreStep (wide qs s) came r (all_resent s.operators at s.rows.outbox due)
   resent_steps at [] r pushes commands wait = no_step (wide qs s) came r
   resent_steps at (n ∷ ns) r pushes commands wait =
       let o = get s.rows.outbox.pushes n in
       let c = get s.rows.outbox.commands n in
-      let first : List Act = resent_acts at n o c in
-      step_append (wide qs s) came first (all_resent at s.rows.outbox ns) r (again_step at n r pushes commands (wait n (in_front n ns)) o c refl refl)
+      let first : List Act = resent_acts s.operators at n o c in
+      step_append (wide qs s) came first (all_resent s.operators at s.rows.outbox ns) r (again_step at n r pushes commands (wait n (in_front n ns)) o c refl refl)
       (resent_steps at ns (through first r) (again_pushes at n o c r ∙ pushes) (again_commands at n o c r ∙ commands) (λ m i. wait m (Contains-append_right (n ∷ []) ns m i)))
 
 pub asked_steps : (qs : List (List ℕ)) (s : State) → AreAmong s.operators qs → (i : Input) (acts : List Act) → AreWell s.rows.outbox → Asks s i acts → AreStep (wide qs s) (came_in i) s.rows acts

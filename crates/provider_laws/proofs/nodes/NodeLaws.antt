@@ -8,7 +8,7 @@ use Rattle.std.proofs.lemmas.List.Elements.{Contains-append_cases, Contains-appe
 use Rattle.tables.proofs.Elements.{in_front, in_none, in_single}
 use Rattle.tables.proofs.Options.{none_some, not_both}
 use Rattle.ocpi_types.specs.declared.packet.Packet.{Packet}
-use Rattle.node_laws.specs.Nodes.{AreGiven, Node, Request}
+use Rattle.node_laws.specs.Nodes.{AreGiven, Node}
 use Rattle.node_laws.specs.Laws as nodes
 use Rattle.node_laws.proofs.NodeRuns as laws
 use Rattle.provider_rows.specs.State.{Peering, State, opening}
@@ -107,4 +107,4 @@ sent_replies_are_kept p es t run x r h is = laws.sent_replies_are_kept (before p
 pub requests_agree : RequestsAgree
 requests_agree p es t run x y i j x_apart y_apart same =
     let one = laws.requests_agree (before p es t run) (after p es t run) (map exchange es) (as_run p es t run) (all_given (operators_in p es) p) x y (is_sent es x i) (is_sent es y j) x_apart y_apart same in
-    (ap (λ (r : Request). r.body) one, ap (λ (r : Request). r.to) one)
+    (one.body, one.to)
