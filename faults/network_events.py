@@ -4,7 +4,7 @@ import random
 from collections import Counter
 
 from network_nodes import Node, line_of
-from network_setups import BEGINNING, OPERATORS, STRANGERS, Json, is_operator, moment_of, spelled
+from network_setups import BEGINNING, OPERATORS, STRANGERS, UNITS, Json, is_operator, moment_of, spelled
 from network_strangers import COMMANDS, TOKENS, token_of
 
 KWH = 5_000
@@ -20,8 +20,10 @@ class Events:
     def __init__(self, draw: random.Random, nodes: dict[str, Node]) -> None:
         self.draw, self.nodes, self.now = draw, nodes, BEGINNING
         self.skews = {party: draw.randint(-20_000, 20_000) for party in nodes}
-        # Of an operator the commands that were brought to it, and of each node the sessions of which it wrote or read.
+        # Of an operator the commands that were brought to it and what its charge points will report, and of each node the
+        # sessions of which it wrote or read.
         self.commands: dict[str, list[tuple[str, int]]] = {party: [("NL/TNM", 1)] for party in nodes}
+        self.to_come: dict[str, list[tuple[str, Json]]] = {party: [] for party in nodes}
         self.sessions: dict[str, list[str]] = {party: ["none"] for party in nodes}
         self.kwh: Counter[tuple[str, str]] = Counter()
 
@@ -37,6 +39,9 @@ class Events:
         """Sees a packet that is brought to a node."""
         if packet["kind"] in COMMANDS:
             self.commands[to].append((packet["from"].upper(), packet["request"]))
+            if is_operator(to):
+                named = {"provider": packet["from"], "number": packet["request"]}
+                self.expect(to, "unlocked" if packet["kind"] == "unlock_connector" else "accepts", named)
         if packet["kind"] == "put_session":
             self.sessions[to].append(packet["body"]["id"])
 
@@ -44,6 +49,18 @@ class Events:
         """Sees a packet that a node wrote."""
         if packet["kind"] == "put_session":
             self.sessions[sender].append(packet["body"]["id"])
+            evse, status = {"evse_uid": packet["body"]["evse_uid"]}, packet["body"]["status"]
+            if status == "PENDING":
+                self.expect(sender, "starts", evse)
+            elif status == "ACTIVE":
+                self.expect(sender, self.draw.choice(("meter", "meter", "stops")), evse)
+        elif packet["kind"] == "post_cdr" and self.draw.random() < 0.2:
+            self.expect(sender, "credit", {"session_id": packet["body"]["session_id"]})
+
+    def expect(self, operator: str, kind: str, members: Json) -> None:
+        """A charge point of an operator will report that, or its owner will order it, most probably."""
+        if self.draw.random() < 0.8:
+            self.to_come[operator].append((kind, members))
 
     def delivery(self, to: str, packet: bytes) -> bytes:
         event = {"event": "deliver", "node": spelled(self.draw, to), "at": self.moment(to)}
@@ -59,9 +76,18 @@ class Events:
     def event(self, party: str) -> tuple[str, bytes]:
         """An event of a node's own, and what it is."""
         kinds = AT_OPERATORS if is_operator(party) else AT_PROVIDERS
-        kind = self.draw.choices(list(kinds), list(kinds.values()))[0]
-        made = self.reported(party, kind) if is_operator(party) else self.ordered(party, kind)
+        if self.to_come[party] and self.draw.random() < 0.7:
+            kind, made = self.to_come[party].pop(self.draw.randrange(len(self.to_come[party])))
+            made = {**made, **({"kwh": self.reading(party, made["evse_uid"])} if kind == "meter" else {})}
+        else:
+            kind = self.draw.choices(list(kinds), list(kinds.values()))[0]
+            made = self.reported(party, kind) if is_operator(party) else self.ordered(party, kind)
         return kind, line_of({"event": kind, "node": spelled(self.draw, party), "at": self.moment(party), **made})[:-1]
+
+    def reading(self, party: str, uid: str) -> float:
+        """What a meter shows next."""
+        self.kwh[party, uid] += self.draw.randint(1, 10 * KWH)
+        return self.kwh[party, uid] / UNITS
 
     def reported(self, party: str, kind: str) -> Json:
         """What charge points report at an operator, and what that does by itself."""
@@ -71,8 +97,7 @@ class Events:
             provider, number = draw.choice(self.commands[party][-5:])
             return {"provider": spelled(draw, provider), "number": number}
         if kind == "meter":
-            self.kwh[party, uid] += draw.randint(1, 10 * KWH)
-            return {"evse_uid": uid, "kwh": self.kwh[party, uid] / 10_000}
+            return {"evse_uid": uid, "kwh": self.reading(party, uid)}
         if kind == "service":
             return {"evse_uid": uid, "in_service": draw.random() < 0.75}
         if kind == "credit":
