@@ -8,8 +8,10 @@ from network_setups import BEGINNING, OPERATORS, STRANGERS, UNITS, Json, is_oper
 from network_strangers import COMMANDS, TOKENS, token_of
 
 KWH = 5_000
-AT_OPERATORS = {"accepts": 26, "refuses": 2, "unlocked": 4, "starts": 16, "meter": 16, "stops": 10, "fault": 2, "swipe": 14,
-                "service": 4, "credit": 4}
+# The commands that a charge point executes.
+EXECUTED = ("start_session", "stop_session", "unlock_connector")
+AT_OPERATORS = {"accepts": 4, "refuses": 3, "unlocked": 2, "starts": 5, "meter": 6, "stops": 8, "fault": 4, "swipe": 20,
+                "service": 5, "credit": 4}
 AT_PROVIDERS = {"token": 6, "start_session": 16, "reserve_now": 5, "cancel_reservation": 3, "stop_session": 4,
                 "unlock_connector": 3, "again": 1}
 
@@ -39,7 +41,7 @@ class Events:
         """Sees a packet that is brought to a node."""
         if packet["kind"] in COMMANDS:
             self.commands[to].append((packet["from"].upper(), packet["request"]))
-            if is_operator(to):
+            if is_operator(to) and packet["kind"] in EXECUTED:
                 named = {"provider": packet["from"], "number": packet["request"]}
                 self.expect(to, "unlocked" if packet["kind"] == "unlock_connector" else "accepts", named)
         if packet["kind"] == "put_session":
@@ -59,7 +61,7 @@ class Events:
 
     def expect(self, operator: str, kind: str, members: Json) -> None:
         """A charge point of an operator will report that, or its owner will order it, most probably."""
-        if self.draw.random() < 0.8:
+        if self.draw.random() < 0.9 and (kind, members) not in self.to_come[operator]:
             self.to_come[operator].append((kind, members))
 
     def delivery(self, to: str, packet: bytes) -> bytes:
@@ -69,6 +71,11 @@ class Events:
     def tick(self, party: str) -> bytes:
         return line_of({"event": "tick", "node": party, "at": self.moment(party)})[:-1]
 
+    def token(self, party: str, uid: str) -> bytes:
+        """A token of a provider that is given."""
+        made = token_of(party, uid, moment_of(self.now), self.draw)
+        return line_of({"event": "token", "node": party, "at": self.moment(party), "token": made})[:-1]
+
     def ending(self, party: str, uid: str) -> bytes:
         """A charge that ends."""
         return line_of({"event": "stops", "node": party, "at": self.moment(party), "evse_uid": uid})[:-1]
@@ -76,7 +83,7 @@ class Events:
     def event(self, party: str) -> tuple[str, bytes]:
         """An event of a node's own, and what it is."""
         kinds = AT_OPERATORS if is_operator(party) else AT_PROVIDERS
-        if self.to_come[party] and self.draw.random() < 0.7:
+        if self.to_come[party] and self.draw.random() < 0.75:
             kind, made = self.to_come[party].pop(self.draw.randrange(len(self.to_come[party])))
             made = {**made, **({"kwh": self.reading(party, made["evse_uid"])} if kind == "meter" else {})}
         else:

@@ -45,7 +45,7 @@ class Twice(Plant):
 
 class Invents(Plant):
     def invents(self) -> float:
-        return 0.1
+        return 0.5
 
 
 class Speaks(Plant):
@@ -65,6 +65,7 @@ class Edited(Plant):
         with contextlib.closing(sqlite3.connect(node.store)) as file, file:
             file.execute("UPDATE row_text SET body = json_set(body, '$.kwh', 77.5) WHERE kind = 'session'")
             file.execute("UPDATE row_text SET body = json_set(body, '$.total_cost.excl_vat', 77.5) WHERE kind = 'cdr'")
+        node.look()
 
 
 class Older(Plant):

@@ -57,8 +57,10 @@ class Promise:
                 if not held or held[-1] != body:
                     held.append(body)
 
-    def end(self, pasts: dict[tuple[str, str], list[Json]], setups: dict[str, list[Setup]]) -> list[str]:
-        """What does not hold at the end. `pasts` has the versions of each session of each operator, in their order."""
+    def end(self, pasts: dict[tuple[str, str], list[Json]], tokens: dict[str, list[Json]],
+            setups: dict[str, list[Setup]]) -> list[str]:
+        """What does not hold at the end. `pasts` has the versions of each session of each operator, in their order, and
+        `tokens` those that each provider wrote."""
         for operator in OPERATORS:
             self.wrong += self.operator(operator)
             for (party, session), past in pasts.items():
@@ -68,6 +70,8 @@ class Promise:
             self.wrong += self.references(provider)
             for operator in OPERATORS:
                 self.wrong += [f"{provider} at {operator}: {it}" for it in self.pair(operator, provider, pasts)]
+                self.wrong += [f"{provider} never had the token {body} of {operator}" for key, body in
+                               self.rows[operator].of("token").items() if key[:6] == provider and body not in tokens[provider]]
         return self.wrong
 
     # ---- an operator by itself

@@ -132,7 +132,7 @@ def spell_and_order(draw: random.Random, setup: Setup) -> None:
 def draw_setup(draw: random.Random, party: str) -> Setup:
     """A setup of a party: most of its honest partners, some strangers, and some parties of its own role."""
     partners, peers = (PROVIDERS, OPERATORS) if is_operator(party) else (OPERATORS, PROVIDERS)
-    listed = [it for it in partners if draw.random() < 0.85] or [draw.choice(partners)]
+    listed = [it for it in partners if draw.random() < 0.9] or [draw.choice(partners)]
     listed += [it for it in LISTED if draw.random() < 0.6]
     listed += [it for it in peers if it != party and draw.random() < 0.3]
     setup = Setup(party, draw_site(draw), listed)

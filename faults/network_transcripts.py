@@ -41,6 +41,12 @@ def pasts_of(text: bytes) -> dict[str, list[Json]]:
     return {name: list(past.values()) for name, past in pasts.items()}
 
 
+def tokens_of(text: bytes) -> list[Json]:
+    """The tokens that a provider wrote."""
+    packets = [try_json(line) for line in lines_of(text) if line.startswith(PACKET) and b'"kind":"put_token"' in line]
+    return [packet["body"] for packet in packets if packet]
+
+
 def try_json(line: bytes) -> Json | None:
     """The object of a line; none where a stop cut it."""
     try:

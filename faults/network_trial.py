@@ -50,8 +50,8 @@ from network_plants import PLANTS, Plant
 from network_promise import Promise, fault_of_settle
 from network_rows import QUICK
 from network_setups import HONEST, changed, draw_setup, is_operator
-from network_strangers import Strangers, read_packet
-from network_transcripts import Weaving, order_of, pasts_of, text_of
+from network_strangers import TOKENS, Strangers, read_packet
+from network_transcripts import Weaving, order_of, pasts_of, text_of, tokens_of
 
 WAYS = {"a kill": 3, "a kill that loses packets": 3, "a kill at the end": 1, "an end": 2}
 # The most rounds of ticks until all is quiet.
@@ -67,7 +67,8 @@ class Network:
         self.nodes = {party: Node(program, folder, setup, self.draw) for party, setup in setups.items()}
         self.drawn, self.links = Events(self.draw, self.nodes), Links(self.draw, plant.invents())
         self.strangers, self.promise = Strangers(self.draw), Promise()
-        self.step, self.packets = 0, 0
+        self.step, self.packets, self.woven = 0, 0, 0
+        self.wrong: list[str] = []
         self.stops: Counter[str] = Counter()
         self.changes: Counter[tuple[str, str]] = Counter()
         # Events that are still to be fed in one line.
@@ -81,23 +82,25 @@ class Network:
         try:
             for node in self.nodes.values():
                 self.start(node)
+                if not is_operator(node.party):
+                    for uid in TOKENS[:3]:
+                        self.feed(node, "token", self.drawn.token(node.party, uid))
             for self.step in range(self.events):
                 self.act()
             self.come_to_rest()
             self.end()
-            wrong = [it for node in self.nodes.values() for it in node.wrong]
-            wrong += self.look() + weaving.all(self.nodes)
+            self.wrong += self.look() + weaving.all(self.nodes)
         except Broken as fault:
-            wrong = [*(it for node in self.nodes.values() for it in node.wrong), str(fault)]
+            self.wrong.append(str(fault))
         finally:
             self.kill_all()
         self.woven = weaving.woven
-        return wrong
+        return [it for node in self.nodes.values() for it in node.wrong] + self.wrong
 
     def act(self) -> None:
         """One step: something happens at a node, on a link, or to a process."""
         node = self.nodes[self.draw.choice(HONEST)]
-        what = self.draw.choices(("arrives", "happens", "tick", "stranger", "stop"), (48, 30, 7, 12, 2.2))[0]
+        what = self.draw.choices(("arrives", "happens", "tick", "stranger", "stop"), (46, 36, 6, 10, 2))[0]
         if what == "stop":
             self.stop(node)
         elif what == "tick":
@@ -179,7 +182,7 @@ class Network:
                 node.give([("tick", self.drawn.tick(node.party))])
             if self.bring_all() + said == 0:
                 return
-        raise Broken(f"nodes are not quiet after {ROUNDS} rounds of ticks")
+        self.wrong.append(f"nodes are not quiet after {ROUNDS} rounds of ticks")
 
     def bring_all(self) -> int:
         """Brings all that is under way; how many packets partners said to one another."""
@@ -219,7 +222,8 @@ class Network:
         texts = {party: text_of(node) for party, node in self.nodes.items()}
         pasts = {(party, session): past for party in texts if is_operator(party)
                  for session, past in pasts_of(texts[party]).items()}
-        wrong = self.promise.end(pasts, {party: node.setups for party, node in self.nodes.items()})
+        tokens = {party: tokens_of(text) for party, text in texts.items()}
+        wrong = self.promise.end(pasts, tokens, {party: node.setups for party, node in self.nodes.items()})
         for party, node in self.nodes.items():
             wrong += order_of(party, texts[party])
             if not is_operator(party):
