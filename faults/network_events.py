@@ -22,8 +22,8 @@ class Events:
     def __init__(self, draw: random.Random, nodes: dict[str, Node]) -> None:
         self.draw, self.nodes, self.now = draw, nodes, BEGINNING
         self.skews = {party: draw.randint(-20_000, 20_000) for party in nodes}
-        # Of an operator the commands that were brought to it and what its charge points will report, and of each node the
-        # sessions of which it wrote or read.
+        # Of an operator the commands that were brought to it and what its charge points will report, and of each node
+        # the sessions of which it wrote or read.
         self.commands: dict[str, list[tuple[str, int]]] = {party: [("NL/TNM", 1)] for party in nodes}
         self.to_come: dict[str, list[tuple[str, Json]]] = {party: [] for party in nodes}
         self.sessions: dict[str, list[str]] = {party: ["none"] for party in nodes}

@@ -1,7 +1,7 @@
 """A node of a network: its journal of lines, and the process that runs it now, for faults/network_trial.py.
 
-Lines are fed ahead, by the five sentences of docs/NODE.md. Each event has a member `mark`, its number at this node, which
-the node reads past: so its transcript says which events were carried out.
+Lines are fed ahead, by the five sentences of docs/NODE.md. Each event has a member `mark`, its number at this node,
+which the node reads past: so its transcript says which events were carried out.
 """
 
 import contextlib
@@ -94,7 +94,7 @@ class Node:
         self.setup, self.setups, self.process = setup, [setup], None  # type: Setup, list[Setup], Process | None
         self.store = os.path.join(folder, f"{self.party.replace('/', '')}.db")
         self.lines: list[tuple[bytes, list[str]]] = []
-        # The last line whose `done` was seen, the last that was seen to change something, and the next that gives something.
+        # The last line whose `done` was seen, the last that was seen to change something, and the next that gives any.
         self.seen, self.changed, self.next, self.marks = 1, 1, 2, 0
         self.was_opened = False
         # Its transcripts, each behind the copy of the store over which it begins.
@@ -113,7 +113,7 @@ class Node:
         self.process.give(setup.line(self.seen, self.draw.randint(0, 9)))
 
     def open(self, setup: Setup) -> bool:
-        """Starts a run under a setup, and feeds all that is to be fed. False where its store was refused, and rightly so."""
+        """Starts a run under a setup, and feeds all that is to be fed. False where its store was refused."""
         bad = bad_rows(self.rows, setup)
         self.begin(setup)
         assert self.process is not None
@@ -160,7 +160,7 @@ class Node:
     # ---- its lines
 
     def give(self, events: list[tuple[str, bytes]]) -> None:
-        """Journals events as one line, and feeds it. Each comes with a word that says what it is, and without its end."""
+        """Journals events as one line, and feeds it. Each comes with a word for what it is, and without its end."""
         texts = []
         for _, text in events:
             self.marks += 1

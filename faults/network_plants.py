@@ -57,7 +57,7 @@ class Speaks(Plant):
 
 
 class Edited(Plant):
-    """The energy of a session, or the cost of a record, is another at a provider: its rows are those of a node still."""
+    """The energy of sessions, and the cost of records, is another at a provider: it is a node's store still."""
 
     def stopped(self, node: Node) -> None:
         if is_operator(node.party):
@@ -104,4 +104,5 @@ class Forgets(Plant):
 
 
 PLANTS: dict[str | None, type[Plant]] = {
-    None: Plant, "twice": Twice, "invents": Invents, "speaks": Speaks, "edited": Edited, "older": Older, "forgets": Forgets}
+    None: Plant, "twice": Twice, "invents": Invents, "speaks": Speaks, "edited": Edited, "older": Older,
+    "forgets": Forgets}

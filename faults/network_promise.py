@@ -1,7 +1,7 @@
 """Whether a network kept the promise: over the rows of its honest nodes, for faults/network_trial.py.
 
-What an operator's sessions were is read from its transcripts, which have all that it wrote. Rows are looked at whenever a
-node was stopped, and at the end.
+What an operator's sessions were is read from its transcripts, which have all that it wrote. Rows are looked at whenever
+a node was stopped, and at the end.
 """
 
 import subprocess
@@ -13,8 +13,9 @@ from network_rows import LIVES, Rows, cost_of, party_of, units
 from network_setups import OPERATORS, PROVIDERS, Json, Setup, is_operator
 
 ORDER = {"PENDING": ("PENDING", "ACTIVE", "INVALID"), "ACTIVE": ("ACTIVE", "COMPLETED"), "COMPLETED": (), "INVALID": ()}
-STAY = ("country_code", "party_id", "id", "cdr_token", "auth_method", "location_id", "evse_uid", "connector_id", "currency",
-        "authorization_reference")
+STAY = ("country_code", "party_id", "id", "cdr_token", "auth_method", "location_id", "evse_uid", "connector_id",
+        "currency", "authorization_reference")
+OF_A_BILL = ("cdr_token", "currency", "authorization_reference", "start_date_time")
 
 
 def sessions_of(rows: Rows, operator: str) -> dict[str, Json]:
@@ -70,8 +71,9 @@ class Promise:
             self.wrong += self.references(provider)
             for operator in OPERATORS:
                 self.wrong += [f"{provider} at {operator}: {it}" for it in self.pair(operator, provider, pasts)]
-                self.wrong += [f"{provider} never had the token {body} of {operator}" for key, body in
-                               self.rows[operator].of("token").items() if key[:6] == provider and body not in tokens[provider]]
+                self.wrong += [f"{operator} holds token {key} as {body}, which its provider never wrote"
+                               for key, body in self.rows[operator].of("token").items()
+                               if key[:6] == provider and body not in tokens[provider]]
         return self.wrong
 
     # ---- an operator by itself
@@ -90,10 +92,12 @@ class Promise:
                 yield f"{operator}: {len(bills)} bills of {session['status']} session {key}"
             if len(credits) > len(bills):
                 yield f"{operator}: {len(credits)} credits of session {key}"
-            yield from (f"{operator}: the bill of {key} is not of its session" for it in bills if not is_bill_of(it, session))
-            yield from (f"{operator}: a credit of {key} takes back no bill" for it in credits if not takes_back(it, bills))
-        sessions = {it["id"] for it in rows.of("session").values()}
-        yield from (f"{operator}: a record {it['id']} of no session" for it in records if it["session_id"] not in sessions)
+            if not all(is_bill_of(it, session) for it in bills):
+                yield f"{operator}: a bill of {key} is not of its session: {bills}, {session}"
+            if not all(takes_back(it, bills) for it in credits):
+                yield f"{operator}: a credit of {key} takes back no bill: {credits}, {bills}"
+        billed = {it["session_id"] for it in records} - {it["id"] for it in rows.of("session").values()}
+        yield from (f"{operator}: a record of {it}, which is no session" for it in billed)
 
     def past(self, operator: str, session: str, past: list[Json], setups: list[Setup]) -> Iterator[str]:
         """Whether a session went on in order, and has the cost of its energy by some price that its operator had."""
@@ -127,14 +131,16 @@ class Promise:
                 yield from held_in_order(session, held, pasts.get((operator, session), []))
         at_operator, at_provider = self.rows[operator], self.rows[provider]
         yield from self.records(operator, provider)
-        yield from acknowledged(at_operator, sessions_of(at_operator, operator), sessions_of(at_provider, operator), provider)
-        yield from acknowledged(at_operator, records_of(at_operator, operator), records_of(at_provider, operator), provider)
+        for told in (sessions_of, records_of):
+            yield from acknowledged(at_operator, told(at_operator, operator), told(at_provider, operator), provider)
         yield from answers(at_operator, at_provider, operator, provider)
 
     def records(self, operator: str, provider: str) -> Iterator[str]:
         """That the provider's records are the operator's, one bill and one credit a session."""
         held, own = records_of(self.rows[provider], operator), records_of(self.rows[operator], operator)
-        yield from (f"record {it} is held as {body}, and is {own.get(it)}" for it, body in held.items() if own.get(it) != body)
+        for name, body in held.items():
+            if own.get(name) != body:
+                yield f"record {name} is held as {body}, and is {own.get(name)}"
         counted = Counter((it["session_id"], it["credit"]) for it in held.values())
         yield from (f"{number} records {it}" for it, number in counted.items() if number > 1)
 
@@ -150,7 +156,7 @@ class Promise:
 def is_bill_of(bill: Json, session: Json) -> bool:
     """Whether a bill has the energy and the cost of a session, and what does not change of it."""
     return (bill["total_energy"], bill["total_cost"]) == (session["kwh"], session["total_cost"]) and all(
-        bill.get(it) == session.get(it) for it in ("cdr_token", "currency", "authorization_reference", "start_date_time"))
+        bill.get(it) == session.get(it) for it in OF_A_BILL)
 
 
 def takes_back(credit: Json, bills: list[Json]) -> bool:

@@ -146,7 +146,8 @@ Change = Callable[[random.Random, Setup, int], bool]
 
 
 def partner_more(draw: random.Random, setup: Setup, _: int) -> bool:
-    candidates = [it for it in (PROVIDERS if is_operator(setup.party) else OPERATORS) + LISTED if it not in setup.others]
+    partners = PROVIDERS if is_operator(setup.party) else OPERATORS
+    candidates = [it for it in partners + LISTED if it not in setup.others]
     if not candidates:
         return False
     setup.others.insert(draw.randint(0, len(setup.others)), draw.choice(candidates))
@@ -215,7 +216,8 @@ def other_names(draw: random.Random, setup: Setup, _: int) -> bool:
 
 
 OF_BOTH: list[tuple[str, Change, int]] = [
-    ("a partner more", partner_more, 4), ("a partner less", partner_less, 3), ("another order and spelling", other_names, 3)]
+    ("a partner more", partner_more, 4), ("a partner less", partner_less, 3),
+    ("another order and spelling", other_names, 3)]
 OF_OPERATORS: list[tuple[str, Change, int]] = [
     ("an EVSE more", evse_more, 3), ("an EVSE less", evse_less, 4), ("another connector", other_connector, 2),
     ("another location", other_location, 2), ("a price to come", price_to_come, 5), ("another price", other_price, 2),
@@ -223,7 +225,7 @@ OF_OPERATORS: list[tuple[str, Change, int]] = [
 
 
 def changed(draw: random.Random, setup: Setup, now: int, is_resting: bool) -> tuple[str, Setup]:
-    """A setup that differs from that one, and how. At a node without a living session the currency changes more often."""
+    """A setup that differs from that one, and how. Where no session lives the currency changes more often."""
     changes = OF_BOTH + (OF_OPERATORS if is_operator(setup.party) else [])
     weights = [weight * (4 if is_resting and name == "another currency" else 1) for name, _, weight in changes]
     while True:

@@ -1,4 +1,7 @@
-"""Parties that run no node, and send random well-formed packets as themselves to anybody, for faults/network_trial.py."""
+"""Parties that run no node, and send random well-formed packets as themselves to anybody.
+
+For faults/network_trial.py.
+"""
 
 import copy
 import json
@@ -6,16 +9,16 @@ import random
 from collections import Counter
 
 from network_nodes import line_of
-from network_setups import (BEGINNING, CURRENCIES, EVSES, HONEST, LOCATIONS, OPERATORS, PROVIDERS, STRANGERS, UNITS, Json,
-                            moment_of, spelled)
+from network_setups import (BEGINNING, CURRENCIES, EVSES, HONEST, LOCATIONS, OPERATORS, PROVIDERS, STRANGERS, UNITS,
+                            Json, moment_of, spelled)
 
 TOKENS = tuple(f"AA{number:02}" for number in range(1, 5))
 OF_PROVIDERS = ("start_session", "stop_session", "reserve_now", "cancel_reservation", "unlock_connector", "put_token",
                 "authorization", "ack")
 OF_OPERATORS = ("command_response", "command_result", "put_session", "post_cdr", "authorize", "ack")
 COMMANDS = OF_PROVIDERS[:5]
-RESULTS = ("ACCEPTED", "CANCELED_RESERVATION", "EVSE_OCCUPIED", "EVSE_INOPERATIVE", "FAILED", "NOT_SUPPORTED", "REJECTED",
-           "TIMEOUT", "UNKNOWN_RESERVATION")
+RESULTS = ("ACCEPTED", "CANCELED_RESERVATION", "EVSE_OCCUPIED", "EVSE_INOPERATIVE", "FAILED", "NOT_SUPPORTED",
+           "REJECTED", "TIMEOUT", "UNKNOWN_RESERVATION")
 RESPONSES = ("NOT_SUPPORTED", "REJECTED", "ACCEPTED", "UNKNOWN_SESSION")
 
 
@@ -70,7 +73,8 @@ class Strangers:
             if draw.random() < 0.5:
                 self.change(body, sender)
             return body
-        return self.built(kind, draw.choice((sender, sender, draw.choice(PROVIDERS))), f"https://node.invalid/{party}/{number}")
+        owner = draw.choice((sender, sender, draw.choice(PROVIDERS)))
+        return self.built(kind, owner, f"https://node.invalid/{party}/{number}")
 
     def change(self, body: Json, sender: str) -> None:
         """Changes some members of a body: it stays well-formed."""
@@ -101,7 +105,8 @@ class Strangers:
         done = {"status_code": 1000, "timestamp": self.moment()}
         bodies: dict[str, Json] = {
             "start_session": {"token": token, **place, "authorization_reference": draw.choice(self.references)},
-            "stop_session": session, "cancel_reservation": reservation, "unlock_connector": {**place, "connector_id": "1"},
+            "stop_session": session, "cancel_reservation": reservation,
+            "unlock_connector": {**place, "connector_id": "1"},
             "reserve_now": {"token": token, **place, **reservation, "expiry_date": self.moment()},
             "command_result": {"result": draw.choice(RESULTS)}, "put_token": token, "ack": done,
             "command_response": {**done, "data": {"result": draw.choice(RESPONSES), "timeout": 30}},
@@ -121,14 +126,15 @@ class Strangers:
                 "end_date_time": self.moment(), "auth_method": "COMMAND", "currency": self.draw.choice(CURRENCIES),
                 "total_cost": {"excl_vat": self.number()}, "last_updated": self.moment()}
         if kind == "put_session":
-            return {**both, "id": session, "kwh": self.number(), "location_id": "LOC1", "evse_uid": "E1", "connector_id": "1",
-                    "status": self.draw.choice(("PENDING", "ACTIVE", "COMPLETED", "INVALID"))}
-        place = {"id": "LOC1", "address": "A 1", "city": "B", "country": "BEL", "evse_uid": "E1", "evse_id": "BE*BEC*E1",
+            return {**both, "id": session, "kwh": self.number(), "location_id": "LOC1", "evse_uid": "E1",
+                    "connector_id": "1", "status": self.draw.choice(("PENDING", "ACTIVE", "COMPLETED", "INVALID"))}
+        place = {"id": "LOC1", "address": "A 1", "city": "B", "country": "BEL", "evse_uid": "E1", "evse_id": "BE*BEC*E",
                  "coordinates": {"latitude": "51.05421", "longitude": "3.72180"}, "connector_id": "1",
-                 "connector_standard": "IEC_62196_T2", "connector_format": "SOCKET", "connector_power_type": "AC_3_PHASE"}
+                 "connector_standard": "IEC_62196_T2", "connector_format": "SOCKET",
+                 "connector_power_type": "AC_3_PHASE"}
         period = {"start_date_time": self.moment(), "dimensions": [{"type": "ENERGY", "volume": self.number()}]}
-        return {**both, "id": session.replace("53", "43", 1), "session_id": session, "cdr_location": place, "total_time": 0.5,
-                "charging_periods": [period], "total_energy": self.number()}
+        return {**both, "id": session.replace("53", "43", 1), "session_id": session, "cdr_location": place,
+                "total_time": 0.5, "charging_periods": [period], "total_energy": self.number()}
 
 
 def read_packet(text: bytes) -> Json:

@@ -8,8 +8,8 @@ transcript. No two setups are equal: each has other partners, in another order a
 an operator has its own site, prices and currency. Nodes are fed ahead by the five sentences of docs/NODE.md, some lines
 with several events. Between them links lose, repeat, reorder and delay packets. Strangers run no node. They know what
 honest nodes say, and send packets as themselves to anybody. Nodes are killed (SIGKILL), or their input ends, and most
-start again under a setup that differs (faults/network_setups.py has how). Each setup is opened, or refused by the row and
-the reason, just as the table of docs/NODE.md says; a refusal changes no row, and then the setup of before is given.
+start again under a setup that differs (faults/network_setups.py has how). Each setup is opened, or refused by the row
+and the reason, just as the table of docs/NODE.md says; a refusal changes no row, and the setup of before is given then.
 
 At the end links lose nothing, and all nodes get ticks until honest partners have nothing more to say to one another.
 Then the promise is looked for in the rows of each honest node and pair (faults/network_promise.py), and
@@ -28,7 +28,8 @@ With --plant one thing is done wrong on purpose, and each run must fail: FAULT i
     older     an older copy of a store is put in place while its node is stopped
     forgets   a line is taken out of a transcript
 
-Standard error has a line for each run, and what was wrong. The last line is 'N runs, M failed'; the status is 0 where
+Standard error has a line for each run, and what was wrong. The last line but one tells how often each change of a
+setup was taken and refused. The last line is 'N runs, M failed'; the status is 0 where
 none failed.
 """
 
@@ -62,7 +63,8 @@ class Network:
     """One run."""
 
     def __init__(self, program: str, folder: str, seed: int, events: int, plant: Plant) -> None:
-        self.program, self.folder, self.draw, self.events, self.plant = program, folder, random.Random(seed), events, plant
+        self.program, self.folder, self.events, self.plant = program, folder, events, plant
+        self.draw = random.Random(seed)
         setups = {party: draw_setup(self.draw, party) for party in HONEST}
         self.nodes = {party: Node(program, folder, setup, self.draw) for party, setup in setups.items()}
         self.drawn, self.links = Events(self.draw, self.nodes), Links(self.draw, plant.invents())
@@ -198,7 +200,8 @@ class Network:
                 self.nodes[sent.to].give([("of a partner", self.drawn.delivery(sent.to, sent.text))])
 
     def are_partners(self, node: Node, other: str) -> bool:
-        return other in self.nodes and other in node.setup.partners() and node.party in self.nodes[other].setup.partners()
+        return (other in self.nodes and other in node.setup.partners()
+                and node.party in self.nodes[other].setup.partners())
 
     def end(self) -> None:
         for node in self.nodes.values():
@@ -237,10 +240,11 @@ class Network:
         operators = [found[party] for party in found if is_operator(party)]
         counted = Counter(record["credit"] for rows in operators for record in rows.of("cdr").values())
         setups = Counter(word for (_, word), number in self.changes.items() for _ in range(number))
-        return (f"{sum(len(node.lines) for node in self.nodes.values())} lines, {sum(self.stops.values())} stops, setups "
-                f"{setups['taken']} taken and {setups['refused']} refused, {self.packets} packets, {self.links.lost} lost, "
-                f"{self.links.repeated} repeated, {self.strangers.sent} of strangers ({came['of a stranger', 'stepped']} "
-                f"changed something), {sum(len(it.of('session')) for it in operators)} sessions, {counted[False]} bills, "
+        return (f"{sum(len(node.lines) for node in self.nodes.values())} lines, {sum(self.stops.values())} stops, "
+                f"setups {setups['taken']} taken and {setups['refused']} refused, {self.packets} packets, "
+                f"{self.links.lost} lost, {self.links.repeated} repeated, {self.strangers.sent} of strangers "
+                f"({came['of a stranger', 'stepped']} changed something), "
+                f"{sum(len(it.of('session')) for it in operators)} sessions, {counted[False]} bills, "
                 f"{counted[True]} credits, {self.woven} times woven")
 
 
@@ -266,8 +270,9 @@ def main() -> int:
             if wrong and given.folder:
                 shutil.copytree(folder, os.path.join(given.folder, f"seed{seed}"), dirs_exist_ok=True)
         failed += bool(wrong)
-    for name in sorted({name for name, _ in changes}):
-        print(f"setups with {name}: {changes[name, 'taken']} taken, {changes[name, 'refused']} refused")
+    names = sorted({name for name, _ in changes})
+    told = ", ".join(f"{name} {changes[name, 'taken']} and {changes[name, 'refused']}" for name in names)
+    print(f"setups taken and refused: {told}")
     print(f"{given.runs} runs, {failed} failed")
     return 0 if failed == 0 else 1
 
