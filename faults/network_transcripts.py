@@ -3,6 +3,7 @@ faults/network_trial.py."""
 
 import json
 import os
+import random
 import subprocess
 from collections.abc import Iterator
 
@@ -55,20 +56,20 @@ def try_json(line: bytes) -> Json | None:
         return None
 
 
-def marks_of(line: bytes) -> list[int]:
-    """The marks of the events in a line that was fed."""
+def events_of(line: bytes) -> list[Json]:
+    """The events in a line that was fed."""
     value = json.loads(line)
-    return [it.get("mark", 0) for it in (value if isinstance(value, list) else [value])]
+    return value if isinstance(value, list) else [value]
 
 
-def carried_out(text: bytes) -> list[int]:
-    """The marks of all events that a transcript says were `stepped`, in its order."""
-    found, marks = [], []  # type: list[int], list[int]
+def carried_out(text: bytes) -> list[Json]:
+    """All events that a transcript says were `stepped`, in its order."""
+    found, events = [], []  # type: list[Json], list[Json]
     for line in lines_of(text):
         if line.startswith((b'{"event"', b"[")):
-            marks = marks_of(line) if line.endswith((b"}", b"]")) else []
+            events = events_of(line) if line.endswith((b"}", b"]")) else []
         elif line.startswith(b'{"done":"stepped"') and (told := try_json(line)):
-            found.append(marks[told.get("event", 0)])
+            found.append(events[told.get("event", 0)])
     return found
 
 
@@ -76,19 +77,23 @@ def parties_of(files: list[str]) -> set[str]:
     """The parties of the setups with which runs in these transcripts were opened."""
     parties, setup = set(), b""
     for name in files:
-        with open(name, "rb") as file:
-            for line in file.read().split(b"\n"):
-                setup = line if line.startswith(SETUP) else setup
-                if line.startswith(OPENED) and line.endswith(b"}"):
-                    parties |= {it["party"].upper() for it in json.loads(setup)["nodes"]}
+        for line in read(name).split(b"\n"):
+            setup = line if line.startswith(SETUP) else setup
+            if line.startswith(OPENED) and line.endswith(b"}"):
+                parties |= {it["party"].upper() for it in json.loads(setup)["nodes"]}
     return parties
+
+
+def read(name: str) -> bytes:
+    with open(name, "rb") as file:
+        return file.read()
 
 
 class Weaving:
     """Weaves transcripts, and counts how often that went well."""
 
-    def __init__(self, program: str, folder: str) -> None:
-        self.program, self.folder, self.woven = program, folder, 0
+    def __init__(self, program: str, folder: str, draw: random.Random) -> None:
+        self.program, self.folder, self.draw, self.woven = program, folder, draw, 0
         self.wrong: list[str] = []
 
     def whole(self, node: Node) -> File | None:
@@ -117,10 +122,12 @@ class Weaving:
         if ran.returncode != 0 or ran.stderr:
             told = (ran.stdout[:300] + ran.stderr[:600]).decode()
             self.wrong.append(f"weave {' '.join(words)}: status {ran.returncode}: {told}")
+        else:
+            self.wrong += [f"weave {' '.join(words)}: {it}" for it in fault_of_run(ran.stdout, files)]
         self.woven += 1
 
     def all(self, nodes: dict[str, Node]) -> list[str]:
-        """Weaves the transcripts of each pair, whole and from where they last began anew, and those of all together."""
+        """Weaves the transcripts of each pair, whole and from where they last began anew, of some, and of all."""
         whole = {party: self.whole(node) for party, node in nodes.items()}
         last = {party: self.last(node) for party, node in nodes.items()}
         for operator in OPERATORS:
@@ -128,13 +135,29 @@ class Weaving:
                 self.weave([(operator, whole[operator]), (provider, whole[provider])])
                 if last[operator] != whole[operator] or last[provider] != whole[provider]:
                     self.weave([(provider, last[provider]), (operator, last[operator])])
+        some = self.draw.sample(HONEST, self.draw.randint(1, 5))
+        self.weave([(party, self.draw.choice((whole, last))[party]) for party in some])
         self.weave([(party, whole[party]) for party in HONEST])
         return self.wrong
 
 
+def fault_of_run(run: bytes, files: list[tuple[str, File]]) -> Iterator[str]:
+    """Whether a woven run has what its files say was `stepped`, in their order, but for deliveries between them."""
+    found: dict[str, list[int]] = {party: [] for party, _ in files}
+    for line in run.splitlines():
+        event = json.loads(line)
+        if "mark" in event:
+            found[event["node"].upper()].append(event["mark"])
+    for party, (_, name) in files:
+        wanted = {it["mark"] for it in carried_out(read(name))
+                  if it["event"] != "deliver" or it["packet"]["from"].upper() not in found}
+        if not wanted <= set(found[party]) or found[party] != sorted(set(found[party])):
+            yield f"it has not the events of {party}: {sorted(wanted)}, {found[party]}"
+
+
 def order_of(party: str, text: bytes) -> Iterator[str]:
     """That each event of a node was carried out once, and in the order in which they were journaled."""
-    marks = carried_out(text)
+    marks = [it["mark"] for it in carried_out(text)]
     if marks != sorted(set(marks)):
         at = next(place for place in range(1, len(marks)) if marks[place] <= marks[place - 1])
         yield f"{party}: event {marks[at]} was carried out after event {marks[at - 1]}"

@@ -17,7 +17,7 @@ Then the promise is looked for in the rows of each honest node and pair (faults/
 - `settle` owes what the held bills less the held credits are, by operator and currency;
 - each event was carried out once, in the order in which it was journaled;
 - `weave` takes the transcripts of each pair with all others given, whole, and from where they last began anew over a
-  copy of the store; and those of all six nodes.
+  copy of the store; and those of some nodes, and of all six. The run that it makes has what its files have.
 
 With --plant one thing is done wrong on purpose, and each run must fail: FAULT is one of
 
@@ -80,7 +80,7 @@ class Network:
 
     def run(self) -> list[str]:
         """Runs all, and answers what was wrong."""
-        weaving = Weaving(self.program, self.folder)
+        weaving = Weaving(self.program, self.folder, self.draw)
         try:
             for node in self.nodes.values():
                 self.start(node)
