@@ -93,8 +93,8 @@ class Events:
 
     def reading(self, party: str, uid: str) -> float:
         """What a meter shows next."""
-        self.kwh[party, uid] += self.draw.randint(1, 10 * KWH)
-        return self.kwh[party, uid] / UNITS
+        self.kwh[party, uid.upper()] += self.draw.randint(1, 10 * KWH)
+        return self.kwh[party, uid.upper()] / UNITS
 
     def reported(self, party: str, kind: str) -> Json:
         """What charge points report at an operator, and what that does by itself."""

@@ -40,7 +40,7 @@ def is_operator(party: str) -> bool:
 
 
 def spelled(draw: random.Random, party: str) -> str:
-    """A party in one of its spellings."""
+    """A party, or another name that is compared without case, in one of its spellings."""
     return draw.choice((party, party, party.lower(), party.title()))
 
 
@@ -124,9 +124,11 @@ def draw_site(draw: random.Random) -> Json:
 
 
 def spell_and_order(draw: random.Random, setup: Setup) -> None:
-    """Another order, and other spellings, also of its own party."""
+    """Another order, and other spellings, also of its own party, and of what stands at its site."""
     draw.shuffle(setup.others)
     setup.spellings = {party: spelled(draw, party) for party in (setup.party, *setup.others)}
+    for place, evse in setup.evses():
+        evse["uid"], place["id"] = spelled(draw, evse["uid"].upper()), spelled(draw, place["id"].upper())
 
 
 def draw_setup(draw: random.Random, party: str) -> Setup:
@@ -162,7 +164,7 @@ def partner_less(draw: random.Random, setup: Setup, _: int) -> bool:
 
 
 def evse_more(draw: random.Random, setup: Setup, _: int) -> bool:
-    free = [uid for uid in EVSES if uid not in [evse["uid"] for _, evse in setup.evses()]]
+    free = [uid for uid in EVSES if uid not in [evse["uid"].upper() for _, evse in setup.evses()]]
     if not free:
         return False
     draw.choice(setup.site["locations"])["evses"].append(evse_of(draw.choice(free), ["1"]))
@@ -186,7 +188,7 @@ def other_connector(draw: random.Random, setup: Setup, _: int) -> bool:
 
 
 def other_location(draw: random.Random, setup: Setup, _: int) -> bool:
-    names = [it["id"] for it in setup.site["locations"]]
+    names = [it["id"].upper() for it in setup.site["locations"]]
     draw.choice(setup.site["locations"])["id"] = draw.choice([it for it in LOCATIONS if it not in names])
     return True
 
@@ -196,6 +198,14 @@ def price_to_come(draw: random.Random, setup: Setup, now: int) -> bool:
     last = milliseconds_of(entries[-1]["start_date_time"]) if entries else 0
     at = max(last, now) + draw.randint(20, 90) * 1000
     entries.append({"start_date_time": moment_of(at), "price": draw_price(draw)})
+    return True
+
+
+def price_less(draw: random.Random, setup: Setup, _: int) -> bool:
+    """An entry of `prices` goes, by which bills may have been made."""
+    if not setup.site["prices"]:
+        return False
+    setup.site["prices"].remove(draw.choice(setup.site["prices"]))
     return True
 
 
@@ -221,7 +231,7 @@ OF_BOTH: list[tuple[str, Change, int]] = [
 OF_OPERATORS: list[tuple[str, Change, int]] = [
     ("an EVSE more", evse_more, 3), ("an EVSE less", evse_less, 4), ("another connector", other_connector, 2),
     ("another location", other_location, 2), ("a price to come", price_to_come, 5), ("another price", other_price, 2),
-    ("another currency", other_currency, 3)]
+    ("a price less", price_less, 1), ("another currency", other_currency, 3)]
 
 
 def changed(draw: random.Random, setup: Setup, now: int, is_resting: bool) -> tuple[str, Setup]:

@@ -19,6 +19,8 @@ OF_OPERATORS = ("command_response", "command_result", "put_session", "post_cdr",
 COMMANDS = OF_PROVIDERS[:5]
 RESULTS = ("ACCEPTED", "CANCELED_RESERVATION", "EVSE_OCCUPIED", "EVSE_INOPERATIVE", "FAILED", "NOT_SUPPORTED",
            "REJECTED", "TIMEOUT", "UNKNOWN_RESERVATION")
+# The last number, and the last moment.
+LARGEST, LATEST = 10**18 - 1, "9999-12-31T23:59:59.999Z"
 RESPONSES = ("NOT_SUPPORTED", "REJECTED", "ACCEPTED", "UNKNOWN_SESSION")
 
 
@@ -59,7 +61,7 @@ class Strangers:
         if draw.random() < 0.8:
             self.serials[sender] += 1
         party, number = draw.choice(self.requests[-30:])
-        request = draw.choice((number, self.serials[sender] + 1, draw.randint(1, 40)))
+        request = draw.choice((number, self.serials[sender] + 1, draw.randint(1, 40), draw.choice((0, LARGEST))))
         addressed = to if draw.random() < 0.97 else draw.choice(HONEST)
         self.sent += 1
         return to, line_of({"body": self.body(kind, sender, party, number), "from": spelled(draw, sender), "kind": kind,
@@ -91,6 +93,8 @@ class Strangers:
                 body[member].update(own)
 
     def moment(self) -> str:
+        if self.draw.random() < 0.1:
+            return LATEST
         return moment_of(BEGINNING + self.draw.randint(-1_000_000, 4_000_000))
 
     def number(self) -> float:
