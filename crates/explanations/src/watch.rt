@@ -1,5 +1,7 @@
 //! What goes into a program and comes out of it, and what is said of that.
 
+ghost use Rattle.std.specs.Prelude.{◌≡◌, true, false};
+
 use crate::answers::{Case, Program, tell_idle, tell_refused, tell_skipped};
 use crate::known::Known;
 use crate::malformed::{LineText, Place, explain_malformed};
@@ -71,7 +73,10 @@ impl<'p, E: Write> Watch<'p, E> {
         telling: Telling,
         echoes: bool,
         errors: E,
-    ) -> Watch<'p, E> {
+    ) -> Watch<'p, E>
+        ensures untold { result.has_told ≡ false }
+        ensures telling { result.telling ≡ telling }
+    {
         Watch {
             alloc,
             errors,
@@ -94,12 +99,17 @@ impl<'p, E: Write> Watch<'p, E> {
     }
 
     /// Whether a line was refused, or came to nothing where that may be a mistake.
-    pub fn has_told(&self) -> bool {
+    pub fn has_told(&self) -> bool
+        ensures { result ≡ self.now.has_told }
+    {
         self.has_told
     }
 
     /// The reader shows these bytes; none where the input ended.
-    pub(crate) fn show(&mut self, shown: &[u8]) {
+    pub(crate) fn show(&mut self, shown: &[u8])
+        ensures stays { self.old.has_told ≡ true → self.new.has_told ≡ true }
+        ensures silent { self.new.has_told ≡ false → E.contents self.new.errors ≡ E.contents self.old.errors }
+    {
         if shown.is_empty() {
             if self.is_open {
                 self.end_line(false);
@@ -120,7 +130,10 @@ impl<'p, E: Write> Watch<'p, E> {
     }
 
     /// So many of the bytes that were shown are taken.
-    pub(crate) fn take(&mut self, amount: usize) {
+    pub(crate) fn take(&mut self, amount: usize)
+        ensures stays { self.old.has_told ≡ true → self.new.has_told ≡ true }
+        ensures silent { self.new.has_told ≡ false → E.contents self.new.errors ≡ E.contents self.old.errors }
+    {
         let taken = self.shown.len().min(amount);
         let kept = taken.min(ROOM - self.line.len().min(ROOM));
         let _ = self.line.extend_from_slice(&self.shown[..kept]);
@@ -132,7 +145,10 @@ impl<'p, E: Write> Watch<'p, E> {
         }
     }
 
-    fn begin_line(&mut self) {
+    fn begin_line(&mut self)
+        ensures stays { self.old.has_told ≡ true → self.new.has_told ≡ true }
+        ensures silent { self.new.has_told ≡ false → E.contents self.new.errors ≡ E.contents self.old.errors }
+    {
         self.settle();
         self.number = self.number.saturating_add(1);
         self.line.clear();
@@ -143,7 +159,10 @@ impl<'p, E: Write> Watch<'p, E> {
     }
 
     /// The line ended: what ends it is dropped, and the first line is read.
-    fn end_line(&mut self, has_line_feed: bool) {
+    fn end_line(&mut self, has_line_feed: bool)
+        ensures stays { self.old.has_told ≡ true → self.new.has_told ≡ true }
+        ensures silent { self.new.has_told ≡ false → E.contents self.new.errors ≡ E.contents self.old.errors }
+    {
         self.is_open = false;
         let is_whole = self.len == self.line.len() as u64;
         if has_line_feed {
@@ -160,7 +179,10 @@ impl<'p, E: Write> Watch<'p, E> {
     }
 
     /// Drops a line feed, and a carriage return before it.
-    fn drop_end(&mut self) {
+    fn drop_end(&mut self)
+        ensures stays { self.old.has_told ≡ true → self.new.has_told ≡ true }
+        ensures silent { self.new.has_told ≡ false → E.contents self.new.errors ≡ E.contents self.old.errors }
+    {
         self.line.pop();
         if self.line.last() == Some(&b'\r') {
             self.line.pop();
@@ -168,7 +190,10 @@ impl<'p, E: Write> Watch<'p, E> {
         }
     }
 
-    fn end_input(&mut self) {
+    fn end_input(&mut self)
+        ensures stays { self.old.has_told ≡ true → self.new.has_told ≡ true }
+        ensures silent { self.new.has_told ≡ false → E.contents self.new.errors ≡ E.contents self.old.errors }
+    {
         self.settle();
         self.is_echoed = true;
         self.is_answered = true;
@@ -190,7 +215,10 @@ impl<'p, E: Write> Watch<'p, E> {
     }
 
     /// The program writes these bytes.
-    pub(crate) fn wrote(&mut self, bytes: &[u8]) {
+    pub(crate) fn wrote(&mut self, bytes: &[u8])
+        ensures stays { self.old.has_told ≡ true → self.new.has_told ≡ true }
+        ensures silent { self.new.has_told ≡ false → E.contents self.new.errors ≡ E.contents self.old.errors }
+    {
         for byte in bytes {
             if *byte == b'\n' {
                 self.end_output();
@@ -201,7 +229,10 @@ impl<'p, E: Write> Watch<'p, E> {
     }
 
     /// A line of the output ended.
-    fn end_output(&mut self) {
+    fn end_output(&mut self)
+        ensures stays { self.old.has_told ≡ true → self.new.has_told ≡ true }
+        ensures silent { self.new.has_told ≡ false → E.contents self.new.errors ≡ E.contents self.old.errors }
+    {
         if self.is_echoed {
             self.is_answered = true;
             let said = said_by(self.alloc, self.program, self.output.as_slice());
@@ -213,7 +244,10 @@ impl<'p, E: Write> Watch<'p, E> {
     }
 
     /// In `play` an event that gave nothing is told of where it is a report of a charge point.
-    fn settle(&mut self) {
+    fn settle(&mut self)
+        ensures stays { self.old.has_told ≡ true → self.new.has_told ≡ true }
+        ensures silent { self.new.has_told ≡ false → E.contents self.new.errors ≡ E.contents self.old.errors }
+    {
         if self.is_answered || self.is_first || self.line.is_empty() {
             return;
         }
@@ -227,7 +261,10 @@ impl<'p, E: Write> Watch<'p, E> {
     }
 
     /// Explains what came to nothing.
-    fn judge(&mut self, said: Said) {
+    fn judge(&mut self, said: Said)
+        ensures stays { self.old.has_told ≡ true → self.new.has_told ≡ true }
+        ensures silent { self.new.has_told ≡ false → E.contents self.new.errors ≡ E.contents self.old.errors }
+    {
         if said.outcome == Outcome::Other {
             return;
         }
@@ -244,7 +281,9 @@ impl<'p, E: Write> Watch<'p, E> {
         }
     }
 
-    fn say(&mut self, text: &[u8]) {
+    fn say(&mut self, text: &[u8])
+        ensures told { self.new.has_told ≡ true }
+    {
         self.has_told = true;
         if self.telling.explains {
             let _ = write_whole(&mut self.errors, text);
