@@ -8,7 +8,7 @@ use Rattle.std.proofs.lemmas.List.Elements.{All-from_recursion, recursion_from_A
 use Rattle.ocpi_types.specs.declared.rows.Change.{Change}
 use Rattle.node_laws.specs.Runs.{Run}
 use Rattle.node_laws.proofs.Runs.{kept_runs, run_join}
-use Rattle.node_store.specs.Contents.{Content, IsReadAgain, changed, changed_all, line_of, marked}
+use Rattle.node_store.specs.Contents.{Content, IsReadAgain, changed, changed_all, line_of, marked, number_kept}
 use Rattle.node_store.proofs.Numbered.{line_marked, line_stays}
 use Rattle.node_rows.specs.Holds.{HoldsRows, StoresAlike}
 use Rattle.node_rows.specs.Laws.{AreClasses, ChangesAreHeld, RestartsAreHeld}
@@ -67,7 +67,7 @@ alike_by_events alike classes n m (x ∷ events) (u, step, rest) none =
 
 -- the number that is kept behind a line
 number_is : (line : Option ℕ) (c kept : Content) (changes : List Change) → IsLine line → kept ≡ c → line_of (marked line (changed_all c changes)) ≡ number_behind line kept
-number_is None c kept changes is same = line_stays c changes ∙ ap line_of (sym same)
+number_is None c kept changes is same = ap number_kept (line_stays c changes) ∙ ap line_of (sym same)
 number_is (Some n) c kept changes is same = line_marked (changed_all c changes) n is.0 is.1
 
 module _ {K : Type 0} (keeper : Keeper K) where

@@ -1,6 +1,6 @@
 -- Several events that a node does in memory, and whose changes are committed together: what holds meanwhile, what each
 -- event makes of it, and what is left where the commit is refused.
-use Rattle.std.specs.Prelude.{◌≡◌, ◌≢◌, ◌⊎◌, ◌↔◌, ◌++◌, ℕ, List, [], Bool, false, Option, IsTrue}
+use Rattle.std.specs.Prelude.{◌≡◌, ◌≢◌, ◌⊎◌, ◌↔◌, ◌++◌, ℕ, List, [], Bool, false, Option, None, Some, IsTrue}
 use Rattle.std.specs.List.{flat_map}
 use Rattle.ocpi_types.specs.declared.node_events.NodeEventKind.{NodeEventKind}
 use Rattle.ocpi_types.specs.declared.node_events.NodeEventKind.TheVariants as event
@@ -14,11 +14,11 @@ use Rattle.world_steps.specs.Steps.{NodeEvent, NodeRefuses, NodeStep, changes_of
 use Rattle.world_steps.specs.World.{NodeState}
 use Rattle.history_laws.specs.Replays.{Brings}
 use Rattle.stored_laws.specs.Nodes.{CanStartAgain}
-use Rattle.node_store.specs.Contents.{Content}
+use Rattle.node_store.specs.Contents.{Content, line_of}
 use Rattle.node_rows.specs.Holds.{HoldsRows}
 use Rattle.node_core.specs.Works.{changes_by, packets_by}
 use Rattle.node_core.specs.declared.work.NodeWork.{NodeWork}
-use Rattle.stored_nodes.specs.Keepers.{Declines, Keeper}
+use Rattle.stored_nodes.specs.Keepers.{Declines, IsSettled, Keeper}
 use Rattle.stored_nodes.specs.Stored.{HoldsOneMore, IsStored, Stored}
 use Rattle.stored_nodes.specs.declared.fault.StepFault.{StepFault}
 use Rattle.stored_nodes.specs.declared.fault.StepFault.TheVariants.{Core, Memory}
