@@ -1,11 +1,11 @@
 #!/usr/bin/env python3
 """Kills two_nodes.py and its nodes at each packet, and begins them again: kill_two_nodes.py PROGRAM [--all]
 
-A charge runs between an operator and a provider. Once each packet is printed, one of VICTIMS is killed, in turn, or with
---all each of them in a charge of its own. Then all is begun again, until the charge is done. Each time both stores must
-say that the same is owed, and have rows of the same names, as in a charge that nobody stopped: one session, and one bill.
-Each line of a node must have been seen done under its number. The last line is 'N of M stops were as wanted', and the
-status 0 where all were.
+A charge runs between an operator and a provider. Once each packet is printed, one of VICTIMS is killed, in turn, or
+with --all each of them in a charge of its own. Then all is begun again, until the charge is done. Each time both stores
+must say that the same is owed, and have rows of the same names, as in a charge that nobody stopped: one session, and
+one bill. Each line of a node must have been seen done under its number. The last line is 'N of M stops were as wanted',
+and the status 0 where all were.
 
 (With --hold STOP VICTIM FOLDER it is what it starts: two_nodes.py, with a print that kills.)
 """
@@ -46,7 +46,8 @@ def nodes_of(holder: int) -> list[int]:
 def kill(victim: str) -> None:
     """Kills nodes, and this process, which holds them, last."""
     nodes, holder = nodes_of(os.getpid()), os.getpid()
-    for number in {"the holder": [holder], "all": [*nodes, holder], "the operator": nodes[:1], "the provider": nodes[1:]}[victim]:
+    chosen = {"the holder": [holder], "all": [*nodes, holder], "the operator": nodes[:1], "the provider": nodes[1:]}
+    for number in chosen[victim]:
         os.kill(number, signal.SIGKILL)
 
 
