@@ -2,45 +2,30 @@
 use Rattle.std.proofs.Common.{◌++◌, ◌+◌, ℕ, List, [], sym, subst, arith}
 use Rattle.node_keepers.specs.Opening.{Source}
 use Rattle.node_rows.specs.Laws.{AreClasses, RestartsAreHeld}
-use Rattle.node_runs.specs.NumberedRuns.{none_carried, none_changed}
 use Rattle.node_store.specs.Contents.{Content}
-use Rattle.ocpi_types.specs.Setups.{party_of}
-use Rattle.ocpi_types.specs.declared.setup.Node.{Node}
-use Rattle.stored_laws.specs.Nodes.{restarted}
 use Rattle.stored_nodes.specs.Keepers.{Keeper}
 use Rattle.feeding_laws.proofs.Exactly as exactly
 use Rattle.feeding_laws.specs.Fed.{AreFedRuns, FedRunsAreExact, Holds, none_fed, one_fed, one_unopened}
-use Rattle.feeding_laws.specs.Feeding.{AreRuns, Behind, Held, Ran, none_ran, one_ran}
+use Rattle.feeding_laws.specs.Feeding.{AreRuns, Held, NotBegun, none_ran, one_ran}
 
-module _ (alike : RestartsAreHeld) {K : Type 0} (keeper : Keeper K) (source : Source K) (setup : List Node) (member : Node) (lines : ℕ → List ℕ) (first : Content) (held : Held)
-    (holds : Holds setup member first held) where
+module _ {K : Type 0} (keeper : Keeper K) (source : Source K) (party : List ℕ) (lines : ℕ → List ℕ) (first : Content) (held : Held) (holds : Holds first held) where
   record SoFar (seen : ℕ) (c : Content) : Type 0 where
     changed : List ℕ
     left : Held
-    holds_so : Holds setup member c left
-    are : AreRuns (party_of member) lines held seen changed left
+    holds_so : Holds c left
+    are : AreRuns party lines held seen changed left
 
-  -- a run that answered no line leaves what it found
-  idle : (found : Held) (base : ℕ) → Ran (party_of member) lines found base [] [] found
-  idle found base = record {
-    are = λ i line at. absurd (cc at);
-    did = [];
-    now = restarted found.state;
-    carries = none_carried;
-    leaves = Behind [] none_changed (alike.by_restarts found.state);
-  }
-
-  so_far : {seen : ℕ} {c : Content} → AreFedRuns keeper source setup member lines first seen c → SoFar seen c
+  so_far : {seen : ℕ} {c : Content} → AreFedRuns keeper source party lines first seen c → SoFar seen c
   so_far none_fed = record { changed = []; left = held; holds_so = holds; are = none_ran }
-  so_far (one_fed {after = after} runs some within run honest same over) =
+  so_far (one_fed {after = after} setup member party_is runs some within run honest same over) =
       let h = so_far runs in
-      let now = run.leaves honest h.left (subst (λ (c : Content). Holds setup member c h.left) (sym same) h.holds_so) after over in
-      record { changed = h.changed ++ now.changed; left = now.left; holds_so = now.holds; are = one_ran h.are some within now.ran }
-  so_far (one_unopened {base = base} {before = before} runs some within) =
+      let now = run.leaves honest h.left (subst (λ (c : Content). Holds c h.left) (sym same) h.holds_so) after over in
+      record { changed = h.changed ++ now.changed; left = now.left; holds_so = now.holds; are = one_ran setup member party_is h.are some within now.ran }
+  so_far (one_unopened {base = base} {before = before} setup member party_is runs some within) =
       let h = so_far runs in
-      subst (λ (n : ℕ). SoFar n before) (omega arith) (record { changed = h.changed ++ []; left = h.left; holds_so = h.holds_so; are = one_ran h.are some within (idle h.left base) })
+      subst (λ (n : ℕ). SoFar n before) (omega arith) (record { changed = h.changed ++ []; left = h.left; holds_so = h.holds_so; are = one_ran setup member party_is h.are some within NotBegun })
 
 pub fed_runs_are_exact : RestartsAreHeld → AreClasses → {K : Type 0} (keeper : Keeper K) (source : Source K) → FedRunsAreExact keeper source
-fed_runs_are_exact alike classes keeper source setup member lines first last held seen holds new runs =
-    let h = so_far alike keeper source setup member lines first held holds runs in
-    record { changed = h.changed; left = h.left; holds = h.holds_so; exact = exactly.feeding_is_exact alike classes (party_of member) lines held h.left seen h.changed new h.are }
+fed_runs_are_exact alike classes keeper source party lines first last held seen holds new runs =
+    let h = so_far keeper source party lines first held holds runs in
+    record { changed = h.changed; left = h.left; holds = h.holds_so; exact = exactly.feeding_is_exact alike classes party lines held h.left seen h.changed new h.are }

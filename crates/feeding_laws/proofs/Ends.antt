@@ -9,7 +9,7 @@ use Rattle.line_runs.specs.declared.outcome.Ran.{Ran as How}
 use Rattle.line_runs.specs.declared.run.Turn.{Turn}
 use Rattle.line_runs.specs.declared.run.Turn.TheVariants.{Ended, Refused, Taken}
 use Rattle.node_keepers.specs.Opening.{Source}
-use Rattle.node_rows.specs.Laws.{ChangesAreHeld, RestartsAreHeld}
+use Rattle.node_rows.specs.Laws.{ChangesAreHeld}
 use Rattle.node_runs.specs.NodeAnswers as answers
 use Rattle.node_runs.specs.NodeAnswers.{BehindTurn, NodeEnd, NodeEndGives, NodeLineGives, NodeTurn}
 use Rattle.node_runs.specs.NodeHistories.{kept_line, some_lines}
@@ -21,7 +21,7 @@ use Rattle.node_runs.specs.SetupLines.{numbered_setup_in}
 use Rattle.node_runs.specs.declared.fault.NodeStop.TheVariants.{Memory}
 use Rattle.ocpi_types.specs.Setups.{party_of}
 use Rattle.ocpi_types.specs.declared.setup.Node.{Node}
-use Rattle.stored_laws.specs.Nodes.{NodesCanStartAgain, NodesKeepOpenings}
+use Rattle.stored_laws.specs.Nodes.{NodesCanStartAgain}
 use Rattle.stored_nodes.specs.Keepers.{Keeper}
 use Rattle.feeding_laws.proofs.Fed.{Before, Comes, Going, Runs, all_come, line_tells, no_piece, one_kept, one_line, opened_so, read_on, tells_join, tells_more, tells_on}
 use Rattle.feeding_laws.proofs.Left.{IsMade, answered_by, at_stage, fits, front_of, lost, next_at, no_setup, none_empty, of_first, one_setup, ran_so, unbegun}
@@ -39,7 +39,7 @@ line_first : (before later : List (List ℕ)) (line : List ℕ) → 0 < length l
 line_first before later line some none =
     flat_map-append kept_line before (line ∷ later) ∙ ap (λ (l : List (List ℕ)). l ++ (kept_line line ++ some_lines later)) none ∙ ap (λ (l : List (List ℕ)). l ++ some_lines later) (one_kept line some)
 
-module _ (held : ChangesAreHeld) (start : NodesCanStartAgain) (keeps : NodesKeepOpenings) (alike : RestartsAreHeld) {K : Type 0} (keeper : Keeper K) (source : Source K)
+module _ (held : ChangesAreHeld) (start : NodesCanStartAgain) {K : Type 0} (keeper : Keeper K) (source : Source K)
     (wanted : Option (List ℕ)) (opened : List ℕ) (echo : Bool) (most : ℕ) (setup : List Node) (lines : ℕ → List ℕ) (base : ℕ)
     (member : Node) (only : (first : List ℕ) (m : Node) → numbered_setup_in first ≡ Ok (setup, Some base) → IsMember setup wanted m → m ≡ member) where
   abbrev Fed : List (List ℕ) → Type 0
@@ -72,14 +72,14 @@ module _ (held : ChangesAreHeld) (start : NodesCanStartAgain) (keeps : NodesKeep
     setup_ended is none nothing (turns.Untold o ended written next) =
         let number = number_from o.base o.last in
         let tells = line_tells echo line m (subst (TellsTo number most) (sym nothing) nothing_told) (subst (IsPiece number most) (sym written) no_piece) in
-        at_stage held start keeps alike keeper source wanted opened echo most setup lines base member only (before ++ line ∷ []) later (out ++ (echo_of echo line ++ take m more)) text (opened_stage s o (Some Memory)) kept
+        at_stage held start keeper source wanted opened echo most setup lines base member only (before ++ line ∷ []) later (out ++ (echo_of echo line ++ take m more)) text (opened_stage s o (Some Memory)) kept
         (subst Fed (sym (append_assoc before (line ∷ []) later)) fed)
-        (Runs (record { party = party_of o.member; node = o.node }) refl o.setup o.base line (opened_so keeps keeper source wanted opened echo most before line s o some none (ap (λ (s : Stage K). s.wanted) is)) tells)
+        (Runs (record { party = party_of o.member; node = o.node }) refl o.setup o.base line (opened_so keeper source wanted opened echo most before line s o some none (ap (λ (s : Stage K). s.wanted) is)) tells)
         (sym (ap (λ (t : Stage K). keep_in t.running t.spare) next) ∙ left) (subst (λ (t : Stage K). IsKept keeper t.running) next stored) tell
     setup_ended is none nothing (turns.Unbegun xs n read places spare stop began ended written next) =
         let spare_is : spare ≡ kept = sym (ap (λ (t : Stage K). keep_in t.running t.spare) next) ∙ left in
         subst (Left text) spare_is
-        (unbegun held start keeps alike keeper source wanted opened echo most setup lines base member only line xs n places spare stop text read (first_setup before later line xs n some none read fed)
+        (unbegun held start keeper source wanted opened echo most setup lines base member only line xs n places spare stop text read (first_setup before later line xs n some none read fed)
         (subst (λ (w : Option (List ℕ)). IsUnbegun keeper source xs w places spare stop) (ap (λ (s : Stage K). s.wanted) is) began)
         (λ n. tell n (line_tells echo line m (subst (TellsTo n most) (sym nothing) nothing_told) (subst (IsPiece n most) (sym written) no_piece))))
     setup_ended is none nothing (turns.NoSetup fault fails other ended written next) =
@@ -90,35 +90,35 @@ module _ (held : ChangesAreHeld) (start : NodesCanStartAgain) (keeps : NodesKeep
         (Unopened (tell base (line_tells echo line m (subst (TellsTo base most) (sym nothing) nothing_told) (subst (IsPiece base most) (sym written) no_piece))))
 
     -- of another
-    behind_ended : (now : Running K) (xs : List Node) (n : Option ℕ) (first : List ℕ) → Going keeps keeper source wanted opened echo most xs n first before s.number s.known now → TellsTo s.number most out
+    behind_ended : (now : Running K) (xs : List Node) (n : Option ℕ) (first : List ℕ) → Going keeper source wanted opened echo most xs n first before s.number s.known now → TellsTo s.number most out
         → BehindTurn keeper now s line turn more t → Left text kept
     behind_ended now xs n first h tells (answers.WasKnown is taken written next) = absurd (not_ended turn taken at_end)
     behind_ended now xs n first h tells (answers.WasBeyond is refused written next) = absurd (not_refused turn refused at_end)
     behind_ended now xs n first h tells (answers.GoesOn new few after is next) =
-        let b = read_on keeps keeper source wanted opened echo most before s t now after line turn more some new few is next h in
-        at_stage held start keeps alike keeper source wanted opened echo most setup lines base member only (before ++ line ∷ []) later (out ++ (echo_of echo line ++ take m more)) text t kept
+        let b = read_on keeper source wanted opened echo most before s t now after line turn more some new few is next h in
+        at_stage held start keeper source wanted opened echo most setup lines base member only (before ++ line ∷ []) later (out ++ (echo_of echo line ++ take m more)) text t kept
         (subst Fed (sym (append_assoc before (line ∷ []) later)) fed) (Runs b.0 b.1 xs n first b.2 (line_tells echo line m (tells_more b.4 tells) b.3)) left stored tell
     behind_ended now xs n first h tells (answers.Ends stop keep loses known kept_then number ended written next) =
-        let f = fits held start keeps alike keeper source wanted opened echo most setup lines base member only xs n first before (line ∷ later) s.number s.known now h fed in
-        let r = front_of held start keeps alike keeper source wanted opened echo most setup lines base member only f in
+        let f = fits held start keeper source wanted opened echo most setup lines base member only xs n first before (line ∷ later) s.number s.known now h fed in
+        let r = front_of held start keeper source wanted opened echo most setup lines base member only f in
         let g = f.going in
         subst (Left text) (sym (ap (λ (t : Stage K). keep_in t.running t.spare) next) ∙ left)
-        (ran_so held start keeps alike keeper source wanted opened echo most setup lines base member only g (answered_by held start keeps alike keeper source wanted opened echo most setup lines base member only f r) kept_then
-        (IsMade keeper line s.number s.known now) (next_at held start keeps alike keeper source wanted opened echo most setup lines base member only f some r) keep
+        (ran_so held start keeper source wanted opened echo most setup lines base member only g (answered_by held start keeper source wanted opened echo most setup lines base member only f r) kept_then
+        (IsMade keeper line s.number s.known now) (next_at held start keeper source wanted opened echo most setup lines base member only f some r) keep
         (λ honest. lost keeper line s.number s.known now stop keep loses known g.settled honest) text
         (tell s.number (line_tells echo line m tells (subst (IsPiece s.number most) (sym written) no_piece))))
 
   at_line : (before later : List (List ℕ)) (out text : List ℕ) (s t : Stage K) (place : ℕ) (line : List ℕ) (turn : Turn) (more : List ℕ) (m : ℕ) (kept : Option K) → Fed (before ++ line ∷ later)
-      → Comes keeps keeper source wanted opened echo most before out s → 0 < length line → NodeLineGives keeper source s place line turn more t → keep_in t.running t.spare ≡ kept → IsKept keeper t.running
+      → Comes keeper source wanted opened echo most before out s → 0 < length line → NodeLineGives keeper source s place line turn more t → keep_in t.running t.spare ≡ kept → IsKept keeper t.running
       → Tell (out ++ (echo_of echo line ++ take m more)) text → Left text kept
   at_line before later out text s t place line Taken more m kept fed h some gives left stored tell =
-      at_stage held start keeps alike keeper source wanted opened echo most setup lines base member only (before ++ line ∷ []) later (out ++ (echo_of echo line ++ take m more)) text t kept
+      at_stage held start keeper source wanted opened echo most setup lines base member only (before ++ line ∷ []) later (out ++ (echo_of echo line ++ take m more)) text t kept
       (subst Fed (sym (append_assoc before (line ∷ []) later)) fed)
-      (one_line keeps keeper source wanted opened echo most before out s t place line Taken more m some (λ e. absurd (cc e)) gives h) left stored tell
+      (one_line keeper source wanted opened echo most before out s t place line Taken more m some (λ e. absurd (cc e)) gives h) left stored tell
   at_line before later out text s t place line Refused more m kept fed h some gives left stored tell =
-      at_stage held start keeps alike keeper source wanted opened echo most setup lines base member only (before ++ line ∷ []) later (out ++ (echo_of echo line ++ take m more)) text t kept
+      at_stage held start keeper source wanted opened echo most setup lines base member only (before ++ line ∷ []) later (out ++ (echo_of echo line ++ take m more)) text t kept
       (subst Fed (sym (append_assoc before (line ∷ []) later)) fed)
-      (one_line keeps keeper source wanted opened echo most before out s t place line Refused more m some (λ e. absurd (cc e)) gives h) left stored tell
+      (one_line keeper source wanted opened echo most before out s t place line Refused more m some (λ e. absurd (cc e)) gives h) left stored tell
   at_line before later out text s t place line Ended more m kept fed (Before is none nothing) some gives left stored tell =
       setup_ended before later out text line more m s t Ended kept some fed refl left stored tell is none nothing
       (subst (λ (q : Option (Running K)). NodeTurn keeper source q s line Ended more t) (ap (λ (s : Stage K). s.running) is) gives)
@@ -139,24 +139,24 @@ module _ (held : ChangesAreHeld) (start : NodesCanStartAgain) (keeps : NodesKeep
   run_ends : {all : List (List ℕ)} {how : How} {out : List ℕ} {last : Stage K} (kept : Option K) (text : List ℕ)
       → IsNumberedRun (NodeLineGives keeper source) NodeEndGives echo (opening wanted opened) all how out last → Fed all → Stays last kept → Tell out text → Left text kept
   run_ends kept text (numbered_end {s = s} {all = all} {last = how} {out = out} {more = more} are gives) fed stays tell =
-      at_stage held start keeps alike keeper source wanted opened echo most setup lines base member only all [] out text s kept (subst Fed (sym (append-nil all)) fed)
-      (all_come keeps keeper source wanted opened echo most are) stays.0 stays.1 (λ n tells. tell n (tells_on tells (end_piece n s.running how more gives)))
+      at_stage held start keeper source wanted opened echo most setup lines base member only all [] out text s kept (subst Fed (sym (append-nil all)) fed)
+      (all_come keeper source wanted opened echo most are) stays.0 stays.1 (λ n tells. tell n (tells_on tells (end_piece n s.running how more gives)))
   run_ends kept text (numbered_stop {s = s} {t = t} {line = line} {before = before} {out = out} {more = more} are some gives later) fed stays tell =
-      at_line before later out text s t (length before + 1) line Ended more (length more) kept fed (all_come keeps keeper source wanted opened echo most are) some gives stays.0 stays.1
+      at_line before later out text s t (length before + 1) line Ended more (length more) kept fed (all_come keeper source wanted opened echo most are) some gives stays.0 stays.1
       (λ n tells. tell n (subst (λ (l : List ℕ). TellsTo n most (out ++ (echo_of echo line ++ l))) (take_all (length more) more (omega arith)) tells))
 
   begun_ends : {all : List (List ℕ)} {out : List ℕ} {last : Stage K} (kept : Option K) (text : List ℕ)
       → IsNumberedBegun (NodeLineGives keeper source) NodeEndGives echo (opening wanted opened) all out last → Fed all → Stays last kept → Tell out text → Left text kept
   begun_ends kept text (begun_between {s = s} {before = before} {out = out} are later) fed stays tell =
-      at_stage held start keeps alike keeper source wanted opened echo most setup lines base member only before later out text s kept fed (all_come keeps keeper source wanted opened echo most are) stays.0 stays.1 tell
+      at_stage held start keeper source wanted opened echo most setup lines base member only before later out text s kept fed (all_come keeper source wanted opened echo most are) stays.0 stays.1 tell
   begun_ends kept text (begun_echo {s = s} {before = before} {out = out} are line front more is later) fed stays tell =
-      at_stage held start keeps alike keeper source wanted opened echo most setup lines base member only before (line ∷ later) out text s kept fed (all_come keeps keeper source wanted opened echo most are) stays.0 stays.1
+      at_stage held start keeper source wanted opened echo most setup lines base member only before (line ∷ later) out text s kept fed (all_come keeper source wanted opened echo most are) stays.0 stays.1
       (λ n tells. tell n (subst (λ (l : List ℕ). TellsTo n most (out ++ l)) (ap (take (length front)) is ∙ take_at front more (length front) refl) (piece_told tells (Echo echo line) (length front))))
   begun_ends kept text (begun_answer {s = s} {t = t} {line = line} {before = before} {turn = turn} {out = out} {more = more} are some gives later n) fed stays tell =
-      at_line before later out text s t (length before + 1) line turn more n kept fed (all_come keeps keeper source wanted opened echo most are) some gives stays.0 stays.1 tell
+      at_line before later out text s t (length before + 1) line turn more n kept fed (all_come keeper source wanted opened echo most are) some gives stays.0 stays.1 tell
   begun_ends kept text (begun_end {s = s} {all = all} {last = how} {out = out} {more = more} are gives n) fed stays tell =
-      at_stage held start keeps alike keeper source wanted opened echo most setup lines base member only all [] out text s kept (subst Fed (sym (append-nil all)) fed)
-      (all_come keeps keeper source wanted opened echo most are) stays.0 stays.1 (λ k tells. tell k (piece_told tells (end_piece k s.running how more gives) n))
+      at_stage held start keeper source wanted opened echo most setup lines base member only all [] out text s kept (subst Fed (sym (append-nil all)) fed)
+      (all_come keeper source wanted opened echo most are) stays.0 stays.1 (λ k tells. tell k (piece_told tells (end_piece k s.running how more gives) n))
 
   -- behind what an echo begins with
   begins_tell : (out : List ℕ) → Tell out (begin_bytes echo ++ out)
@@ -186,7 +186,7 @@ module _ (held : ChangesAreHeld) (start : NodesCanStartAgain) (keeps : NodesKeep
   cut input before (Some b) n last kept fed is first stays = (
     take n (begin_bytes echo),
     ap Some is,
-    at_stage held start keeps alike keeper source wanted opened echo most setup lines base member only [] (lines_of input) [] (take n (begin_bytes echo)) last kept fed
+    at_stage held start keeper source wanted opened echo most setup lines base member only [] (lines_of input) [] (take n (begin_bytes echo)) last kept fed
         (Before first refl refl) stays.0 stays.1 (λ k tells. piece_told nothing_told (Beginning echo) n),
   )
 
@@ -196,8 +196,8 @@ module _ (held : ChangesAreHeld) (start : NodesCanStartAgain) (keeps : NodesKeep
   broke input before new last kept fed (outputs.Cut n wrote first) stays = cut input before new n last kept fed wrote first stays
   broke input before new last kept fed (outputs.Whole begun is begins) stays = broke_behind input before begun new last kept fed is begins stays
 
-pub runs_are_fed : ChangesAreHeld → NodesCanStartAgain → NodesKeepOpenings → RestartsAreHeld → {K : Type 0} (keeper : Keeper K) (source : Source K) → RunsAreFed keeper source
-runs_are_fed held start keeps alike keeper source setup member lines base most opened word echo input before new kept of fed (Went how stop o) =
-    went held start keeps alike keeper source (asked_for word) opened echo most setup lines base member (λ first m reads asked. one_member first setup (Some base) (asked_for word) m member reads asked of) input before o.begun new how o.last kept fed o.begins o.outputs (o.left, o.stored)
-runs_are_fed held start keeps alike keeper source setup member lines base most opened word echo input before new kept of fed (Broke o) =
-    broke held start keeps alike keeper source (asked_for word) opened echo most setup lines base member (λ first m reads asked. one_member first setup (Some base) (asked_for word) m member reads asked of) input before new o.last kept fed o.begins (o.left, o.stored)
+pub runs_are_fed : ChangesAreHeld → NodesCanStartAgain → {K : Type 0} (keeper : Keeper K) (source : Source K) → RunsAreFed keeper source
+runs_are_fed held start keeper source setup member lines base most opened word echo input before new kept of fed (Went how stop o) =
+    went held start keeper source (asked_for word) opened echo most setup lines base member (λ first m reads asked. one_member first setup (Some base) (asked_for word) m member reads asked of) input before o.begun new how o.last kept fed o.begins o.outputs (o.left, o.stored)
+runs_are_fed held start keeper source setup member lines base most opened word echo input before new kept of fed (Broke o) =
+    broke held start keeper source (asked_for word) opened echo most setup lines base member (λ first m reads asked. one_member first setup (Some base) (asked_for word) m member reads asked of) input before new o.last kept fed o.begins (o.left, o.stored)

@@ -1,17 +1,21 @@
 -- Each line that is fed by its number takes hold once, and in order.
-use Rattle.std.proofs.Common.{◌≡◌, ◌≢◌, ◌⊎◌, ◌++◌, ◌∙◌, ◌+◌, ◌<◌, ◌≤◌, ℕ, zero, suc, List, [], ◌∷◌, Some, refl, sym, ap, subst, inl, inr, arith, length, length-append, append_assoc, append-nil}
+use Rattle.std.proofs.Common.{◌≡◌, ◌≢◌, ◌⊎◌, ◌++◌, ◌∙◌, ◌+◌, ◌<◌, ◌≤◌, ℕ, zero, suc, List, [], ◌∷◌, Option, None, Some, refl, sym, ap, subst, inl, inr, arith, length, length-append, append_assoc, append-nil}
 use Rattle.std.specs.Prelude.{slice_get}
 use Rattle.line_runs.specs.declared.run.Turn.{Turn}
 use Rattle.node_rows.specs.Laws.{AreClasses, RestartsAreHeld}
 use Rattle.node_runs.specs.LineAnswers.{Answers}
 use Rattle.node_runs.specs.NumberedRuns.{Carries, Changed, IsKnown, IsRead, Numbered, Takes, none_carried, none_changed, one_carried, one_changed, one_quiet}
 use Rattle.node_runs.proofs.HistoryLemmas.{line_run}
-use Rattle.stored_laws.specs.Nodes.{restarted}
+use Rattle.ocpi_text.specs.Text.{key}
+use Rattle.ocpi_types.specs.Setups.{party_of}
+use Rattle.ocpi_types.specs.declared.rows.Row.{Row}
+use Rattle.ocpi_types.specs.declared.setup.Node.{Node}
+use Rattle.stored_laws.specs.Nodes.{AreNodeRows, restarted}
 use Rattle.stored_nodes.proofs.Together.{alike_by_events}
 use Rattle.stored_nodes.specs.Transactions.{changes_of_each}
 use Rattle.world_steps.specs.Steps.{NodeEvent as Deed}
-use Rattle.world_steps.specs.World.{NodeState}
-use Rattle.feeding_laws.specs.Feeding.{AreBehind, AreRuns, Behind, CameOnce, FeedingIsExact, Held, Leaves, One_more, Rise, next_came, none_came, none_ran, none_rises, one_ran, one_rises, restarts}
+use Rattle.world_steps.specs.World.{NodeState, Operates, Provides}
+use Rattle.feeding_laws.specs.Feeding.{AreBehind, AreRuns, Began, Behind, CameOnce, FeedingIsExact, Held, Leaves, NotBegun, One_more, Ran, Rise, StartsAgain, next_came, none_came, none_ran, none_rises, one_ran, one_rises, starts}
 
 -- ---- numbers and lists
 
@@ -69,10 +73,19 @@ rise_join {low = low} {middle = middle} {xs = xs} one none_rises = subst (λ (l 
 rise_join {low = low} {xs = xs} one (one_rises {numbers = ys} {number = number} before under) =
     subst (λ (l : List ℕ). Rise low l number) (append_assoc xs ys (number ∷ [])) (one_rises (rise_join one before) under)
 
-module _ (alike : RestartsAreHeld) (classes : AreClasses) where
-  again : (n : NodeState) → restarted (restarted n) ≡ restarted n
-  again n = sym (alike.by_restarts n)
+-- a node has the rows that it has as it starts again
+rows_again : (rows : List Row) (n : NodeState) → AreNodeRows rows n → AreNodeRows rows (restarted n)
+rows_again rows (Operates s) are = are
+rows_again rows (Provides s) are = are
 
+rows_before : (rows : List Row) (n : NodeState) → AreNodeRows rows (restarted n) → AreNodeRows rows n
+rows_before rows (Operates s) are = are
+rows_before rows (Provides s) are = are
+
+alike_rows : (rows : List Row) (n m : NodeState) → restarted n ≡ restarted m → AreNodeRows rows n → AreNodeRows rows m
+alike_rows rows n m same are = rows_before rows m (subst (AreNodeRows rows) same (rows_again rows n are))
+
+module _ (alike : RestartsAreHeld) (classes : AreClasses) where
   quiet_line : {party : List ℕ} {now : NodeState} {number : ℕ} {line : List ℕ} {turn : Turn} {out : List ℕ} {did : List Deed} {next : NodeState}
       → Answers party now number line turn out did next → changes_of_each did ≡ [] → restarted now ≡ restarted next
   quiet_line {now = now} {did = did} {next = next} is none = alike_by_events alike classes now next did (line_run is) none
@@ -80,30 +93,31 @@ module _ (alike : RestartsAreHeld) (classes : AreClasses) where
   module _ (party : List ℕ) (lines : ℕ → List ℕ) (first : NodeState) where
     -- to some node with these rows each line came once, up to that number
     abbrev Came : ℕ → NodeState → Type 0
-    Came number state = (now : NodeState) × CameOnce party lines first number now × (restarted now ≡ restarted state)
+    Came number state = (member : Option Node) × (now : NodeState) × CameOnce party lines first member number now × (restarted now ≡ restarted state)
 
     -- up to each number from that of the last line that took hold to that of the last which was answered
     abbrev CameTo : ℕ → ℕ → NodeState → Type 0
     CameTo held seen state = (number : ℕ) → held ≤ number → (number ≤ seen) ⊎ (number ≤ held) → Came number state
 
     alike_came : (number : ℕ) (s t : NodeState) → restarted s ≡ restarted t → Came number s → Came number t
-    alike_came number s t same (now, came, is) = (now, came, is ∙ same)
+    alike_came number s t same (member, now, came, is) = (member, now, came, is ∙ same)
 
     -- ---- one run
 
-    module _ (found : Held) (base seen : ℕ) (within : base ≤ seen) (so_far : CameTo found.line seen found.state) where
-      abbrev start : NodeState
-      start = restarted found.state
+    module _ (setup : List Node) (member : Node) (party_is : key (party_of member) ≡ key party) (found : Held) (start : NodeState) (opens : StartsAgain setup member found.state start) (base seen : ℕ) (within : base ≤ seen)
+        (so_far : CameTo found.line seen found.state) where
+      opens_so : (now : NodeState) → restarted now ≡ restarted found.state → StartsAgain setup member now start
+      opens_so now is = record { rows = opens.rows; are = alike_rows opens.rows found.state now (sym is) opens.are; made = opens.made; again = opens.again }
 
-      begins : (number : ℕ) → found.line ≤ number → (number ≤ seen) ⊎ (number ≤ found.line) → CameOnce party lines first number start
+      begins : (number : ℕ) → found.line ≤ number → (number ≤ seen) ⊎ (number ≤ found.line) → CameOnce party lines first (Some member) number start
       begins number above below =
-          let (now, came, is) = so_far number above below in
-          subst (CameOnce party lines first number) is (restarts came)
+          let (was, now, came, is) = so_far number above below in
+          starts setup member party_is came (opens_so now is)
 
       -- what is so behind the lines that were answered so far
       record SoFar (read : List (List ℕ)) (did : List Numbered) (now : NodeState) : Type 0 where
         below : base + length read ≤ found.line → now ≡ start
-        above : found.line ≤ base + length read → CameOnce party lines first (base + length read) now
+        above : found.line ≤ base + length read → CameOnce party lines first (Some member) (base + length read) now
         rows : (changed : List ℕ) (last : ℕ) → Changed found.line did changed last → CameTo last (base + length read) now
         rise : (changed : List ℕ) (last : ℕ) → Changed found.line did changed last → Rise found.line changed last × ((last ≤ base + length read) ⊎ (last ≤ found.line))
 
@@ -150,7 +164,7 @@ module _ (alike : RestartsAreHeld) (classes : AreClasses) where
         above = λ high. begins (base + length {A = List ℕ} []) high (inl (omega (within, arith)));
         rows = λ changed last is number above below.
             let e = none_are changed last is in
-            (start, begins number (omega (arith, e.1, above)) (under last number e.1 below), refl);
+            (Some member, start, begins number (omega (arith, e.1, above)) (under last number e.1 below), refl);
         rise = λ changed last is.
             let e = none_are changed last is in
             (subst (λ (l : List ℕ). Rise found.line l last) (sym e.0) (subst (Rise found.line []) (sym e.1) none_rises), inr (omega (arith, e.1)));
@@ -162,29 +176,29 @@ module _ (alike : RestartsAreHeld) (classes : AreClasses) where
 
       -- a line more
       module _ (before : List (List ℕ)) (xs : List Numbered) (now next : NodeState) (line out : List ℕ) (did : List Deed) (h : SoFar before xs now)
-          (is : line ≡ lines (suc (base + length before))) (takes : Takes party found.line (suc (base + length before)) line now out did next) where
+          (is : line ≡ lines (suc (base + length before))) (takes : Takes (party_of member) found.line (suc (base + length before)) line now out did next) where
         abbrev at : ℕ
         at = base + length before
 
         long : base + length (before ++ line ∷ []) ≡ suc at
         long = ap (λ (n : ℕ). base + n) (length-append before (line ∷ [])) ∙ omega arith
 
-        low_so : Takes party found.line (suc at) line now out did next → suc at ≤ found.line → next ≡ start
+        low_so : Takes (party_of member) found.line (suc at) line now out did next → suc at ≤ found.line → next ≡ start
         low_so (IsKnown known written none same) low = same ∙ h.below (omega (arith, low))
         low_so (IsRead new turn answers) low = absurd (omega (arith, new, low))
 
-        high_so : Takes party found.line (suc at) line now out did next → found.line ≤ suc at → CameOnce party lines first (suc at) next
+        high_so : Takes (party_of member) found.line (suc at) line now out did next → found.line ≤ suc at → CameOnce party lines first (Some member) (suc at) next
         high_so (IsKnown known written none same) high =
-            subst (CameOnce party lines first (suc at)) (sym (same ∙ h.below (omega (arith, known)))) (begins (suc at) high (inr known))
+            subst (CameOnce party lines first (Some member) (suc at)) (sym (same ∙ h.below (omega (arith, known)))) (begins (suc at) high (inr known))
         high_so (IsRead new turn answers) high =
-            next_came (h.above (omega (arith, new))) (subst (λ (l : List ℕ). Answers party now (suc at) l turn out did next) is answers)
+            next_came (h.above (omega (arith, new))) (subst (λ (l : List ℕ). Answers (party_of member) now (suc at) l turn out did next) is answers)
 
         -- a line that changed rows was read
-        new_of : Takes party found.line (suc at) line now out did next → changes_of_each did ≢ [] → suc found.line ≤ suc at
+        new_of : Takes (party_of member) found.line (suc at) line now out did next → changes_of_each did ≢ [] → suc found.line ≤ suc at
         new_of (IsKnown known written none same) some = absurd (some (ap changes_of_each none))
         new_of (IsRead new turn answers) some = new
 
-        alike_of : Takes party found.line (suc at) line now out did next → changes_of_each did ≡ [] → restarted now ≡ restarted next
+        alike_of : Takes (party_of member) found.line (suc at) line now out did next → changes_of_each did ≡ [] → restarted now ≡ restarted next
         alike_of (IsKnown known written none same) quiet = ap restarted (sym same)
         alike_of (IsRead new turn answers) quiet = quiet_line answers quiet
 
@@ -192,13 +206,13 @@ module _ (alike : RestartsAreHeld) (classes : AreClasses) where
         quietly earlier last c quiet number above (inl low) =
             elim (le_split number at low) [
               | inl earlier_one ↦ alike_came number now next (alike_of takes quiet) (h.rows earlier last c number above (inl earlier_one))
-              | inr this ↦ subst (λ (n : ℕ). Came n next) (sym this) (next, high_so takes (omega (arith, above, this, rise_le (h.rise earlier last c).0)), refl)
+              | inr this ↦ subst (λ (n : ℕ). Came n next) (sym this) (Some member, next, high_so takes (omega (arith, above, this, rise_le (h.rise earlier last c).0)), refl)
             ]
         quietly earlier last c quiet number above (inr low) = alike_came number now next (alike_of takes quiet) (h.rows earlier last c number above (inr low))
 
         newly : changes_of_each did ≢ [] → (number : ℕ) → suc at ≤ number → number ≤ suc at → Came number next
         newly some number above below =
-            subst (λ (n : ℕ). Came n next) (le_same (suc at) number above below) (next, high_so takes (omega (arith, new_of takes some)), refl)
+            subst (λ (n : ℕ). Came n next) (le_same (suc at) number above below) (Some member, next, high_so takes (omega (arith, new_of takes some)), refl)
 
         lower : (number last before_last : ℕ) → last ≡ before_last → (number ≤ base + length (before ++ line ∷ [])) ⊎ (number ≤ last) → (number ≤ suc at) ⊎ (number ≤ before_last)
         lower number last before_last same (inl low) = inl (omega (arith, low, long))
@@ -219,7 +233,7 @@ module _ (alike : RestartsAreHeld) (classes : AreClasses) where
         one_so_far : SoFar (before ++ line ∷ []) (xs ++ (suc (base + length before), did) ∷ []) next
         one_so_far = record {
           below = λ low. low_so takes (omega (arith, low, long));
-          above = λ high. subst (λ (n : ℕ). CameOnce party lines first n next) (omega (arith, long)) (high_so takes (omega (arith, high, long)));
+          above = λ high. subst (λ (n : ℕ). CameOnce party lines first (Some member) n next) (omega (arith, long)) (high_so takes (omega (arith, high, long)));
           rows = λ changed last c number above below.
               let m = one_more xs (suc at) did changed last c in
               elim m.is [
@@ -241,7 +255,7 @@ module _ (alike : RestartsAreHeld) (classes : AreClasses) where
               ];
         }
 
-      all_so_far : (read : List (List ℕ)) (did : List Numbered) (now : NodeState) → Carries party found.line base start read did now → AreBehind lines base read → SoFar read did now
+      all_so_far : (read : List (List ℕ)) (did : List Numbered) (now : NodeState) → Carries (party_of member) found.line base start read did now → AreBehind lines base read → SoFar read did now
       all_so_far read did now none_carried are = none_so_far
       all_so_far read did now (one_carried {before = before} {xs = xs} {now = earlier} {next = next} {line = line} {out = out} {did = more} carried takes) are =
           one_so_far before xs earlier next line out more (all_so_far before xs earlier carried (λ i l is. are i l (in_front before (line ∷ []) i l is)))
@@ -254,17 +268,17 @@ module _ (alike : RestartsAreHeld) (classes : AreClasses) where
         rise : Rise found.line changed left.line
 
       left_by : (read : List (List ℕ)) (did : List Numbered) (now : NodeState) (changed : List ℕ) (left : Held) → SoFar read did now
-          → Leaves party lines found.line (base + length read) did now left changed → Ends (base + length read) changed left
+          → Leaves (party_of member) lines found.line (base + length read) did now left changed → Ends (base + length read) changed left
       left_by read did now changed left h (Behind c_list c same) = record {
         came = λ number above below. alike_came number now left.state (sym same) (h.rows c_list left.line c number above below);
         rise = (h.rise c_list left.line c).0;
       }
       left_by read did now changed left h (One_more earlier before c new turn out more after answers some same line_is) =
           let at = base + length read in
-          let came : CameOnce party lines first (suc at) after = next_came (h.above (omega (arith, new))) answers in
+          let came : CameOnce party lines first (Some member) (suc at) after = next_came (h.above (omega (arith, new))) answers in
           let r = h.rise earlier before c in
           record {
-            came = λ number above below. subst (λ (n : ℕ). Came n left.state) (le_same (suc at) number (omega (arith, above, line_is)) (only_next at number left.line line_is above below)) (after, came, sym same);
+            came = λ number above below. subst (λ (n : ℕ). Came n left.state) (le_same (suc at) number (omega (arith, above, line_is)) (only_next at number left.line line_is above below)) (Some member, after, came, sym same);
             rise = subst (Rise found.line (earlier ++ suc at ∷ [])) (sym line_is) (one_rises r.0 (before_next at before r.1 new));
           }
         where
@@ -282,27 +296,41 @@ module _ (alike : RestartsAreHeld) (classes : AreClasses) where
     came : CameTo party lines first.state left.line seen left.state
     rise : Rise 1 changed left.line
 
+  -- behind a run more
+  ran_end : {setup : List Node} {member : Node} {party : List ℕ} {lines : ℕ → List ℕ} {first found left : Held} {seen base : ℕ} {before changed : List ℕ} {read : List (List ℕ)}
+      → key (party_of member) ≡ key party → base ≤ seen → AllEnd party lines first seen before found → Ran setup member lines found base read changed left
+      → AllEnd party lines first (base + length read) (before ++ changed) left
+  ran_end {found = found} {seen = seen} {base = base} {before = before} party_is within h NotBegun = record {
+    came = λ number above below. h.came number above (lower number below);
+    rise = subst (λ (l : List ℕ). Rise 1 l found.line) (sym (append-nil before)) h.rise;
+  }
+    where
+      lower : (number : ℕ) → (number ≤ base + length {A = List ℕ} []) ⊎ (number ≤ found.line) → (number ≤ seen) ⊎ (number ≤ found.line)
+      lower number (inl low) = inl (omega (arith, low, within))
+      lower number (inr low) = inr low
+  ran_end {setup = setup} {member = member} {party = party} {lines = lines} {first = first} {found = found} {left = left} {seen = seen} {base = base} {changed = changed} {read = read} party_is within h
+      (Began start opens are did now carries leaves) =
+      let so_far = all_so_far party lines first.state setup member party_is found start opens base seen within h.came read did now carries are in
+      let e = left_by party lines first.state setup member party_is found start opens base seen within h.came read did now changed left so_far leaves in
+      record { came = e.came; rise = rise_join h.rise e.rise }
+
   all_end : {party : List ℕ} {lines : ℕ → List ℕ} {first left : Held} {seen : ℕ} {changed : List ℕ} → first.line ≡ 1 → AreRuns party lines first seen changed left → AllEnd party lines first seen changed left
   all_end {party = party} {lines = lines} {first = first} new none_ran = record {
-    came = λ number above below. subst (λ (n : ℕ). Came party lines first.state n first.state) (le_same 1 number (omega (arith, above, new)) (under_one number below)) (first.state, none_came, refl);
+    came = λ number above below. subst (λ (n : ℕ). Came party lines first.state n first.state) (le_same 1 number (omega (arith, above, new)) (under_one number below)) (None, first.state, none_came, refl);
     rise = subst (Rise 1 []) (sym new) none_rises;
   }
     where
       under_one : (number : ℕ) → (number ≤ 1) ⊎ (number ≤ first.line) → number ≤ 1
       under_one number (inl low) = low
       under_one number (inr low) = omega (arith, low, new)
-  all_end {party = party} {lines = lines} {first = first} new (one_ran {seen = seen} {base = base} {changed = changed} {found = found} {left = left} {read = read} runs some within ran) =
-      let h = all_end new runs in
-      let so_far = all_so_far party lines first.state found base seen within h.came read ran.did ran.now ran.carries ran.are in
-      let e = left_by party lines first.state found base seen within h.came read ran.did ran.now changed left so_far ran.leaves in
-      record { came = e.came; rise = rise_join h.rise e.rise }
+  all_end new (one_ran setup member party_is runs some within ran) = ran_end party_is within (all_end new runs) ran
 
   pub feeding_is_exact : FeedingIsExact
   feeding_is_exact party lines first left seen changed new runs =
       let h = all_end new runs in
       elim (le_total seen left.line) [
         | inl low ↦ let c = h.came left.line (omega arith) (inr (omega arith)) in
-            record { last = left.line; now = c.0; came = c.1; kept = sym c.2; answered = low; held = omega arith; once = h.rise }
+            record { last = left.line; member = c.0; now = c.1; came = c.2; kept = sym c.3; answered = low; held = omega arith; once = h.rise }
         | inr high ↦ let c = h.came seen high (inl (omega arith)) in
-            record { last = seen; now = c.0; came = c.1; kept = sym c.2; answered = omega arith; held = high; once = h.rise }
+            record { last = seen; member = c.0; now = c.1; came = c.2; kept = sym c.3; answered = omega arith; held = high; once = h.rise }
       ]

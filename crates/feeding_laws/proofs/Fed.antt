@@ -6,8 +6,6 @@ use Rattle.line_runs.specs.declared.outcome.Ran.{Ran as How}
 use Rattle.line_runs.specs.declared.run.Turn.{Turn}
 use Rattle.line_runs.specs.declared.run.Turn.TheVariants.{Ended, Refused, Taken}
 use Rattle.node_keepers.specs.Opening.{Source}
-use Rattle.node_laws.specs.Runs.{Run}
-use Rattle.node_runs.proofs.HistoryLemmas.{line_run}
 use Rattle.node_runs.specs.NodeAnswers as answers
 use Rattle.node_runs.specs.NodeAnswers.{BehindTurn, LineTurn, NodeLineGives, NodeTurn, next_stage}
 use Rattle.node_runs.specs.NodeHistories.{kept_line, some_lines}
@@ -20,12 +18,10 @@ use Rattle.node_store.proofs.Numbered.{numbers_are_no_rows}
 use Rattle.ocpi_text.specs.Whole.{max_whole}
 use Rattle.ocpi_types.specs.Setups.{party_of}
 use Rattle.ocpi_types.specs.declared.setup.Node.{Node}
-use Rattle.stored_laws.specs.Nodes.{IsOfOpening, NodesKeepOpenings}
 use Rattle.stored_nodes.specs.Keepers.{Commits, IsSettled, Keeper, Nothing, Taken as TakenBy}
 use Rattle.stored_nodes.specs.Stored.{Stored}
 use Rattle.stored_nodes.specs.Transactions.{changes_of_each}
-use Rattle.world_steps.specs.Steps.{NodeEvent as Deed, NodeStep}
-use Rattle.world_steps.specs.World.{NodeState}
+use Rattle.world_steps.specs.Steps.{NodeEvent as Deed}
 use Rattle.feeding_laws.specs.Fed.{Answer, Beginning, Beyond, Echo, IsPiece, NoSetup, Opening, TellsTo, nothing_told, piece_told}
 
 -- ---- what is written
@@ -90,286 +86,269 @@ pub no_others : (number : ℕ) (others : List (List ℕ)) → (others ≢ [] →
 no_others number [] beyond few = refl
 no_others number (o ∷ os) beyond few = let is = beyond (λ e. absurd (cc e)) in absurd (omega (arith, is, few))
 
--- ---- a node is of its opening behind each line
+-- ---- the lines of a run so far
 
-module _ (keeps : NodesKeepOpenings) where
-  pub of_run : (first s t : NodeState) (xs : List Deed) → IsOfOpening first s → Run NodeStep s xs t → IsOfOpening first t
-  of_run first s t [] is did = subst (IsOfOpening first) (sym did) is
-  of_run first s t (x ∷ xs) is did = of_run first did.0 t xs (keeps.by_steps first s did.0 x is did.1) did.2
+module _ {K : Type 0} (keeper : Keeper K) (source : Source K) (wanted : Option (List ℕ)) (opened : List ℕ) (echo : Bool) (most : ℕ) where
+  -- the node runs, which was made of what its keeper had; the lines behind the setup came to it by their numbers
+  pub record Going (setup : List Node) (base : Option ℕ) (first : List ℕ) (all : List (List ℕ)) (number known : ℕ) (now : Running K) : Type 0 where
+    pub reads : numbered_setup_in first ≡ Ok (setup, base)
+    pub member : Node
+    pub asked : IsMember setup wanted member
+    pub rows : ℕ
+    pub last : ℕ
+    pub begun : Stored K
+    pub begins : Begins keeper source setup member rows last begun
+    pub party : now.party ≡ party_of member
+    pub settled : IsSettled keeper now.node.keep
+    pub earlier : keeper.is_honest now.node.keep → keeper.is_honest begun.keep
+    pub numbered : List (List ℕ)
+    pub others : List (List ℕ)
+    pub did : List Numbered
+    pub carries : Carries (party_of member) last (number_from base last) begun.state numbered did now.node.state
+    pub are : some_lines all ≡ first ∷ (numbered ++ others)
+    pub counted : number ≡ number_from base last + length numbered
+    pub beyond : others ≢ [] → number ≡ max_whole
+    pub knows : known ≡ last
+    pub changed : List ℕ
+    pub last_change : ℕ
+    pub changes : Changed last did changed last_change
+    pub marked : keeper.is_honest now.node.keep → line_of (keeper.content now.node.keep) ≡ Some last_change
 
-  of_line : {party : List ℕ} {known number : ℕ} {line : List ℕ} {now : NodeState} {out : List ℕ} {did : List Deed} {next : NodeState}
-      → Takes party known number line now out did next → (first : NodeState) → IsOfOpening first now → IsOfOpening first next
-  of_line (IsKnown is written none same) first of = subst (IsOfOpening first) (sym same) of
-  of_line {now = now} {did = did} {next = next} (IsRead new turn answers) first of = of_run first now next did of (line_run answers)
+  pub data Comes (all : List (List ℕ)) (out : List ℕ) (s : Stage K) : Type 0 where
+    Before : s ≡ opening wanted opened → some_lines all ≡ [] → out ≡ [] → Comes all out s
+    Runs : (now : Running K) → s.running ≡ Some now → (setup : List Node) (base : Option ℕ) (first : List ℕ)
+        → Going setup base first all s.number s.known now → TellsTo s.number most out → Comes all out s
 
-  -- ---- the lines of a run so far
+  pub settled_by : (line : Option ℕ) (did : List Deed) (before after : K) → Commits keeper line (changes_of_each did) before after → IsSettled keeper before → IsSettled keeper after
+  settled_by line did before after (Nothing none same) settled = subst (IsSettled keeper) (sym same) settled
+  settled_by line did before after (TakenBy some takes) settled = takes.settled
 
-  module _ {K : Type 0} (keeper : Keeper K) (source : Source K) (wanted : Option (List ℕ)) (opened : List ℕ) (echo : Bool) (most : ℕ) where
-    -- the node runs, which was made of what its keeper had; the lines behind the setup came to it by their numbers
-    pub record Going (setup : List Node) (base : Option ℕ) (first : List ℕ) (all : List (List ℕ)) (number known : ℕ) (now : Running K) : Type 0 where
-      pub reads : numbered_setup_in first ≡ Ok (setup, base)
-      pub member : Node
-      pub asked : IsMember setup wanted member
-      pub rows : ℕ
-      pub last : ℕ
-      pub begun : Stored K
-      pub begins : Begins keeper source setup member rows last begun
-      pub party : now.party ≡ party_of member
-      pub settled : IsSettled keeper now.node.keep
-      pub earlier : keeper.is_honest now.node.keep → keeper.is_honest begun.keep
-      pub of_opening : (n : NodeState) → IsOfOpening n begun.state → IsOfOpening n now.node.state
-      pub numbered : List (List ℕ)
-      pub others : List (List ℕ)
-      pub did : List Numbered
-      pub carries : Carries (party_of member) last (number_from base last) begun.state numbered did now.node.state
-      pub are : some_lines all ≡ first ∷ (numbered ++ others)
-      pub counted : number ≡ number_from base last + length numbered
-      pub beyond : others ≢ [] → number ≡ max_whole
-      pub knows : known ≡ last
-      pub changed : List ℕ
-      pub last_change : ℕ
-      pub changes : Changed last did changed last_change
-      pub marked : keeper.is_honest now.node.keep → line_of (keeper.content now.node.keep) ≡ Some last_change
+  honest_by : (line : Option ℕ) (did : List Deed) (before after : K) → Commits keeper line (changes_of_each did) before after → keeper.is_honest after → keeper.is_honest before
+  honest_by line did before after (Nothing none same) honest = subst keeper.is_honest same honest
+  honest_by line did before after (TakenBy some takes) honest = takes.earlier honest
 
-    pub data Comes (all : List (List ℕ)) (out : List ℕ) (s : Stage K) : Type 0 where
-      Before : s ≡ opening wanted opened → some_lines all ≡ [] → out ≡ [] → Comes all out s
-      Runs : (now : Running K) → s.running ≡ Some now → (setup : List Node) (base : Option ℕ) (first : List ℕ)
-          → Going setup base first all s.number s.known now → TellsTo s.number most out → Comes all out s
+  -- the node runs on behind the line, and this was written of it
+  abbrev GoesTo : List Node → Option ℕ → List ℕ → List (List ℕ) → ℕ → List ℕ → Stage K → Type 0
+  GoesTo setup base first all number more t = (next : Running K) × (t.running ≡ Some next) × Going setup base first all t.number t.known next × IsPiece t.number most more × (number ≤ t.number)
 
-    pub settled_by : (line : Option ℕ) (did : List Deed) (before after : K) → Commits keeper line (changes_of_each did) before after → IsSettled keeper before → IsSettled keeper after
-    settled_by line did before after (Nothing none same) settled = subst (IsSettled keeper) (sym same) settled
-    settled_by line did before after (TakenBy some takes) settled = takes.settled
+  module _ {setup : List Node} {base : Option ℕ} {first : List ℕ} where
+    -- a line more, by the next number
+    one_more : (all : List (List ℕ)) (line out : List ℕ) (did : List Deed) (number known : ℕ) (now next : Running K) → 0 < length line → suc number ≤ max_whole
+        → Takes now.party known (suc number) line now.node.state out did next.node.state → next.party ≡ now.party
+        → Commits keeper (Some (suc number)) (changes_of_each did) now.node.keep next.node.keep → Going setup base first all number known now
+        → Going setup base first (all ++ line ∷ []) (suc number) known next
+    one_more all line out did number known now next some few takes party commits h =
+        let none : h.others ≡ [] = no_others number h.others h.beyond few in
+        let at = number_from base h.last + length h.numbered in
+        let m = mark commits in
+        let takes_so : Takes (party_of h.member) h.last (suc at) line now.node.state out did next.node.state =
+        subst (λ (n : ℕ). Takes (party_of h.member) h.last (suc n) line now.node.state out did next.node.state) h.counted
+        (subst (λ (k : ℕ). Takes (party_of h.member) k (suc number) line now.node.state out did next.node.state) h.knows
+        (subst (λ (p : List ℕ). Takes p known (suc number) line now.node.state out did next.node.state) h.party takes)) in
+        record {
+          reads = h.reads;
+          member = h.member;
+          asked = h.asked;
+          rows = h.rows;
+          last = h.last;
+          begun = h.begun;
+          begins = h.begins;
+          party = party ∙ h.party;
+          settled = settled_by (Some (suc number)) did now.node.keep next.node.keep commits h.settled;
+          earlier = λ honest. h.earlier (honest_by (Some (suc number)) did now.node.keep next.node.keep commits honest);
+          numbered = h.numbered ++ line ∷ [];
+          others = [];
+          did = h.did ++ (suc at, did) ∷ [];
+          carries = one_carried h.carries takes_so;
+          are = lines_on all line ∙ ap (λ (l : List (List ℕ)). some_lines all ++ l) (one_kept line some)
+              ∙ ap (λ (l : List (List ℕ)). l ++ line ∷ []) (h.are ∙ ap (λ (l : List (List ℕ)). first ∷ (h.numbered ++ l)) none ∙ ap (λ (l : List (List ℕ)). first ∷ l) (append-nil h.numbered))
+              ∙ ap (λ (l : List (List ℕ)). first ∷ l) (sym (append-nil (h.numbered ++ line ∷ [])));
+          counted = omega (arith, h.counted, length-append h.numbered (line ∷ []));
+          beyond = λ more. absurd (more refl);
+          knows = h.knows;
+          changed = m.0;
+          last_change = m.1;
+          changes = m.2;
+          marked = m.3;
+        }
+      where
+        mark : Commits keeper (Some (suc number)) (changes_of_each did) now.node.keep next.node.keep
+            → (changed : List ℕ) × (last : ℕ) × Changed h.last (h.did ++ (suc (number_from base h.last + length h.numbered), did) ∷ []) changed last
+            × (keeper.is_honest next.node.keep → line_of (keeper.content next.node.keep) ≡ Some last)
+        mark (Nothing none same) = (
+          h.changed,
+          h.last_change,
+          one_quiet (suc (number_from base h.last + length h.numbered)) did h.changes none,
+          λ honest. ap (λ (k : K). line_of (keeper.content k)) same ∙ h.marked (subst keeper.is_honest same honest),
+        )
+        mark (TakenBy some takes) =
+            let at = suc (number_from base h.last + length h.numbered) in (
+              h.changed ++ at ∷ [],
+              at,
+              one_changed at did h.changes some,
+              λ honest.
+                  ap line_of (takes.makes honest) ∙ numbers_are_no_rows.is _ (suc number) takes.is_line.0 takes.is_line.1
+                  ∙ ap Some (ap suc h.counted),
+            )
 
-    honest_by : (line : Option ℕ) (did : List Deed) (before after : K) → Commits keeper line (changes_of_each did) before after → keeper.is_honest after → keeper.is_honest before
-    honest_by line did before after (Nothing none same) honest = subst keeper.is_honest same honest
-    honest_by line did before after (TakenBy some takes) honest = takes.earlier honest
-
-    -- the node runs on behind the line, and this was written of it
-    abbrev GoesTo : List Node → Option ℕ → List ℕ → List (List ℕ) → ℕ → List ℕ → Stage K → Type 0
-    GoesTo setup base first all number more t = (next : Running K) × (t.running ≡ Some next) × Going setup base first all t.number t.known next × IsPiece t.number most more × (number ≤ t.number)
-
-    module _ {setup : List Node} {base : Option ℕ} {first : List ℕ} where
-      -- a line more, by the next number
-      one_more : (all : List (List ℕ)) (line out : List ℕ) (did : List Deed) (number known : ℕ) (now next : Running K) → 0 < length line → suc number ≤ max_whole
-          → Takes now.party known (suc number) line now.node.state out did next.node.state → next.party ≡ now.party
-          → Commits keeper (Some (suc number)) (changes_of_each did) now.node.keep next.node.keep → Going setup base first all number known now
-          → Going setup base first (all ++ line ∷ []) (suc number) known next
-      one_more all line out did number known now next some few takes party commits h =
-          let none : h.others ≡ [] = no_others number h.others h.beyond few in
-          let at = number_from base h.last + length h.numbered in
-          let m = mark commits in
-          let takes_so : Takes (party_of h.member) h.last (suc at) line now.node.state out did next.node.state =
-          subst (λ (n : ℕ). Takes (party_of h.member) h.last (suc n) line now.node.state out did next.node.state) h.counted
-          (subst (λ (k : ℕ). Takes (party_of h.member) k (suc number) line now.node.state out did next.node.state) h.knows
-          (subst (λ (p : List ℕ). Takes p known (suc number) line now.node.state out did next.node.state) h.party takes)) in
-          record {
-            reads = h.reads;
-            member = h.member;
-            asked = h.asked;
-            rows = h.rows;
-            last = h.last;
-            begun = h.begun;
-            begins = h.begins;
-            party = party ∙ h.party;
-            settled = settled_by (Some (suc number)) did now.node.keep next.node.keep commits h.settled;
-            earlier = λ honest. h.earlier (honest_by (Some (suc number)) did now.node.keep next.node.keep commits honest);
-            of_opening = λ n is. of_line takes n (h.of_opening n is);
-            numbered = h.numbered ++ line ∷ [];
-            others = [];
-            did = h.did ++ (suc at, did) ∷ [];
-            carries = one_carried h.carries takes_so;
-            are = lines_on all line ∙ ap (λ (l : List (List ℕ)). some_lines all ++ l) (one_kept line some)
-                ∙ ap (λ (l : List (List ℕ)). l ++ line ∷ []) (h.are ∙ ap (λ (l : List (List ℕ)). first ∷ (h.numbered ++ l)) none ∙ ap (λ (l : List (List ℕ)). first ∷ l) (append-nil h.numbered))
-                ∙ ap (λ (l : List (List ℕ)). first ∷ l) (sym (append-nil (h.numbered ++ line ∷ [])));
-            counted = omega (arith, h.counted, length-append h.numbered (line ∷ []));
-            beyond = λ more. absurd (more refl);
-            knows = h.knows;
-            changed = m.0;
-            last_change = m.1;
-            changes = m.2;
-            marked = m.3;
-          }
-        where
-          mark : Commits keeper (Some (suc number)) (changes_of_each did) now.node.keep next.node.keep
-              → (changed : List ℕ) × (last : ℕ) × Changed h.last (h.did ++ (suc (number_from base h.last + length h.numbered), did) ∷ []) changed last
-              × (keeper.is_honest next.node.keep → line_of (keeper.content next.node.keep) ≡ Some last)
-          mark (Nothing none same) = (
-            h.changed,
-            h.last_change,
-            one_quiet (suc (number_from base h.last + length h.numbered)) did h.changes none,
-            λ honest. ap (λ (k : K). line_of (keeper.content k)) same ∙ h.marked (subst keeper.is_honest same honest),
-          )
-          mark (TakenBy some takes) =
-              let at = suc (number_from base h.last + length h.numbered) in (
-                h.changed ++ at ∷ [],
-                at,
-                one_changed at did h.changes some,
-                λ honest.
-                    ap line_of (takes.makes honest) ∙ numbers_are_no_rows.is _ (suc number) takes.is_line.0 takes.is_line.1
-                    ∙ ap Some (ap suc h.counted),
-              )
-
-      -- a line for which there is no number
-      one_beyond : (all : List (List ℕ)) (line : List ℕ) (number known : ℕ) (now : Running K) → 0 < length line → number ≡ max_whole
-          → Going setup base first all number known now → Going setup base first (all ++ line ∷ []) max_whole known now
-      one_beyond all line number known now some is h = record {
-        reads = h.reads;
-        member = h.member;
-        asked = h.asked;
-        rows = h.rows;
-        last = h.last;
-        begun = h.begun;
-        begins = h.begins;
-        party = h.party;
-        settled = h.settled;
-        earlier = h.earlier;
-        of_opening = h.of_opening;
-        numbered = h.numbered;
-        others = h.others ++ line ∷ [];
-        did = h.did;
-        carries = h.carries;
-        are = lines_on all line ∙ ap (λ (l : List (List ℕ)). some_lines all ++ l) (one_kept line some) ∙ ap (λ (l : List (List ℕ)). l ++ line ∷ []) h.are
-            ∙ ap (λ (l : List (List ℕ)). first ∷ l) (append_assoc h.numbered h.others (line ∷ []));
-        counted = sym is ∙ h.counted;
-        beyond = λ more. refl;
-        knows = h.knows;
-        changed = h.changed;
-        last_change = h.last_change;
-        changes = h.changes;
-        marked = h.marked;
-      }
-
-      -- an empty line
-      one_empty : (all : List (List ℕ)) (number known : ℕ) (now : Running K) → Going setup base first all number known now → Going setup base first (all ++ [] ∷ []) number known now
-      one_empty all number known now h = record {
-        reads = h.reads;
-        member = h.member;
-        asked = h.asked;
-        rows = h.rows;
-        last = h.last;
-        begun = h.begun;
-        begins = h.begins;
-        party = h.party;
-        settled = h.settled;
-        earlier = h.earlier;
-        of_opening = h.of_opening;
-        numbered = h.numbered;
-        others = h.others;
-        did = h.did;
-        carries = h.carries;
-        are = lines_on all [] ∙ append-nil (some_lines all) ∙ h.are;
-        counted = h.counted;
-        beyond = h.beyond;
-        knows = h.knows;
-        changed = h.changed;
-        last_change = h.last_change;
-        changes = h.changes;
-        marked = h.marked;
-      }
-
-      -- a line that was read
-      pub read_on : (all : List (List ℕ)) (s t : Stage K) (now next : Running K) (line : List ℕ) (turn : Turn) (more : List ℕ) → 0 < length line → suc s.known ≤ suc s.number → suc s.number ≤ max_whole
-          → LineTurn keeper now (suc s.number) line turn more next → t ≡ next_stage s next (suc s.number) → Going setup base first all s.number s.known now
-          → GoesTo setup base first (all ++ line ∷ []) s.number more t
-      read_on all s t now next line turn more some new few is left h =
-          let takes : Takes now.party s.known (suc s.number) line now.node.state more is.did next.node.state = IsRead new turn is.answers in
-          subst (GoesTo setup base first (all ++ line ∷ []) s.number more) (sym left) (
-            next,
-            refl,
-            one_more all line more is.did s.number s.known now next some few takes is.party is.commits h,
-            Answer now.party s.known (suc s.number) line now.node.state next.node.state more is.did (λ fed. omega arith) takes,
-            omega arith,
-          )
-
-      pub behind : (all : List (List ℕ)) (s t : Stage K) (now : Running K) (line : List ℕ) (turn : Turn) (more : List ℕ) → 0 < length line → (turn ≡ Ended → ⊥)
-          → BehindTurn keeper now s line turn more t → Going setup base first all s.number s.known now → GoesTo setup base first (all ++ line ∷ []) s.number more t
-      behind all s t now line turn more some on (answers.WasKnown is taken written left) h =
-          let takes : Takes now.party s.known (suc s.number) line now.node.state more [] now.node.state = IsKnown is written refl refl in
-          subst (GoesTo setup base first (all ++ line ∷ []) s.number more) (sym left) (
-            now,
-            refl,
-            one_more all line more [] s.number s.known now now some (omega (arith, is, h.knows, h.begins.starts.reopens.most)) takes refl (Nothing refl refl) h,
-            Answer now.party s.known (suc s.number) line now.node.state now.node.state more [] (λ fed. omega arith) takes,
-            omega arith,
-          )
-      behind all s t now line turn more some on (answers.WasBeyond is refused written left) h =
-          subst (GoesTo setup base first (all ++ line ∷ []) s.number more) (sym left) (
-            now,
-            refl,
-            one_beyond all line s.number s.known now some is h,
-            subst (IsPiece max_whole most) (sym written) (Beyond (λ fed. omega arith)),
-            omega (arith, is),
-          )
-      behind all s t now line turn more some on (answers.GoesOn new few next is left) h = read_on all s t now next line turn more some new few is left h
-      behind all s t now line turn more some on (answers.Ends stop keep loses known stored number ended written left) h = absurd (on ended)
-
-    -- the setup, which is the first line
-    pub opened_so : (all : List (List ℕ)) (line : List ℕ) (s : Stage K) (o : OpensNode keeper source s.wanted line) → 0 < length line → some_lines all ≡ [] → s.wanted ≡ wanted
-        → Going o.setup o.base line (all ++ line ∷ []) (number_from o.base o.last) o.last (record { party = party_of o.member; node = o.node })
-    opened_so all line s o some none is = record {
-      reads = o.reads;
-      member = o.member;
-      asked = subst (λ (w : Option (List ℕ)). IsMember o.setup w o.member) is o.asked;
-      rows = o.rows;
-      last = o.last;
-      begun = o.node;
-      begins = o.begins;
-      party = refl;
-      settled = λ honest c may.
-          let k = o.begins.starts.reopens.keeps in
-          o.begins.starts.settled (k.earlier honest) c (k.stops honest c may) ∙ sym (k.same honest);
-      earlier = λ honest. honest;
-      of_opening = λ n of. of;
-      numbered = [];
-      others = [];
-      did = [];
-      carries = none_carried;
-      are = lines_on all line ∙ ap (λ (l : List (List ℕ)). l ++ kept_line line) none ∙ one_kept line some;
-      counted = omega arith;
-      beyond = λ more. absurd (more refl);
-      knows = refl;
-      changed = [];
-      last_change = o.last;
-      changes = none_changed;
-      marked = λ honest. ap line_of (o.begins.starts.reopens.keeps.same honest) ∙ o.begins.starts.reopens.told honest;
+    -- a line for which there is no number
+    one_beyond : (all : List (List ℕ)) (line : List ℕ) (number known : ℕ) (now : Running K) → 0 < length line → number ≡ max_whole
+        → Going setup base first all number known now → Going setup base first (all ++ line ∷ []) max_whole known now
+    one_beyond all line number known now some is h = record {
+      reads = h.reads;
+      member = h.member;
+      asked = h.asked;
+      rows = h.rows;
+      last = h.last;
+      begun = h.begun;
+      begins = h.begins;
+      party = h.party;
+      settled = h.settled;
+      earlier = h.earlier;
+      numbered = h.numbered;
+      others = h.others ++ line ∷ [];
+      did = h.did;
+      carries = h.carries;
+      are = lines_on all line ∙ ap (λ (l : List (List ℕ)). some_lines all ++ l) (one_kept line some) ∙ ap (λ (l : List (List ℕ)). l ++ line ∷ []) h.are
+          ∙ ap (λ (l : List (List ℕ)). first ∷ l) (append_assoc h.numbered h.others (line ∷ []));
+      counted = sym is ∙ h.counted;
+      beyond = λ more. refl;
+      knows = h.knows;
+      changed = h.changed;
+      last_change = h.last_change;
+      changes = h.changes;
+      marked = h.marked;
     }
 
-    -- a line behind which the run goes on, and some of what was written of it
-    first_line : (all : List (List ℕ)) (out : List ℕ) (s t : Stage K) (line : List ℕ) (turn : Turn) (more : List ℕ) (n : ℕ) → 0 < length line → (turn ≡ Ended → ⊥)
-        → s ≡ opening wanted opened → some_lines all ≡ [] → out ≡ [] → SetupTurn keeper source s line turn more t → Comes (all ++ line ∷ []) (out ++ (echo_of echo line ++ take n more)) t
-    first_line all out s t line turn more n some on is none nothing (turns.Opened o taken written left) =
-        subst (Comes (all ++ line ∷ []) (out ++ (echo_of echo line ++ take n more))) (sym left) (
-        Runs (record { party = party_of o.member; node = o.node }) refl o.setup o.base line (opened_so all line s o some none (ap (λ (s : Stage K). s.wanted) is))
-        (line_tells echo line n (subst (TellsTo (number_from o.base o.last) most) (sym nothing) nothing_told) (subst (IsPiece (number_from o.base o.last) most) (sym written) (Opening o.last _ o.rows _)))
+    -- an empty line
+    one_empty : (all : List (List ℕ)) (number known : ℕ) (now : Running K) → Going setup base first all number known now → Going setup base first (all ++ [] ∷ []) number known now
+    one_empty all number known now h = record {
+      reads = h.reads;
+      member = h.member;
+      asked = h.asked;
+      rows = h.rows;
+      last = h.last;
+      begun = h.begun;
+      begins = h.begins;
+      party = h.party;
+      settled = h.settled;
+      earlier = h.earlier;
+      numbered = h.numbered;
+      others = h.others;
+      did = h.did;
+      carries = h.carries;
+      are = lines_on all [] ∙ append-nil (some_lines all) ∙ h.are;
+      counted = h.counted;
+      beyond = h.beyond;
+      knows = h.knows;
+      changed = h.changed;
+      last_change = h.last_change;
+      changes = h.changes;
+      marked = h.marked;
+    }
+
+    -- a line that was read
+    pub read_on : (all : List (List ℕ)) (s t : Stage K) (now next : Running K) (line : List ℕ) (turn : Turn) (more : List ℕ) → 0 < length line → suc s.known ≤ suc s.number → suc s.number ≤ max_whole
+        → LineTurn keeper now (suc s.number) line turn more next → t ≡ next_stage s next (suc s.number) → Going setup base first all s.number s.known now
+        → GoesTo setup base first (all ++ line ∷ []) s.number more t
+    read_on all s t now next line turn more some new few is left h =
+        let takes : Takes now.party s.known (suc s.number) line now.node.state more is.did next.node.state = IsRead new turn is.answers in
+        subst (GoesTo setup base first (all ++ line ∷ []) s.number more) (sym left) (
+          next,
+          refl,
+          one_more all line more is.did s.number s.known now next some few takes is.party is.commits h,
+          Answer now.party s.known (suc s.number) line now.node.state next.node.state more is.did (λ fed. omega arith) takes,
+          omega arith,
         )
-    first_line all out s t line turn more n some on is none nothing (turns.Untold o ended written left) = absurd (on ended)
-    first_line all out s t line turn more n some on is none nothing (turns.Unbegun setup base read asked spare stop unbegun ended written left) = absurd (on ended)
-    first_line all out s t line turn more n some on is none nothing (turns.NoSetup fault fails other ended written left) = absurd (on ended)
-    first_line all out s t line turn more n some on is none nothing (turns.Unread ended written left) = absurd (on ended)
 
-    pub one_line : (all : List (List ℕ)) (out : List ℕ) (s t : Stage K) (place : ℕ) (line : List ℕ) (turn : Turn) (more : List ℕ) (n : ℕ) → 0 < length line → (turn ≡ Ended → ⊥)
-        → NodeLineGives keeper source s place line turn more t → Comes all out s → Comes (all ++ line ∷ []) (out ++ (echo_of echo line ++ take n more)) t
-    one_line all out s t place line turn more n some on gives (Before is none nothing) =
-        first_line all out s t line turn more n some on is none nothing
-        (subst (λ (q : Option (Running K)). NodeTurn keeper source q s line turn more t) (ap (λ (s : Stage K). s.running) is) gives)
-    one_line all out s t place line turn more n some on gives (Runs now is setup base first h tells) =
-        let b = behind all s t now line turn more some on (subst (λ (q : Option (Running K)). NodeTurn keeper source q s line turn more t) is gives) h in
-        Runs b.0 b.1 setup base first b.2 (line_tells echo line n (tells_more b.4 tells) b.3)
+    pub behind : (all : List (List ℕ)) (s t : Stage K) (now : Running K) (line : List ℕ) (turn : Turn) (more : List ℕ) → 0 < length line → (turn ≡ Ended → ⊥)
+        → BehindTurn keeper now s line turn more t → Going setup base first all s.number s.known now → GoesTo setup base first (all ++ line ∷ []) s.number more t
+    behind all s t now line turn more some on (answers.WasKnown is taken written left) h =
+        let takes : Takes now.party s.known (suc s.number) line now.node.state more [] now.node.state = IsKnown is written refl refl in
+        subst (GoesTo setup base first (all ++ line ∷ []) s.number more) (sym left) (
+          now,
+          refl,
+          one_more all line more [] s.number s.known now now some (omega (arith, is, h.knows, h.begins.starts.reopens.most)) takes refl (Nothing refl refl) h,
+          Answer now.party s.known (suc s.number) line now.node.state now.node.state more [] (λ fed. omega arith) takes,
+          omega arith,
+        )
+    behind all s t now line turn more some on (answers.WasBeyond is refused written left) h =
+        subst (GoesTo setup base first (all ++ line ∷ []) s.number more) (sym left) (
+          now,
+          refl,
+          one_beyond all line s.number s.known now some is h,
+          subst (IsPiece max_whole most) (sym written) (Beyond (λ fed. omega arith)),
+          omega (arith, is),
+        )
+    behind all s t now line turn more some on (answers.GoesOn new few next is left) h = read_on all s t now next line turn more some new few is left h
+    behind all s t now line turn more some on (answers.Ends stop keep loses known stored number ended written left) h = absurd (on ended)
 
-    whole_line : (all : List (List ℕ)) (out : List ℕ) (s t : Stage K) (place : ℕ) (line : List ℕ) (turn : Turn) (more : List ℕ) → 0 < length line → (turn ≡ Ended → ⊥)
-        → NodeLineGives keeper source s place line turn more t → Comes all out s → Comes (all ++ line ∷ []) (out ++ (echo_of echo line ++ more)) t
-    whole_line all out s t place line turn more some on gives h =
-        subst (λ (l : List ℕ). Comes (all ++ line ∷ []) (out ++ (echo_of echo line ++ l)) t) (take_all (length more) more (omega arith))
-        (one_line all out s t place line turn more (length more) some on gives h)
+  -- the setup, which is the first line
+  pub opened_so : (all : List (List ℕ)) (line : List ℕ) (s : Stage K) (o : OpensNode keeper source s.wanted line) → 0 < length line → some_lines all ≡ [] → s.wanted ≡ wanted
+      → Going o.setup o.base line (all ++ line ∷ []) (number_from o.base o.last) o.last (record { party = party_of o.member; node = o.node })
+  opened_so all line s o some none is = record {
+    reads = o.reads;
+    member = o.member;
+    asked = subst (λ (w : Option (List ℕ)). IsMember o.setup w o.member) is o.asked;
+    rows = o.rows;
+    last = o.last;
+    begun = o.node;
+    begins = o.begins;
+    party = refl;
+    settled = λ honest c may.
+        let k = o.begins.starts.reopens.keeps in
+        o.begins.starts.settled (k.earlier honest) c (k.stops honest c may) ∙ sym (k.same honest);
+    earlier = λ honest. honest;
+    numbered = [];
+    others = [];
+    did = [];
+    carries = none_carried;
+    are = lines_on all line ∙ ap (λ (l : List (List ℕ)). l ++ kept_line line) none ∙ one_kept line some;
+    counted = omega arith;
+    beyond = λ more. absurd (more refl);
+    knows = refl;
+    changed = [];
+    last_change = o.last;
+    changes = none_changed;
+    marked = λ honest. ap line_of (o.begins.starts.reopens.keeps.same honest) ∙ o.begins.starts.reopens.told honest;
+  }
 
-    empty_so : (all : List (List ℕ)) (out : List ℕ) (s : Stage K) → Comes all out s → Comes (all ++ [] ∷ []) out s
-    empty_so all out s (Before is none nothing) = Before is (lines_on all [] ∙ append-nil (some_lines all) ∙ none) nothing
-    empty_so all out s (Runs now is setup base first h tells) = Runs now is setup base first (one_empty all s.number s.known now h) tells
+  -- a line behind which the run goes on, and some of what was written of it
+  first_line : (all : List (List ℕ)) (out : List ℕ) (s t : Stage K) (line : List ℕ) (turn : Turn) (more : List ℕ) (n : ℕ) → 0 < length line → (turn ≡ Ended → ⊥)
+      → s ≡ opening wanted opened → some_lines all ≡ [] → out ≡ [] → SetupTurn keeper source s line turn more t → Comes (all ++ line ∷ []) (out ++ (echo_of echo line ++ take n more)) t
+  first_line all out s t line turn more n some on is none nothing (turns.Opened o taken written left) =
+      subst (Comes (all ++ line ∷ []) (out ++ (echo_of echo line ++ take n more))) (sym left) (
+      Runs (record { party = party_of o.member; node = o.node }) refl o.setup o.base line (opened_so all line s o some none (ap (λ (s : Stage K). s.wanted) is))
+      (line_tells echo line n (subst (TellsTo (number_from o.base o.last) most) (sym nothing) nothing_told) (subst (IsPiece (number_from o.base o.last) most) (sym written) (Opening o.last _ o.rows _)))
+      )
+  first_line all out s t line turn more n some on is none nothing (turns.Untold o ended written left) = absurd (on ended)
+  first_line all out s t line turn more n some on is none nothing (turns.Unbegun setup base read asked spare stop unbegun ended written left) = absurd (on ended)
+  first_line all out s t line turn more n some on is none nothing (turns.NoSetup fault fails other ended written left) = absurd (on ended)
+  first_line all out s t line turn more n some on is none nothing (turns.Unread ended written left) = absurd (on ended)
 
-    pub all_come : {all : List (List ℕ)} {ran : How} {out : List ℕ} {s : Stage K} → AreNumbered (NodeLineGives keeper source) echo (opening wanted opened) all ran out s → Comes all out s
-    all_come none_numbered = Before refl refl refl
-    all_come (empty_line {s = s} {before = before} {out = out} earlier) = empty_so before out s (all_come earlier)
-    all_come (taken_line {s = s} {t = t} {line = line} {before = before} {out = out} {more = more} earlier some gives) =
-        whole_line before out s t (length before + 1) line Taken more some (λ e. absurd (cc e)) gives (all_come earlier)
-    all_come (refused_line {s = s} {t = t} {line = line} {before = before} {out = out} {more = more} earlier some gives) =
-        whole_line before out s t (length before + 1) line Refused more some (λ e. absurd (cc e)) gives (all_come earlier)
+  pub one_line : (all : List (List ℕ)) (out : List ℕ) (s t : Stage K) (place : ℕ) (line : List ℕ) (turn : Turn) (more : List ℕ) (n : ℕ) → 0 < length line → (turn ≡ Ended → ⊥)
+      → NodeLineGives keeper source s place line turn more t → Comes all out s → Comes (all ++ line ∷ []) (out ++ (echo_of echo line ++ take n more)) t
+  one_line all out s t place line turn more n some on gives (Before is none nothing) =
+      first_line all out s t line turn more n some on is none nothing
+      (subst (λ (q : Option (Running K)). NodeTurn keeper source q s line turn more t) (ap (λ (s : Stage K). s.running) is) gives)
+  one_line all out s t place line turn more n some on gives (Runs now is setup base first h tells) =
+      let b = behind all s t now line turn more some on (subst (λ (q : Option (Running K)). NodeTurn keeper source q s line turn more t) is gives) h in
+      Runs b.0 b.1 setup base first b.2 (line_tells echo line n (tells_more b.4 tells) b.3)
+
+  whole_line : (all : List (List ℕ)) (out : List ℕ) (s t : Stage K) (place : ℕ) (line : List ℕ) (turn : Turn) (more : List ℕ) → 0 < length line → (turn ≡ Ended → ⊥)
+      → NodeLineGives keeper source s place line turn more t → Comes all out s → Comes (all ++ line ∷ []) (out ++ (echo_of echo line ++ more)) t
+  whole_line all out s t place line turn more some on gives h =
+      subst (λ (l : List ℕ). Comes (all ++ line ∷ []) (out ++ (echo_of echo line ++ l)) t) (take_all (length more) more (omega arith))
+      (one_line all out s t place line turn more (length more) some on gives h)
+
+  empty_so : (all : List (List ℕ)) (out : List ℕ) (s : Stage K) → Comes all out s → Comes (all ++ [] ∷ []) out s
+  empty_so all out s (Before is none nothing) = Before is (lines_on all [] ∙ append-nil (some_lines all) ∙ none) nothing
+  empty_so all out s (Runs now is setup base first h tells) = Runs now is setup base first (one_empty all s.number s.known now h) tells
+
+  pub all_come : {all : List (List ℕ)} {ran : How} {out : List ℕ} {s : Stage K} → AreNumbered (NodeLineGives keeper source) echo (opening wanted opened) all ran out s → Comes all out s
+  all_come none_numbered = Before refl refl refl
+  all_come (empty_line {s = s} {before = before} {out = out} earlier) = empty_so before out s (all_come earlier)
+  all_come (taken_line {s = s} {t = t} {line = line} {before = before} {out = out} {more = more} earlier some gives) =
+      whole_line before out s t (length before + 1) line Taken more some (λ e. absurd (cc e)) gives (all_come earlier)
+  all_come (refused_line {s = s} {t = t} {line = line} {before = before} {out = out} {more = more} earlier some gives) =
+      whole_line before out s t (length before + 1) line Refused more some (λ e. absurd (cc e)) gives (all_come earlier)

@@ -1,12 +1,12 @@
 -- What a run of `node` leaves that is fed lines by their numbers, wherever it ends.
 use Rattle.std.proofs.Common.{◌≡◌, ◌≢◌, ◌⊎◌, ◌++◌, ◌∙◌, ◌+◌, ◌<◌, ◌≤◌, ℕ, zero, suc, Bool, List, [], ◌∷◌, Option, Some, Ok, Err, refl, sym, ap, subst, inl, inr, arith, length, length-append, append_assoc, append-nil}
-use Rattle.std.specs.Prelude.{All, IsSome, slice_get}
+use Rattle.std.specs.Prelude.{All, slice_get}
 use Rattle.std.proofs.lemmas.List.Concat.{flat_map-append}
 use Rattle.line_runs.specs.declared.run.Turn.{Turn}
 use Rattle.json_text.specs.declared.fault.JsonFault.{JsonFault}
 use Rattle.node_keepers.specs.Opening.{Source}
 use Rattle.node_rows.specs.Holds.{HoldsRows}
-use Rattle.node_rows.specs.Laws.{ChangesAreHeld, RestartsAreHeld}
+use Rattle.node_rows.specs.Laws.{ChangesAreHeld}
 use Rattle.node_runs.proofs.HistoryLemmas.{line_run}
 use Rattle.node_runs.specs.LineAnswers.{Answers}
 use Rattle.node_runs.specs.NodeAnswers as answers
@@ -15,26 +15,27 @@ use Rattle.node_runs.specs.NodeHistories.{IsLeftBy, kept_line, some_lines}
 use Rattle.node_runs.specs.NodeOutputs.{IsKept}
 use Rattle.node_runs.specs.NodeTurns as turns
 use Rattle.node_runs.specs.NodeTurns.{IsMember, IsUnbegun, Running, Stage, keep_in}
-use Rattle.node_runs.specs.NumberedRuns.{Carries, Changed, Numbered, none_carried, none_changed, one_carried}
+use Rattle.node_runs.specs.NumberedRuns.{Carries, Changed, Numbered, one_carried}
 use Rattle.node_runs.specs.SetupLines.{numbered_setup_in}
 use Rattle.node_runs.specs.declared.fault.NodeStop.{NodeStop}
 use Rattle.node_runs.specs.declared.fault.NodeStop.TheVariants.{Memory}
 use Rattle.node_store.specs.Contents.{Content, IsReadAgain, changed_all, line_of, marked}
 use Rattle.node_store.proofs.Numbered.{numbers_are_no_rows}
 use Rattle.ocpi_types.specs.Setups.{party_of}
+use Rattle.ocpi_types.specs.declared.rows.Row.{Row}
 use Rattle.ocpi_types.specs.declared.setup.Node.{Node}
-use Rattle.stored_laws.specs.Nodes.{IsOfOpening, NodesCanStartAgain, NodesKeepOpenings, restarted}
+use Rattle.stored_laws.specs.Nodes.{AreNodeRows, NodesCanStartAgain}
 use Rattle.stored_nodes.proofs.Staying.{marked_holds}
 use Rattle.stored_nodes.proofs.Together.{held_by_events, starts_by_events}
 use Rattle.stored_nodes.specs.Keepers.{Commits, IsLine, IsSettled, Keeper, Nothing, Taken as TakenBy}
 use Rattle.stored_nodes.specs.Stored.{IsStored}
 use Rattle.stored_nodes.specs.Transactions.{changes_of_each}
 use Rattle.world_steps.specs.Steps.{NodeEvent as Deed}
-use Rattle.world_steps.specs.World.{NodeState, opening_of}
-use Rattle.feeding_laws.proofs.Fed.{Before, Comes, Going, Runs, no_others, of_run, one_kept, tells_within}
+use Rattle.world_steps.specs.World.{NodeState}
+use Rattle.feeding_laws.proofs.Fed.{Before, Comes, Going, Runs, no_others, one_kept, tells_within}
 use Rattle.feeding_laws.proofs.Parts.{At_end, Front, In_front, at_place, behind_front, behind_more, fronts, last_one, not_empty, nothing_of, nothing_taken, part_of, same_answers, same_takes, short_cut, without}
 use Rattle.feeding_laws.specs.Fed.{By_number, FedRun, Holds, IsCut, IsFed, IsLeft, IsPart, No_line, No_setup, Nothing as NoLines, Same, Opened, TellsTo, Unopened, WasFed, nothing_told}
-use Rattle.feeding_laws.specs.Feeding.{AreBehind, Behind, Held, One_more}
+use Rattle.feeding_laws.specs.Feeding.{AreBehind, Began, Behind, Held, NotBegun, One_more, StartsAgain}
 
 -- ---- numbers and lists
 
@@ -143,11 +144,11 @@ module _ {K : Type 0} (keeper : Keeper K) where
 
 -- ---- what is left
 
-module _ (held : ChangesAreHeld) (start : NodesCanStartAgain) (keeps : NodesKeepOpenings) (alike : RestartsAreHeld) {K : Type 0} (keeper : Keeper K) (source : Source K)
+module _ (held : ChangesAreHeld) (start : NodesCanStartAgain) {K : Type 0} (keeper : Keeper K) (source : Source K)
     (wanted : Option (List ℕ)) (opened : List ℕ) (echo : Bool) (most : ℕ) (setup : List Node) (lines : ℕ → List ℕ) (base : ℕ)
     (member : Node) (only : (first : List ℕ) (m : Node) → numbered_setup_in first ≡ Ok (setup, Some base) → IsMember setup wanted m → m ≡ member) where
   -- the lines that were answered, as they stand behind the number
-  pub record Answered {first : List ℕ} {all : List (List ℕ)} {number known : ℕ} {now : Running K} (h : Going keeps keeper source wanted opened echo most setup (Some base) first all number known now)
+  pub record Answered {first : List ℕ} {all : List (List ℕ)} {number known : ℕ} {now : Running K} (h : Going keeper source wanted opened echo most setup (Some base) first all number known now)
       : Type 0 where
     pub read : List (List ℕ)
     pub did : List Numbered
@@ -156,29 +157,29 @@ module _ (held : ChangesAreHeld) (start : NodesCanStartAgain) (keeps : NodesKeep
     pub changes : Changed h.last did h.changed h.last_change
     pub tells : (text : List ℕ) → TellsTo number most text → TellsTo (base + length read) most text
 
-  module _ {first : List ℕ} {all : List (List ℕ)} {number known : ℕ} {now : Running K} (h : Going keeps keeper source wanted opened echo most setup (Some base) first all number known now)
+  module _ {first : List ℕ} {all : List (List ℕ)} {number known : ℕ} {now : Running K} (h : Going keeper source wanted opened echo most setup (Some base) first all number known now)
       (r : Answered h) (stored : IsStored keeper now.node) where
     -- the next line made it
     abbrev pub MadeNext : Content → Type 0
     MadeNext c = (number ≡ base + length r.read) × IsMade keeper (lines (suc (base + length r.read))) number known now c
 
-    module _ (honest : keeper.is_honest now.node.keep) (found : Held) (holds : Holds setup h.member (keeper.content h.begins.starts.fresh) found) where
-      begun_is : h.begun.state ≡ restarted found.state
-      begun_is = h.begins.starts.again (h.earlier honest) found.state holds.kept
+    module _ (honest : keeper.is_honest now.node.keep) (found : Held) (holds : Holds (keeper.content h.begins.starts.fresh) found) where
+      opens : StartsAgain setup h.member found.state h.begun.state
+      opens =
+          let reopens = h.begins.starts.reopens in
+          let (rows, are, of_found) = holds.rows in
+          let same = sym are ∙ reopens.reads (h.earlier honest) in
+          let is : rows ≡ reopens.list = cc same in
+          record { rows = reopens.list; are = subst (λ (l : List Row). AreNodeRows l found.state) is of_found; made = reopens.made; again = h.begins.starts.stored.starts }
 
       last_is : h.last ≡ found.line
       last_is = let same = sym (h.begins.starts.reopens.told (h.earlier honest)) ∙ holds.line in cc same
 
-      carried : Carries (party_of h.member) found.line base (restarted found.state) r.read r.did now.node.state
-      carried =
-          subst (λ (k : ℕ). Carries (party_of h.member) k base (restarted found.state) r.read r.did now.node.state) last_is
-          (subst (λ (s : NodeState). Carries (party_of h.member) h.last base s r.read r.did now.node.state) begun_is r.carries)
+      carried : Carries (party_of h.member) found.line base h.begun.state r.read r.did now.node.state
+      carried = subst (λ (k : ℕ). Carries (party_of h.member) k base h.begun.state r.read r.did now.node.state) last_is r.carries
 
       changed_so : Changed found.line r.did h.changed h.last_change
       changed_so = subst (λ (k : ℕ). Changed k r.did h.changed h.last_change) last_is r.changes
-
-      of_now : IsOfOpening (opening_of setup h.member) now.node.state
-      of_now = h.of_opening (opening_of setup h.member) (subst (IsOfOpening (opening_of setup h.member)) (sym begun_is) (keeps.by_restarts (opening_of setup h.member) found.state holds.kept.of_member))
 
       kept_so : (c : Content) → c ≡ keeper.content now.node.keep → IsLeft setup h.member lines found base r.read c
       kept_so c same =
@@ -186,16 +187,8 @@ module _ (held : ChangesAreHeld) (start : NodesCanStartAgain) (keeps : NodesKeep
           record {
             changed = h.changed;
             left = record { state = now.node.state; line = h.last_change };
-            holds = record {
-              kept = record {
-                starts = stored.starts;
-                of_member = of_now;
-                holds = subst (λ (b : Content). HoldsRows b now.node.state) (sym same) (stored.holds honest);
-                numbered = subst IsSome (sym line_is) refl;
-              };
-              line = line_is;
-            };
-            ran = record { are = r.are; did = r.did; now = now.node.state; carries = carried; leaves = Behind h.changed changed_so refl };
+            holds = record { starts = stored.starts; rows = subst (λ (b : Content). HoldsRows b now.node.state) (sym same) (stored.holds honest); line = line_is };
+            ran = Began h.begun.state opens r.are r.did now.node.state carried (Behind h.changed changed_so refl);
           }
 
       made_so : (c : Content) → MadeNext c → IsLeft setup h.member lines found base r.read c
@@ -212,22 +205,9 @@ module _ (held : ChangesAreHeld) (start : NodesCanStartAgain) (keeps : NodesKeep
           record {
             changed = h.changed ++ at ∷ [];
             left = record { state = m.after; line = suc number };
-            holds = record {
-              kept = record {
-                starts = starts_by_events start now.node.state m.after m.did run stored.starts;
-                of_member = of_run keeps (opening_of setup h.member) now.node.state m.after m.did of_now run;
-                holds = rows_of;
-                numbered = subst IsSome (sym line_is) refl;
-              };
-              line = line_is;
-            };
-            ran = record {
-              are = r.are;
-              did = r.did;
-              now = now.node.state;
-              carries = carried;
-              leaves = One_more h.changed h.last_change changed_so (omega (arith, m.new, counted, h.knows, last_is)) m.turn m.out m.did m.after is m.some refl (ap suc counted);
-            };
+            holds = record { starts = starts_by_events start now.node.state m.after m.did run stored.starts; rows = rows_of; line = line_is };
+            ran = Began h.begun.state opens r.are r.did now.node.state carried
+                (One_more h.changed h.last_change changed_so (omega (arith, m.new, counted, h.knows, last_is)) m.turn m.out m.did m.after is m.some refl (ap suc counted));
           }
 
       left_so : {Made : Content → Type 0} → ((c : Content) → Made c → MadeNext c) → (c : Content) → (c ≡ keeper.content now.node.keep) ⊎ Made c → IsLeft setup h.member lines found base r.read c
@@ -250,12 +230,12 @@ module _ (held : ChangesAreHeld) (start : NodesCanStartAgain) (keeps : NodesKeep
   -- ---- the lines of the run stand among those that are fed
 
   all_are : {xs : List Node} {m : Option ℕ} {first : List ℕ} {before : List (List ℕ)} {number known : ℕ} {now : Running K}
-      → (h : Going keeps keeper source wanted opened echo most xs m first before number known now) (later : List (List ℕ)) → some_lines (before ++ later) ≡ first ∷ ((h.numbered ++ h.others) ++ some_lines later)
+      → (h : Going keeper source wanted opened echo most xs m first before number known now) (later : List (List ℕ)) → some_lines (before ++ later) ≡ first ∷ ((h.numbered ++ h.others) ++ some_lines later)
   all_are {before = before} h later = flat_map-append kept_line before later ∙ ap (λ (l : List (List ℕ)). l ++ some_lines later) h.are
 
   pub record Fits (before later : List (List ℕ)) (number known : ℕ) (now : Running K) : Type 0 where
     pub first : List ℕ
-    pub going : Going keeps keeper source wanted opened echo most setup (Some base) first before number known now
+    pub going : Going keeper source wanted opened echo most setup (Some base) first before number known now
     pub fed : List (List ℕ)
     pub cut : List (List ℕ)
     pub same : (going.numbered ++ going.others) ++ some_lines later ≡ fed ++ cut
@@ -264,14 +244,14 @@ module _ (held : ChangesAreHeld) (start : NodesCanStartAgain) (keeps : NodesKeep
     pub is_cut : IsCut (lines (suc most)) cut
 
   pub fits : (xs : List Node) (m : Option ℕ) (first : List ℕ) (before later : List (List ℕ)) (number known : ℕ) (now : Running K)
-      → Going keeps keeper source wanted opened echo most xs m first before number known now → IsFed setup lines base most (before ++ later) → Fits before later number known now
+      → Going keeper source wanted opened echo most xs m first before number known now → IsFed setup lines base most (before ++ later) → Fits before later number known now
   fits xs m first before later number known now h (NoLines none) = absurd (none_empty ((h.numbered ++ h.others) ++ some_lines later) first (sym (all_are h later) ∙ none))
   fits xs m first before later number known now h (No_setup part fault are none) =
       let one = of_two (all_are h later) are in
       absurd (no_setup part xs m fault (subst (λ (l : List ℕ). numbered_setup_in l ≡ Ok (xs, m)) one.0 h.reads) none)
   fits xs m first before later number known now h (By_number line fed cut are reads behind most_is is_cut) =
       let one = of_two (all_are h later) are in
-      let g = subst (λ (p : List Node × Option ℕ). Going keeps keeper source wanted opened echo most p.0 p.1 first before number known now) (one_setup first line xs setup m (Some base) one.0 h.reads reads) h in
+      let g = subst (λ (p : List Node × Option ℕ). Going keeper source wanted opened echo most p.0 p.1 first before number known now) (one_setup first line xs setup m (Some base) one.0 h.reads reads) h in
       let same = of_two (all_are g later) are in
       record { first = first; going = g; fed = fed; cut = cut; same = same.1; behind = behind; most_is = most_is; is_cut = is_cut }
 
@@ -281,7 +261,7 @@ module _ (held : ChangesAreHeld) (start : NodesCanStartAgain) (keeps : NodesKeep
       (sym (append_assoc f.going.numbered f.going.others (some_lines later)) ∙ f.same)
 
   module _ {before later : List (List ℕ)} {number known : ℕ} {now : Running K} (f : Fits before later number known now) where
-    abbrev g : Going keeps keeper source wanted opened echo most setup (Some base) f.first before number known now
+    abbrev g : Going keeper source wanted opened echo most setup (Some base) f.first before number known now
     g = f.going
 
     in_front_read : (zs : List (List ℕ)) → f.fed ≡ g.numbered ++ zs → Answered g
@@ -375,7 +355,7 @@ module _ (held : ChangesAreHeld) (start : NodesCanStartAgain) (keeps : NodesKeep
   abbrev pub Tell : List ℕ → List ℕ → Type 0
   Tell out text = (n : ℕ) → TellsTo n most out → TellsTo n most text
 
-  pub at_stage : (before later : List (List ℕ)) (out text : List ℕ) (s : Stage K) (kept : Option K) → IsFed setup lines base most (before ++ later) → Comes keeps keeper source wanted opened echo most before out s
+  pub at_stage : (before later : List (List ℕ)) (out text : List ℕ) (s : Stage K) (kept : Option K) → IsFed setup lines base most (before ++ later) → Comes keeper source wanted opened echo most before out s
       → keep_in s.running s.spare ≡ kept → IsKept keeper s.running → Tell out text → Left text kept
   at_stage before later out text s kept fed (Before is none nothing) left stored tell =
       subst (Left text) (sym (ap (λ (s : Stage K). keep_in s.running s.spare) is) ∙ left) (Unopened (tell base (subst (TellsTo base most) (sym nothing) nothing_told)))
@@ -409,8 +389,8 @@ module _ (held : ChangesAreHeld) (start : NodesCanStartAgain) (keeps : NodesKeep
             record {
               changed = [];
               left = was;
-              holds = subst (λ (b : Content). Holds setup m b was) (sym at) holds;
-              ran = record { are = λ i l at. absurd (cc at); did = []; now = restarted was.state; carries = none_carried; leaves = Behind [] none_changed (alike.by_restarts was.state) };
+              holds = subst (λ (b : Content). Holds b was) (sym at) holds;
+              ran = NotBegun;
             };
       })))
     where

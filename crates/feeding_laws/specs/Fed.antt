@@ -6,6 +6,7 @@ use Rattle.line_runs.specs.Numbered.{echo_of}
 use Rattle.line_runs.specs.declared.outcome.Ran.{Ran as How}
 use Rattle.node_keepers.specs.Opening.{Source}
 use Rattle.node_lines.specs.NodeLines.{node_line_in}
+use Rattle.node_rows.specs.Holds.{HoldsRows}
 use Rattle.node_runs.specs.DoneLines.{malformed_line, opened_line, refused_line}
 use Rattle.node_runs.specs.NodeHistories.{IsLeftBy, some_lines}
 use Rattle.node_runs.specs.NodeOutputs.{NodeBegins, NodeOutputs, asked_for, begin_bytes}
@@ -16,10 +17,11 @@ use Rattle.node_runs.specs.declared.fault.NodeStop.{NodeStop}
 use Rattle.node_steps.specs.declared.fault.NodeFault.TheVariants.{NumbersUsedUp}
 use Rattle.node_store.specs.Contents.{Content, line_of}
 use Rattle.ocpi_text.specs.Whole.{max_whole}
+use Rattle.ocpi_text.specs.Text.{key}
 use Rattle.ocpi_types.specs.Setups.{party_of}
 use Rattle.ocpi_types.specs.declared.setup.Node.{Node}
+use Rattle.stored_laws.specs.Nodes.{CanStartAgain}
 use Rattle.stored_nodes.specs.Keepers.{Keeper}
-use Rattle.stored_nodes.specs.Stored.{IsKeptFor}
 use Rattle.world_steps.specs.Steps.{NodeEvent as Deed}
 use Rattle.world_steps.specs.World.{NodeState}
 use Rattle.feeding_laws.specs.Feeding.{AreBehind, Held, IsExact, Ran}
@@ -72,28 +74,29 @@ pub data TellsTo (last most : ℕ) : List ℕ → Type 0 where
 
 -- ---- what is left
 
--- what is kept are the rows of that node of the setup, and that number
-pub record Holds (setup : List Node) (member : Node) (c : Content) (h : Held) : Type 0 where
-  pub kept : IsKeptFor setup member c h.state
+-- what is kept are the rows of that node, which can start again, and that number
+pub record Holds (c : Content) (h : Held) : Type 0 where
+  pub starts : CanStartAgain h.state
+  pub rows : HoldsRows c h.state
   pub line : line_of c ≡ Some h.line
 
 -- The content is what such a run leaves that answered these lines.
 pub record IsLeft (setup : List Node) (member : Node) (lines : ℕ → List ℕ) (found : Held) (base : ℕ) (read : List (List ℕ)) (c : Content) : Type 0 where
   pub changed : List ℕ
   pub left : Held
-  pub holds : Holds setup member c left
-  pub ran : Ran (party_of member) lines found base read changed left
+  pub holds : Holds c left
+  pub ran : Ran setup member lines found base read changed left
 
--- A run over a store, by its keeper as it was opened and as it was left. Whatever rows of the node the store had, and
--- whatever number, what it has at the end, or what a stop leaves of that, is what a run leaves that answered these
--- lines. Of no line behind them that was fed to its end it told what became of it.
+-- A run over a store, by its keeper as it was opened and as it was left. Whatever rows of a node the store had, under
+-- whatever setup it had run, and whatever number, what it has at the end, or what a stop leaves of that, is what a run
+-- leaves that answered these lines. Of no line behind them that was fed to its end it told what became of it.
 pub record FedRun {K : Type 0} (keeper : Keeper K) (source : Source K) (setup : List Node) (member : Node) (lines : ℕ → List ℕ) (base most : ℕ) (text : List ℕ) (kept : K) : Type 0 where
   pub fresh : K
   pub found : source.found 1 fresh
   pub earlier : keeper.is_honest kept → keeper.is_honest fresh
   pub read : List (List ℕ)
   pub tells : TellsTo (base + length read) most text
-  pub leaves : keeper.is_honest kept → (held : Held) → Holds setup member (keeper.content fresh) held → (c : Content) → IsLeftBy keeper kept c
+  pub leaves : keeper.is_honest kept → (held : Held) → Holds (keeper.content fresh) held → (c : Content) → IsLeftBy keeper kept c
       → IsLeft setup member lines held base read c
 
 -- the same of any run: where no keeper was opened, no line was answered
@@ -111,26 +114,26 @@ RunsAreFed {K} keeper source =
 
 -- ---- runs one after another
 
--- Runs of one node over one store, each over what the one before left: what its keeper kept at the end, or what a
--- stop left of that. The first is told 1; each other is told at most the number of the last line that the one before
--- answered.
-pub data AreFedRuns {K : Type 0} (keeper : Keeper K) (source : Source K) (setup : List Node) (member : Node) (lines : ℕ → List ℕ) (first : Content) : ℕ → Content → Type 0 where
-  none_fed : AreFedRuns keeper source setup member lines first 1 first
-  one_fed : {seen base most : ℕ} {before after : Content} {text : List ℕ} {kept : K} → AreFedRuns keeper source setup member lines first seen before → 1 ≤ base → base ≤ seen
-      → (run : FedRun keeper source setup member lines base most text kept) → keeper.is_honest kept → keeper.content run.fresh ≡ before → IsLeftBy keeper kept after
-      → AreFedRuns keeper source setup member lines first (base + length run.read) after
-  one_unopened : {seen base : ℕ} {before : Content} → AreFedRuns keeper source setup member lines first seen before → 1 ≤ base → base ≤ seen
-      → AreFedRuns keeper source setup member lines first base before
+-- Runs of a party's node over one store, each under a setup of its own, and over what the one before left: what its
+-- keeper kept at the end, or what a stop left of that. The first is told 1; each other is told at most the number of
+-- the last line that the one before answered.
+pub data AreFedRuns {K : Type 0} (keeper : Keeper K) (source : Source K) (party : List ℕ) (lines : ℕ → List ℕ) (first : Content) : ℕ → Content → Type 0 where
+  none_fed : AreFedRuns keeper source party lines first 1 first
+  one_fed : {seen base most : ℕ} {before after : Content} {text : List ℕ} {kept : K} (setup : List Node) (member : Node) → key (party_of member) ≡ key party
+      → AreFedRuns keeper source party lines first seen before → 1 ≤ base → base ≤ seen → (run : FedRun keeper source setup member lines base most text kept)
+      → keeper.is_honest kept → keeper.content run.fresh ≡ before → IsLeftBy keeper kept after → AreFedRuns keeper source party lines first (base + length run.read) after
+  one_unopened : {seen base : ℕ} {before : Content} (setup : List Node) (member : Node) → key (party_of member) ≡ key party
+      → AreFedRuns keeper source party lines first seen before → 1 ≤ base → base ≤ seen → AreFedRuns keeper source party lines first base before
 
 -- what is kept at the end is exact
-pub record AreExact (setup : List Node) (member : Node) (lines : ℕ → List ℕ) (first : Held) (seen : ℕ) (c : Content) : Type 0 where
+pub record AreExact (party : List ℕ) (lines : ℕ → List ℕ) (first : Held) (seen : ℕ) (c : Content) : Type 0 where
   pub changed : List ℕ
   pub left : Held
-  pub holds : Holds setup member c left
-  pub exact : IsExact (party_of member) lines first seen changed left
+  pub holds : Holds c left
+  pub exact : IsExact party lines first seen changed left
 
 -- so it is of each node whose store had no line at first
 abbrev pub FedRunsAreExact : {K : Type 0} → Keeper K → Source K → Type 0
 FedRunsAreExact {K} keeper source =
-    (setup : List Node) (member : Node) (lines : ℕ → List ℕ) (first last : Content) (held : Held) (seen : ℕ) → Holds setup member first held → held.line ≡ 1
-    → AreFedRuns keeper source setup member lines first seen last → AreExact setup member lines held seen last
+    (party : List ℕ) (lines : ℕ → List ℕ) (first last : Content) (held : Held) (seen : ℕ) → Holds first held → held.line ≡ 1
+    → AreFedRuns keeper source party lines first seen last → AreExact party lines held seen last

@@ -1,10 +1,15 @@
--- A node that is fed lines by their numbers, in runs over one store that may stop anywhere: each line takes hold once,
--- and in order.
-use Rattle.std.specs.Prelude.{◌≡◌, ◌≢◌, ◌≤◌, ◌<◌, ℕ, suc, ◌+◌, List, [], ◌∷◌, ◌++◌, Some, length, slice_get}
+-- A node that is fed lines by their numbers, in runs over one store that may stop anywhere, each under a setup of its
+-- own: each line takes hold once, and in order.
+use Rattle.std.specs.Prelude.{◌≡◌, ◌≢◌, ◌≤◌, ◌<◌, ℕ, suc, ◌+◌, List, [], ◌∷◌, ◌++◌, Option, None, Some, length, slice_get}
 use Rattle.line_runs.specs.declared.run.Turn.{Turn}
+use Rattle.node_core.specs.Members.{IsMadeOfRows}
 use Rattle.node_runs.specs.LineAnswers.{Answers}
 use Rattle.node_runs.specs.NumberedRuns.{Carries, Changed, Numbered}
-use Rattle.stored_laws.specs.Nodes.{restarted}
+use Rattle.ocpi_text.specs.Text.{key}
+use Rattle.ocpi_types.specs.Setups.{party_of}
+use Rattle.ocpi_types.specs.declared.rows.Row.{Row}
+use Rattle.ocpi_types.specs.declared.setup.Node.{Node}
+use Rattle.stored_laws.specs.Nodes.{AreNodeRows, CanStartAgain, restarted}
 use Rattle.stored_nodes.specs.Transactions.{changes_of_each}
 use Rattle.world_steps.specs.Steps.{NodeEvent as Deed}
 use Rattle.world_steps.specs.World.{NodeState}
@@ -27,31 +32,42 @@ pub data Leaves (party : List ℕ) (lines : ℕ → List ℕ) (known last : ℕ)
       → (turn : Turn) (out : List ℕ) (more : List Deed) (after : NodeState) → Answers party now (suc last) (lines (suc last)) turn out more after → changes_of_each more ≢ []
       → restarted left.state ≡ restarted after → left.line ≡ suc last → Leaves party lines known last did now left (changed ++ suc last ∷ [])
 
--- One run of a node over its store: it is told a number, is fed the lines behind that one, and answers some of them.
-pub record Ran (party : List ℕ) (lines : ℕ → List ℕ) (found : Held) (base : ℕ) (read : List (List ℕ)) (changed : List ℕ) (left : Held) : Type 0 where
-  pub are : AreBehind lines base read
-  pub did : List Numbered
-  pub now : NodeState
-  pub carries : Carries party found.line base (restarted found.state) read did now
-  pub leaves : Leaves party lines found.line (base + length read) did now left changed
+-- The second node was made of the rows of the first, as that member of a setup. So the node starts again: under the
+-- setup of before, or under another.
+pub record StartsAgain (setup : List Node) (member : Node) (now next : NodeState) : Type 0 where
+  pub rows : List Row
+  pub are : AreNodeRows rows now
+  pub made : IsMadeOfRows setup member rows next
+  pub again : CanStartAgain next
 
--- Runs one after another, each over what the one before left. The first is told 1; each other is told at most the
--- number of the last line that the one before answered, which is that of the last `done` that its feeder can have
--- seen. The numbers are those of the lines by which rows were changed, in the order in which that was done.
+-- One run of a node over its store, as that member of a setup. No node was made of what the store had; or one was,
+-- which is told a number, is fed the lines behind that one, and answers some of them.
+pub data Ran (setup : List Node) (member : Node) (lines : ℕ → List ℕ) (found : Held) (base : ℕ) : List (List ℕ) → List ℕ → Held → Type 0 where
+  NotBegun : Ran setup member lines found base [] [] found
+  Began : {read : List (List ℕ)} {changed : List ℕ} {left : Held} (start : NodeState) → StartsAgain setup member found.state start → AreBehind lines base read
+      → (did : List Numbered) (now : NodeState) → Carries (party_of member) found.line base start read did now
+      → Leaves (party_of member) lines found.line (base + length read) did now left changed → Ran setup member lines found base read changed left
+
+-- Runs of a party's node one after another, each over what the one before left, and each under a setup of its own,
+-- which has that party in some case. The first is told 1; each other is told at most the number of the last line that
+-- the one before answered, which is that of the last `done` that its feeder can have seen. The numbers are those of the
+-- lines by which rows were changed, in the order in which that was done.
 pub data AreRuns (party : List ℕ) (lines : ℕ → List ℕ) (first : Held) : ℕ → List ℕ → Held → Type 0 where
   none_ran : AreRuns party lines first 1 [] first
-  one_ran : {seen base : ℕ} {before changed : List ℕ} {found left : Held} {read : List (List ℕ)} → AreRuns party lines first seen before found
-      → 1 ≤ base → base ≤ seen → Ran party lines found base read changed left → AreRuns party lines first (base + length read) (before ++ changed) left
+  one_ran : {seen base : ℕ} {before changed : List ℕ} {found left : Held} {read : List (List ℕ)} (setup : List Node) (member : Node) → key (party_of member) ≡ key party
+      → AreRuns party lines first seen before found → 1 ≤ base → base ≤ seen → Ran setup member lines found base read changed left
+      → AreRuns party lines first (base + length read) (before ++ changed) left
 
 -- ---- what is so of them
 
--- From a node the lines of the numbers from 2 on came, each once and in their order, up to that number; between some of
--- them the node started again.
-pub data CameOnce (party : List ℕ) (lines : ℕ → List ℕ) (first : NodeState) : ℕ → NodeState → Type 0 where
-  none_came : CameOnce party lines first 1 first
-  next_came : {number : ℕ} {now next : NodeState} {turn : Turn} {out : List ℕ} {did : List Deed} → CameOnce party lines first number now
-      → Answers party now (suc number) (lines (suc number)) turn out did next → CameOnce party lines first (suc number) next
-  restarts : {number : ℕ} {now : NodeState} → CameOnce party lines first number now → CameOnce party lines first number (restarted now)
+-- To a party's node the lines of the numbers from 2 on came, each once and in their order, up to that number. Between
+-- some of them the node started again: it is then that member of a setup; before it first did, of none.
+pub data CameOnce (party : List ℕ) (lines : ℕ → List ℕ) (first : NodeState) : Option Node → ℕ → NodeState → Type 0 where
+  none_came : CameOnce party lines first None 1 first
+  next_came : {member : Node} {number : ℕ} {now next : NodeState} {turn : Turn} {out : List ℕ} {did : List Deed} → CameOnce party lines first (Some member) number now
+      → Answers (party_of member) now (suc number) (lines (suc number)) turn out did next → CameOnce party lines first (Some member) (suc number) next
+  starts : {was : Option Node} {number : ℕ} {now next : NodeState} (setup : List Node) (member : Node) → key (party_of member) ≡ key party
+      → CameOnce party lines first was number now → StartsAgain setup member now next → CameOnce party lines first (Some member) number next
 
 -- each of these numbers is above the one before it, and the first above `low`; the last is `high`, or it is `low`
 pub data Rise (low : ℕ) : List ℕ → ℕ → Type 0 where
@@ -62,14 +78,16 @@ pub data Rise (low : ℕ) : List ℕ → ℕ → Type 0 where
 -- answered, and up to the last that took hold. No line changed rows twice.
 pub record IsExact (party : List ℕ) (lines : ℕ → List ℕ) (first : Held) (seen : ℕ) (changed : List ℕ) (left : Held) : Type 0 where
   pub last : ℕ
+  pub member : Option Node
   pub now : NodeState
-  pub came : CameOnce party lines first.state last now
+  pub came : CameOnce party lines first.state member last now
   pub kept : restarted left.state ≡ restarted now
   pub answered : seen ≤ last
   pub held : left.line ≤ last
   pub once : Rise 1 changed left.line
 
--- so it is of each node whose store had no line at first, however often it was stopped, and wherever
+-- so it is of each node whose store had no line at first, however often it was stopped, wherever, and under whatever
+-- setups it ran
 abbrev pub FeedingIsExact : Type 0
 FeedingIsExact = (party : List ℕ) (lines : ℕ → List ℕ) (first left : Held) (seen : ℕ) (changed : List ℕ) → first.line ≡ 1
     → AreRuns party lines first seen changed left → IsExact party lines first seen changed left

@@ -7,10 +7,10 @@ ghost use Rattle.feeding_laws.specs.Feeding.{FeedingIsExact};
 
 use node_keepers::Keeps;
 use node_rows::laws::{alike_are_classes, changes_are_held, restarts_are_held};
-use stored_laws::laws::{nodes_can_start_again, nodes_keep_openings};
+use stored_laws::laws::nodes_can_start_again;
 
-/// Runs of a node over one store, each fed the lines behind the one whose number it is told, and stopped anywhere: each
-/// line takes hold once, and in order.
+/// Runs of a node over one store, each under a setup of its own, fed the lines behind the one whose number it is told, and
+/// stopped anywhere: each line takes hold once, and in order.
 pub fn feeding_is_exact()
     ensures { FeedingIsExact }
 {
@@ -26,12 +26,10 @@ pub fn runs_are_fed<S: Keeps>()
 {
     changes_are_held();
     nodes_can_start_again();
-    nodes_keep_openings();
-    restarts_are_held();
 }
 
-/// So runs of `run_node` over one store, each fed so over what the one before left or a stop left of that, leave what
-/// each line made that came once and in order.
+/// So runs of `run_node` over one store, each under a setup of its own, and fed so over what the one before left or a stop
+/// left of that, leave what each line made that came once and in order.
 pub fn fed_runs_are_exact<S: Keeps>()
     ensures { FedRunsAreExact (keeper_of S.Kept.content S.Kept.is_honest S.Kept.refusals S.Kept.may_leave) (source_of S.may_refuse S.found) }
 {

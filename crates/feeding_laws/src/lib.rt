@@ -3,8 +3,9 @@
 //! # Promises
 //!
 //! - A run is told the number of a line, and is fed those behind it. What is kept at any end are the rows of a node
-//!   to which each line came once and in order, with restarts between: up to the last line that was answered, and up
-//!   to the last that took hold. By law `feeding_is_exact` (`IsExact` of `specs/Feeding`).
+//!   to which each line came once and in order: up to the last line that was answered, and up to the last that took
+//!   hold. Between lines the node may start again, each time under another setup of which its rows can be. By law
+//!   `feeding_is_exact` (`IsExact` of `specs/Feeding`).
 //! - No line changes rows twice, in whichever runs it is fed. So what a line sent was sent by one run alone. By the
 //!   same: `once`.
 //! - Each run of `run_node` that is fed so is such a run, wherever it ends: with its input, which may end within a

@@ -35,6 +35,7 @@ pub mod OwnUrls
 pub mod OneLine
 pub mod ReadSetups
 pub mod Facts
+pub mod PrintedOnce
 pub mod OutputTexts
 pub mod InputLines
 pub mod PacketLines

@@ -71,14 +71,14 @@ module _ (Good : Running → Type 0) (gifts : Gifts Good) (Own : Held → Type 0
 
   module _ (line : List ℕ) (setup : List Node) (base : Option ℕ) (reads : numbered_setup_in line ≡ Ok (setup, base)) (w : List ℕ) (held left : Held) (alike : Alike held left) where
     -- an opening over one of two stores that are alike is one over the other
-    record IsOver (o : Opens w left line) : Type 0 where
-      within : Contains setup o.member
-      same : key (party_of o.member) ≡ key w
-      over : OpensOver setup o.member held o.state
-      tells : told_line held over.rows o.member o.state ≡ opening_of o
-      begins : begun o ≡ begun_over held o.member o.state base
+    pub record IsOver (o : Opens w left line) : Type 0 where
+      pub within : Contains setup o.member
+      pub same : key (party_of o.member) ≡ key w
+      pub over : OpensOver setup o.member held o.state
+      pub tells : told_line held over.rows o.member o.state ≡ opening_of o
+      pub begins : begun o ≡ begun_over held o.member o.state base
 
-    is_over : (o : Opens w left line) → IsOver o
+    pub is_over : (o : Opens w left line) → IsOver o
     is_over o = record {
       within = subst (λ (l : List Node). Contains l o.member) (sym setups) o.asked.within;
       same = o.asked.same ∙ ap key (some_same o.asked.party w o.asked.asked);

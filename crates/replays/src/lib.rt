@@ -14,7 +14,8 @@
 //! - What is refused was printed by no such runs, or by such of which none was opened. Asked of rows that are given is
 //!   that each request has a url of its own. By `read_transcript`: `none` (`AccusesRightly`).
 //! - Some runs print all in front of the line that is named. By `read_transcript`: `line` (`BlamesNoLineBefore`).
-//! - What a node prints for an event is one value, and so is the node behind it. By law `events_give_one_value`.
+//! - What a node prints for an event is one value, and so is the node behind it. By law `events_give_one_value`. So is
+//!   what a run prints and leaves, given what its store had and its lines. By law `printed_is_one`.
 //! - Runs of the program `node` with an echo are such runs, each over what its keeper had, wherever it was stopped. By law
 //!   `outputs_are_printed` (`specs/Outputs`).
 //! - Runs over one store, one behind the other, print what such runs print. By law `runs_are_printed`.
