@@ -16,7 +16,7 @@ use Rattle.ocpi_types.specs.declared.setup.Node.{Node}
 use Rattle.ocpi_types.specs.declared.setup.Node.TheVariants as node
 use Rattle.stored_laws.specs.Nodes.{NodesCanStartAgain, OpeningsCanStartAgain}
 use Rattle.tables.proofs.Elements.{in_front}
-use Rattle.tables.proofs.Places.{place_in}
+use Rattle.histories.proofs.Lists.{place_in}
 use Rattle.world_laws.proofs.Setups.{are_peers_of, by_form_of}
 use Rattle.world_laws.specs.Laws.{IsSetup}
 use Rattle.world_steps.specs.Steps.{NodeEvent, packets_of, versions_of}
