@@ -106,10 +106,7 @@ impl<'p, E: Write> Watch<'p, E> {
     }
 
     /// The reader shows these bytes; none where the input ended.
-    pub(crate) fn show(&mut self, shown: &[u8])
-        ensures stays { self.old.has_told ≡ true → self.new.has_told ≡ true }
-        ensures silent { self.new.has_told ≡ false → E.contents self.new.errors ≡ E.contents self.old.errors }
-    {
+    pub(crate) fn show(&mut self, shown: &[u8]) {
         if shown.is_empty() {
             if self.is_open {
                 self.end_line(false);
@@ -130,10 +127,7 @@ impl<'p, E: Write> Watch<'p, E> {
     }
 
     /// So many of the bytes that were shown are taken.
-    pub(crate) fn take(&mut self, amount: usize)
-        ensures stays { self.old.has_told ≡ true → self.new.has_told ≡ true }
-        ensures silent { self.new.has_told ≡ false → E.contents self.new.errors ≡ E.contents self.old.errors }
-    {
+    pub(crate) fn take(&mut self, amount: usize) {
         let taken = self.shown.len().min(amount);
         let kept = taken.min(ROOM - self.line.len().min(ROOM));
         let _ = self.line.extend_from_slice(&self.shown[..kept]);
@@ -145,10 +139,7 @@ impl<'p, E: Write> Watch<'p, E> {
         }
     }
 
-    fn begin_line(&mut self)
-        ensures stays { self.old.has_told ≡ true → self.new.has_told ≡ true }
-        ensures silent { self.new.has_told ≡ false → E.contents self.new.errors ≡ E.contents self.old.errors }
-    {
+    fn begin_line(&mut self) {
         self.settle();
         self.number = self.number.saturating_add(1);
         self.line.clear();
@@ -159,10 +150,7 @@ impl<'p, E: Write> Watch<'p, E> {
     }
 
     /// The line ended: what ends it is dropped, and the first line is read.
-    fn end_line(&mut self, has_line_feed: bool)
-        ensures stays { self.old.has_told ≡ true → self.new.has_told ≡ true }
-        ensures silent { self.new.has_told ≡ false → E.contents self.new.errors ≡ E.contents self.old.errors }
-    {
+    fn end_line(&mut self, has_line_feed: bool) {
         self.is_open = false;
         let is_whole = self.len == self.line.len() as u64;
         if has_line_feed {
@@ -179,10 +167,7 @@ impl<'p, E: Write> Watch<'p, E> {
     }
 
     /// Drops a line feed, and a carriage return before it.
-    fn drop_end(&mut self)
-        ensures stays { self.old.has_told ≡ true → self.new.has_told ≡ true }
-        ensures silent { self.new.has_told ≡ false → E.contents self.new.errors ≡ E.contents self.old.errors }
-    {
+    fn drop_end(&mut self) {
         self.line.pop();
         if self.line.last() == Some(&b'\r') {
             self.line.pop();
@@ -190,10 +175,7 @@ impl<'p, E: Write> Watch<'p, E> {
         }
     }
 
-    fn end_input(&mut self)
-        ensures stays { self.old.has_told ≡ true → self.new.has_told ≡ true }
-        ensures silent { self.new.has_told ≡ false → E.contents self.new.errors ≡ E.contents self.old.errors }
-    {
+    fn end_input(&mut self) {
         self.settle();
         self.is_echoed = true;
         self.is_answered = true;
@@ -215,10 +197,7 @@ impl<'p, E: Write> Watch<'p, E> {
     }
 
     /// The program writes these bytes.
-    pub(crate) fn wrote(&mut self, bytes: &[u8])
-        ensures stays { self.old.has_told ≡ true → self.new.has_told ≡ true }
-        ensures silent { self.new.has_told ≡ false → E.contents self.new.errors ≡ E.contents self.old.errors }
-    {
+    pub(crate) fn wrote(&mut self, bytes: &[u8]) {
         for byte in bytes {
             if *byte == b'\n' {
                 self.end_output();
@@ -229,10 +208,7 @@ impl<'p, E: Write> Watch<'p, E> {
     }
 
     /// A line of the output ended.
-    fn end_output(&mut self)
-        ensures stays { self.old.has_told ≡ true → self.new.has_told ≡ true }
-        ensures silent { self.new.has_told ≡ false → E.contents self.new.errors ≡ E.contents self.old.errors }
-    {
+    fn end_output(&mut self) {
         if self.is_echoed {
             self.is_answered = true;
             let said = said_by(self.alloc, self.program, self.output.as_slice());
@@ -244,10 +220,7 @@ impl<'p, E: Write> Watch<'p, E> {
     }
 
     /// In `play` an event that gave nothing is told of where it is a report of a charge point.
-    fn settle(&mut self)
-        ensures stays { self.old.has_told ≡ true → self.new.has_told ≡ true }
-        ensures silent { self.new.has_told ≡ false → E.contents self.new.errors ≡ E.contents self.old.errors }
-    {
+    fn settle(&mut self) {
         if self.is_answered || self.is_first || self.line.is_empty() {
             return;
         }
@@ -261,10 +234,7 @@ impl<'p, E: Write> Watch<'p, E> {
     }
 
     /// Explains what came to nothing.
-    fn judge(&mut self, said: Said)
-        ensures stays { self.old.has_told ≡ true → self.new.has_told ≡ true }
-        ensures silent { self.new.has_told ≡ false → E.contents self.new.errors ≡ E.contents self.old.errors }
-    {
+    fn judge(&mut self, said: Said) {
         if said.outcome == Outcome::Other {
             return;
         }

@@ -29,8 +29,9 @@
 //!   held, as it is in layout 2, whatever that was (`FindsInFile`). By `Keeps::open`: `found` (`specs/InFiles`).
 //! - What a closing leaves is handed out: the files, locked until they are dropped, which were copied as `node_store`
 //!   says. A `StoreFile` is opened once. By `Keeps::close`: `closed`; that it is opened once: by its type.
-//! - The rows of a file are those that it held; a text that is no row, or no number of a line, is told only where it
-//!   held one. The file was copied as it was closed. By `rows_in` (`specs/InFiles`).
+//! - The rows of a file are those that it held, also where closing it is refused then; a text that is no row, or no number
+//!   of a line, is told only where it held one. A file that was closed was copied; one that was not comes back as its
+//!   store. By `rows_in`: `rows`, `bad` (`WereFound` of `specs/InFiles`).
 //! - A log is removed only while this program holds the locks of its file, and where its name still leads to that file.
 //!   No clause says what lies on a disk (tested by `tools/try_stores`, `faults/open_at_once.py`).
 //! - A closing is refused for what a commit may be refused (`IsCommitFault`). All keepers are closed, also where

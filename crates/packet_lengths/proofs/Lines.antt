@@ -9,18 +9,18 @@ use Rattle.json_text.specs.Line.{max_line}
 use Rattle.ocpi_json.specs.Packets.{packet_in, packet_json, packet_members, packet_text, PacketFits}
 use Rattle.packet_lengths.specs.Lengths.{PacketsHaveShortLines, listed}
 use Rattle.packet_lengths.proofs.Records.{body_needs, kind_short, party_needs}
-use Rattle.packet_lengths.proofs.Sizes.{◌and◌, Needs, print_short, record_needs, text_needs, whole_needs, wider}
+use Rattle.packet_lengths.proofs.Sizes.{◌and◌, Needs, print_short, record_within, text_needs, whole_needs}
 
 packet_needs : (p : Packet) → PacketFits p → Needs (40000 + 2000 * listed p.body) (packet_json p)
 unfolding packet_members
-packet_needs p fits = wider (record_needs ((30000 + 2000 * listed p.body) ∷ 39 ∷ 123 ∷ 19 ∷ 19 ∷ 39 ∷ []) (packet_members p) (
+packet_needs p fits = record_within ((30000 + 2000 * listed p.body) ∷ 39 ∷ 123 ∷ 19 ∷ 19 ∷ 39 ∷ []) (packet_members p) (
     body_needs p.body fits.body
     and party_needs p.from fits.from
     and text_needs 20 _ (kind_short (kind_of p.body))
     and whole_needs p.request fits.request
     and whole_needs p.serial fits.serial
     and party_needs p.to fits.to
-    and tt)) (omega arith)
+    and tt) (omega arith)
 
 pub packets_have_short_lines : PacketsHaveShortLines
 packets_have_short_lines p fits = omega (arith, print_short false (json_tokens (packet_json p)), packet_needs p fits)

@@ -1,5 +1,5 @@
 -- How much the JSON of each record of OCPI needs at most.
-use Rattle.std.proofs.Common.{◌≡◌, ◌≤◌, ◌<◌, ◌+◌, ◌*◌, ℕ, ℤ, suc, Bool, true, false, List, [], ◌∷◌, length, map, Option, Some, None, option_map, Ok, refl, arith, length-append, length-take-le, length-drop}
+use Rattle.std.proofs.Common.{◌≡◌, ◌≤◌, ◌<◌, ◌+◌, ◌*◌, ℕ, ℤ, suc, Bool, true, false, List, [], ◌∷◌, length, map, Option, Some, None, option_map, Ok, refl, arith, length-take, length-drop}
 use Rattle.std.specs.List.{All}
 use Rattle.std.specs.Prelude.{IfSome, unsigned_abs}
 use Rattle.json.specs.Json as json
@@ -70,7 +70,7 @@ use Rattle.ocpi_forms.specs.Tokens.{token_members, TokenFits}
 use Rattle.json_text.specs.Fits.{FitsCi, FitsOption}
 use Rattle.json_text.specs.Members.{items_of, object_of, objects, strings}
 use Rattle.packet_lengths.specs.Lengths.{evses_listed, listed, periods_listed, texts_listed}
-use Rattle.packet_lengths.proofs.Sizes.{◌and◌, Needs, OptionNeeds, ci_needs, e4_needs, free_needs, moment_needs, record_needs, room_append, text_needs, truth_needs, whole_needs, wider}
+use Rattle.packet_lengths.proofs.Sizes.{◌and◌, Needs, OptionNeeds, ci_needs, e4_needs, free_needs, moment_needs, record_needs, record_within, room_append, text_needs, truth_needs, whole_needs, wider}
 
 -- ---- the words of the closed lists, and the halves of a party
 
@@ -143,8 +143,8 @@ kind_short kind.Ack = omega arith
 pub party_needs : (p : List ℕ) → party_at p ≡ Ok p → Needs 39 (json.string p)
 party_needs p h = text_needs 6 p (let six = (party_parts p h).characters in omega arith)
 
-country_needs : (p : List ℕ) → Needs 39 (json.string (country_of p))
-country_needs p = text_needs 6 (country_of p) (omega (arith, length-take-le 2 p))
+country_needs : (p : List ℕ) → party_at p ≡ Ok p → Needs 39 (json.string (country_of p))
+country_needs p h = text_needs 6 (country_of p) (let six = (party_parts p h).characters in omega (arith, length-take 2 p))
 
 party_id_needs : (p : List ℕ) → party_at p ≡ Ok p → Needs 39 (json.string (party_id_of p))
 party_id_needs p h = text_needs 6 (party_id_of p) (let six = (party_parts p h).characters in omega (arith, length-drop 3 p))
@@ -169,7 +169,7 @@ token_needs : (t : Token) → TokenFits t → Needs 3760 (object_of (token_membe
 unfolding token_members
 token_needs t fits = record_needs (219 ∷ 39 ∷ 1563 ∷ 147 ∷ 39 ∷ 123 ∷ 219 ∷ 6 ∷ 123 ∷ []) (token_members t) (
     ci_needs 36 t.contract_id fits.contract_id
-    and country_needs t.party
+    and country_needs t.party fits.party
     and free_needs 64 t.issuer fits.issuer
     and moment_needs t.last_updated
     and party_id_needs t.party fits.party
@@ -184,7 +184,7 @@ cdr_token_needs : (t : CdrToken) → CdrTokenFits t → Needs 1353 (object_of (c
 unfolding cdr_token_members
 cdr_token_needs t fits = record_needs (219 ∷ 39 ∷ 39 ∷ 123 ∷ 219 ∷ []) (cdr_token_members t) (
     ci_needs 36 t.contract_id fits.contract_id
-    and country_needs t.party
+    and country_needs t.party fits.party
     and party_id_needs t.party fits.party
     and word_needs _ (token_type_short t.token_type)
     and ci_needs 36 t.uid fits.uid
@@ -247,11 +247,11 @@ unlock_connector_needs u fits = record_needs (219 ∷ 219 ∷ 219 ∷ 6147 ∷ [
 
 command_needs : (c : Command) → CommandFits c → Needs 30000 (object_of (command_members c))
 unfolding command_members
-command_needs (command.StartSession c) fits = wider (start_session_needs c fits) (omega arith)
-command_needs (command.StopSession c) fits = wider (stop_session_needs c fits) (omega arith)
-command_needs (command.ReserveNow c) fits = wider (reserve_now_needs c fits) (omega arith)
-command_needs (command.CancelReservation c) fits = wider (cancel_reservation_needs c fits) (omega arith)
-command_needs (command.UnlockConnector c) fits = wider (unlock_connector_needs c fits) (omega arith)
+command_needs (command.StartSession c) fits = wider (object_of (start_session_members c)) (start_session_needs c fits) (omega arith)
+command_needs (command.StopSession c) fits = wider (object_of (stop_session_members c)) (stop_session_needs c fits) (omega arith)
+command_needs (command.ReserveNow c) fits = wider (object_of (reserve_now_members c)) (reserve_now_needs c fits) (omega arith)
+command_needs (command.CancelReservation c) fits = wider (object_of (cancel_reservation_members c)) (cancel_reservation_needs c fits) (omega arith)
+command_needs (command.UnlockConnector c) fits = wider (object_of (unlock_connector_members c)) (unlock_connector_needs c fits) (omega arith)
 
 -- ---- replies
 
@@ -265,21 +265,21 @@ response_data_needs r fits = record_needs (123 ∷ 19 ∷ []) (response_data_mem
 command_response_needs : (r : CommandResponse) → CommandResponseFits r → Needs 30000 (object_of (command_response_members r))
 unfolding command_response_members
 command_response_needs (response.Done at r) fits =
-    wider (record_needs (430 ∷ 19 ∷ 147 ∷ []) (command_response_members (response.Done at r)) (
-      response_data_needs r fits.response and whole_needs 1000 (omega arith) and moment_needs at and tt)) (omega arith)
+    record_within (430 ∷ 19 ∷ 147 ∷ []) (command_response_members (response.Done at r)) (
+      response_data_needs r fits.response and whole_needs 1000 (omega arith) and moment_needs at and tt) (omega arith)
 command_response_needs (response.Refused at status) fits =
-    wider (record_needs (19 ∷ 147 ∷ []) (command_response_members (response.Refused at status)) (
-      whole_needs status (let below = fits.below in omega arith) and moment_needs at and tt)) (omega arith)
+    record_within (19 ∷ 147 ∷ []) (command_response_members (response.Refused at status)) (
+      whole_needs status (let below = fits.below in omega arith) and moment_needs at and tt) (omega arith)
 
 command_result_needs : (r : CommandResult) → CommandResultFits r → Needs 30000 (object_of (command_result_members r))
 unfolding command_result_members
-command_result_needs r fits = wider (record_needs (6147 ∷ 123 ∷ []) (command_result_members r) (
-    free_needs 255 r.response_url fits.response_url and word_needs _ (outcome_short r.result) and tt)) (omega arith)
+command_result_needs r fits = record_within (6147 ∷ 123 ∷ []) (command_result_members r) (
+    free_needs 255 r.response_url fits.response_url and word_needs _ (outcome_short r.result) and tt) (omega arith)
 
 ack_needs : (a : Ack) → AckFits a → Needs 30000 (object_of (ack_members a))
 unfolding ack_members
-ack_needs a fits = wider (record_needs (19 ∷ 147 ∷ []) (ack_members a) (
-    whole_needs a.status_code (let most = fits.most in omega arith) and moment_needs a.timestamp and tt)) (omega arith)
+ack_needs a fits = record_within (19 ∷ 147 ∷ []) (ack_members a) (
+    whole_needs a.status_code (let most = fits.most in omega arith) and moment_needs a.timestamp and tt) (omega arith)
 
 -- ---- authorizations
 
@@ -296,8 +296,8 @@ optional_uids (Some uids) fits = omega (arith, uids_need uids fits)
 
 location_needs : (l : LocationReferences) → LocationReferencesFits l → Needs (600 + 2000 * texts_listed l.evse_uids) (object_of (location_references_members l))
 unfolding location_references_members
-location_needs l fits = wider (record_needs ((4 + 2000 * texts_listed l.evse_uids) ∷ 219 ∷ []) (location_references_members l) (
-    optional_uids l.evse_uids fits.evse_uids and ci_needs 36 l.location_id fits.location_id and tt)) (omega arith)
+location_needs l fits = record_within ((4 + 2000 * texts_listed l.evse_uids) ∷ 219 ∷ []) (location_references_members l) (
+    optional_uids l.evse_uids fits.evse_uids and ci_needs 36 l.location_id fits.location_id and tt) (omega arith)
 
 optional_location : (o : Option LocationReferences) → IfSome o LocationReferencesFits → OptionNeeds (600 + 2000 * evses_listed o) (option_map object_of (option_map location_references_members o))
 optional_location None fits = tt
@@ -305,8 +305,8 @@ optional_location (Some l) fits = location_needs l fits
 
 authorize_needs : (a : Authorize) → AuthorizeFits a → Needs (30000 + 2000 * evses_listed a.location) (object_of (authorize_members a))
 unfolding authorize_members
-authorize_needs a fits = wider (record_needs ((600 + 2000 * evses_listed a.location) ∷ 219 ∷ 123 ∷ []) (authorize_members a) (
-    optional_location a.location fits.location and ci_needs 36 a.token_uid fits.token_uid and optional_type a.token_type and tt)) (omega arith)
+authorize_needs a fits = record_within ((600 + 2000 * evses_listed a.location) ∷ 219 ∷ 123 ∷ []) (authorize_members a) (
+    optional_location a.location fits.location and ci_needs 36 a.token_uid fits.token_uid and optional_type a.token_type and tt) (omega arith)
 
 authorization_info_needs : (i : AuthorizationInfo) → AuthorizationInfoFits i → Needs 4532 (object_of (authorization_info_members i))
 unfolding authorization_info_members
@@ -316,22 +316,22 @@ authorization_info_needs i fits = record_needs (123 ∷ 219 ∷ 3760 ∷ []) (au
 authorization_needs : (a : Authorization) → AuthorizationFits a → Needs 30000 (object_of (authorization_members a))
 unfolding authorization_members
 authorization_needs (authorization.Done at i) fits =
-    wider (record_needs (4532 ∷ 19 ∷ 147 ∷ []) (authorization_members (authorization.Done at i)) (
-      authorization_info_needs i fits.info and whole_needs 1000 (omega arith) and moment_needs at and tt)) (omega arith)
+    record_within (4532 ∷ 19 ∷ 147 ∷ []) (authorization_members (authorization.Done at i)) (
+      authorization_info_needs i fits.info and whole_needs 1000 (omega arith) and moment_needs at and tt) (omega arith)
 authorization_needs (authorization.Refused at status) fits =
-    wider (record_needs (19 ∷ 147 ∷ []) (authorization_members (authorization.Refused at status)) (
-      whole_needs status (let below = fits.below in omega arith) and moment_needs at and tt)) (omega arith)
+    record_within (19 ∷ 147 ∷ []) (authorization_members (authorization.Refused at status)) (
+      whole_needs status (let below = fits.below in omega arith) and moment_needs at and tt) (omega arith)
 
 -- ---- sessions
 
 session_needs : (s : Session) → SessionFits s → Needs 30000 (object_of (session_members s))
 unfolding session_members
-session_needs s fits = wider (record_needs (123 ∷ 219 ∷ 1353 ∷ 219 ∷ 39 ∷ 99 ∷ 147 ∷ 219 ∷ 219 ∷ 18 ∷ 147 ∷ 219 ∷ 39 ∷ 147 ∷ 123 ∷ 164 ∷ []) (session_members s) (
+session_needs s fits = record_within (123 ∷ 219 ∷ 1353 ∷ 219 ∷ 39 ∷ 99 ∷ 147 ∷ 219 ∷ 219 ∷ 18 ∷ 147 ∷ 219 ∷ 39 ∷ 147 ∷ 123 ∷ 164 ∷ []) (session_members s) (
     word_needs _ (method_short s.auth_method)
     and optional_ci 36 s.authorization_reference fits.authorization_reference
     and cdr_token_needs s.cdr_token fits.cdr_token
     and ci_needs 36 s.connector_id fits.connector_id
-    and country_needs s.party
+    and country_needs s.party fits.party
     and free_needs 3 s.currency fits.currency
     and optional_moment_needs s.end_date_time
     and ci_needs 36 s.evse_uid fits.evse_uid
@@ -343,7 +343,7 @@ session_needs s fits = wider (record_needs (123 ∷ 219 ∷ 1353 ∷ 219 ∷ 39 
     and moment_needs s.start_date_time
     and word_needs _ (status_short s.status)
     and optional_price s.total_cost fits.total_cost
-    and tt)) (omega arith)
+    and tt) (omega arith)
 
 -- ---- charge detail records
 
@@ -382,8 +382,8 @@ dimensions_need (x ∷ xs) all =
 
 period_needs : (p : ChargingPeriod) → ChargingPeriodFits p → Needs (2000 + 2000 * length p.dimensions) (object_of (charging_period_members p))
 unfolding charging_period_members
-period_needs p fits = wider (record_needs ((4 + 2000 * length p.dimensions) ∷ 147 ∷ []) (charging_period_members p) (
-    omega (arith, dimensions_need p.dimensions fits.dimensions) and moment_needs p.start_date_time and tt)) (omega arith)
+period_needs p fits = record_within ((4 + 2000 * length p.dimensions) ∷ 147 ∷ []) (charging_period_members p) (
+    omega (arith, dimensions_need p.dimensions fits.dimensions) and moment_needs p.start_date_time and tt) (omega arith)
 
 periods_need : (ps : List ChargingPeriod) → All ChargingPeriodFits ps → room (items_tokens (items_of (objects charging_period_members ps))) ≤ 2 + 2000 * periods_listed ps
 periods_need [] all = omega arith
@@ -398,13 +398,13 @@ sent_credit (Some reference) = truth_needs true
 
 cdr_needs : (c : Cdr) → CdrFits c → Needs (30000 + 2000 * periods_listed c.charging_periods) (object_of (cdr_members c))
 unfolding cdr_members_in
-cdr_needs c fits = wider (record_needs (123 ∷ 219 ∷ 10362 ∷ 1353 ∷ (4 + 2000 * periods_listed c.charging_periods) ∷ 39 ∷ 6 ∷ 237 ∷ 99 ∷ 147 ∷ 237 ∷ 147 ∷ 39 ∷ 219 ∷ 147 ∷ 164 ∷ 18 ∷ 18 ∷ []) (cdr_members c) (
+cdr_needs c fits = record_within (123 ∷ 219 ∷ 10362 ∷ 1353 ∷ (4 + 2000 * periods_listed c.charging_periods) ∷ 39 ∷ 6 ∷ 237 ∷ 99 ∷ 147 ∷ 237 ∷ 147 ∷ 39 ∷ 219 ∷ 147 ∷ 164 ∷ 18 ∷ 18 ∷ []) (cdr_members c) (
     word_needs _ (method_short c.auth_method)
     and optional_ci 36 c.authorization_reference fits.authorization_reference
     and cdr_location_needs c.cdr_location fits.cdr_location
     and cdr_token_needs c.cdr_token fits.cdr_token
     and omega (arith, periods_need c.charging_periods fits.charging_periods)
-    and country_needs c.party
+    and country_needs c.party fits.party
     and sent_credit c.credit_reference_id
     and optional_ci 39 c.credit_reference_id fits.credit_reference_id
     and free_needs 3 c.currency fits.currency
@@ -417,21 +417,18 @@ cdr_needs c fits = wider (record_needs (123 ∷ 219 ∷ 10362 ∷ 1353 ∷ (4 + 
     and price_needs c.total_cost fits.total_cost
     and e4_needs c.total_energy fits.total_energy.bound
     and e4_needs c.total_time fits.total_time.bound
-    and tt)) (omega arith)
+    and tt) (omega arith)
 
 -- ---- bodies
 
-none_more : {j : json.Json} → Needs 30000 j → Needs (30000 + 2000 * 0) j
-none_more fits = fits
-
 pub body_needs : (b : Body) → BodyFits b → Needs (30000 + 2000 * listed b) (object_of (body_members b))
 unfolding body_members
-body_needs (body.Command c) fits = none_more (command_needs c fits)
-body_needs (body.CommandResponse b) fits = none_more (command_response_needs b fits)
-body_needs (body.CommandResult b) fits = none_more (command_result_needs b fits)
-body_needs (body.PutToken b) fits = none_more (wider (token_needs b fits) (omega arith))
+body_needs (body.Command c) fits = command_needs c fits
+body_needs (body.CommandResponse b) fits = command_response_needs b fits
+body_needs (body.CommandResult b) fits = command_result_needs b fits
+body_needs (body.PutToken b) fits = wider (object_of (token_members b)) (token_needs b fits) (omega arith)
 body_needs (body.Authorize b) fits = authorize_needs b fits
-body_needs (body.Authorization b) fits = none_more (authorization_needs b fits)
-body_needs (body.PutSession b) fits = none_more (session_needs b fits)
+body_needs (body.Authorization b) fits = authorization_needs b fits
+body_needs (body.PutSession b) fits = session_needs b fits
 body_needs (body.PostCdr b) fits = cdr_needs b fits
-body_needs (body.Ack b) fits = none_more (ack_needs b fits)
+body_needs (body.Ack b) fits = ack_needs b fits

@@ -1,6 +1,6 @@
 -- The text of a JSON value is no longer than its room: what its tokens have, each with a comma.
 use Rattle.std.proofs.Common.{◌≡◌, ◌≤◌, ◌<◌, ◌+◌, ◌*◌, ℕ, ℤ, zero, suc, Bool, true, false, cond, List, [], ◌∷◌, ◌++◌, length, decimal, Option, Some, None, refl, arith, length-append}
-use Rattle.std.specs.Prelude.{◌/◌, ◌%◌, ◌==◌, if◌then◌else◌, nat_lt, unsigned_abs}
+use Rattle.std.specs.Prelude.{◌-◌, ◌/◌, ◌%◌, ◌==◌, if◌then◌else◌, nat_lt, unsigned_abs}
 use Rattle.std.specs.Char.{digit_char}
 use Rattle.std.specs.Int.{is_negative}
 use Rattle.std.specs.Str.{chars, chars_after, continuation_len, lead_bits}
@@ -24,7 +24,7 @@ use Rattle.json_text.specs.Members.{Member, and_before, members_of, object_of}
 separator_short : (b : Bool) (t : Token) → length (separator b t) ≤ 1
 separator_short false t = omega arith
 separator_short true t = at (begins t) where
-  at : (s : Bool) → length (cond s (44 ∷ []) []) ≤ 1
+  at : (s : Bool) → length {A = ℕ} (cond s (44 ∷ []) []) ≤ 1
   at false = omega arith
   at true = omega arith
 
@@ -37,7 +37,7 @@ print_short b (t ∷ ts) =
     omega (arith, length-append (separator b t) (token_text t ++ print_from (ends t) ts), length-append (token_text t) (print_from (ends t) ts), rest, first)
 
 pub room_append : (xs ys : List Token) → room (xs ++ ys) ≡ room xs + room ys
-room_append [] ys = refl
+room_append [] ys = omega arith
 room_append (x ∷ xs) ys = omega (arith, room_append xs ys)
 
 byte_short : (x : ℕ) → length (escape_byte x) ≤ 6
@@ -85,7 +85,7 @@ after_short : (n c : ℕ) (bs : List ℕ) → length bs ≤ 4 * length (chars_af
 after_short zero c [] = omega arith
 after_short zero c (b ∷ bs) = omega (arith, after_short (continuation_len b) (lead_bits b) bs, continuations b)
 after_short (suc n) c [] = omega arith
-after_short (suc n) c (b ∷ bs) = omega (arith, after_short n _ bs)
+after_short (suc n) c (b ∷ bs) = omega (arith, after_short n (c * 64 + (b - 128)) bs)
 
 -- a character has at most four bytes, and what ends inside one fewer
 chars_short : (s : List ℕ) → length s ≤ 4 * length (chars s) + 4
@@ -174,5 +174,8 @@ members_need (n ∷ ns) (m ∷ ms) fits = omega (arith, member_needs m.field n (
 pub record_needs : (ns : List ℕ) (ms : List Member) → MembersNeed ns ms → Needs (4 + total ns) (object_of ms)
 record_needs ns ms fits = omega (arith, members_need ns ms fits)
 
-pub wider : {least most : ℕ} {j : json.Json} → Needs least j → least ≤ most → Needs most j
-wider fits le = omega arith
+pub record_within : (ns : List ℕ) (ms : List Member) {most : ℕ} → MembersNeed ns ms → 4 + total ns ≤ most → Needs most (object_of ms)
+record_within ns ms fits le = omega (arith, record_needs ns ms fits, le)
+
+pub wider : (j : json.Json) {least most : ℕ} → Needs least j → least ≤ most → Needs most j
+wider j fits le = omega arith
