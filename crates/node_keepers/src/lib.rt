@@ -34,7 +34,7 @@
 //!   store. By `rows_in`: `rows`, `bad` (`WereFound` of `specs/InFiles`).
 //! - A log is removed only while this program holds the locks of its file, and where its name still leads to that file.
 //!   No clause says what lies on a disk (tested by `tools/try_stores`, `faults/open_at_once.py`).
-//! - A closing is refused for what a commit may be refused, `Refused` or `Memory`. All keepers are closed, also where
+//! - A closing is refused for what a commit may be refused (`IsCommitFault`). All keepers are closed, also where
 //!   one is refused, and where a later one is not opened. By `Keeps::close`, `close_all`: the fault; that all are, and
 //!   what each left, none (proved; the rest by reading).
 //! - The rows of the i-th node are in `node<i>.db`, and new files are empty. No clause says so: a `Keep` has no name

@@ -266,10 +266,10 @@ command_response_needs : (r : CommandResponse) → CommandResponseFits r → Nee
 unfolding command_response_members
 command_response_needs (response.Done at r) fits =
     record_within (430 ∷ 19 ∷ 147 ∷ []) (command_response_members (response.Done at r)) (
-      response_data_needs r fits.response and whole_needs 1000 (omega arith) and moment_needs at and tt) (omega arith)
+    response_data_needs r fits.response and whole_needs 1000 (omega arith) and moment_needs at and tt) (omega arith)
 command_response_needs (response.Refused at status) fits =
     record_within (19 ∷ 147 ∷ []) (command_response_members (response.Refused at status)) (
-      whole_needs status (let below = fits.below in omega arith) and moment_needs at and tt) (omega arith)
+    whole_needs status (let below = fits.below in omega arith) and moment_needs at and tt) (omega arith)
 
 command_result_needs : (r : CommandResult) → CommandResultFits r → Needs 30000 (object_of (command_result_members r))
 unfolding command_result_members
@@ -317,10 +317,10 @@ authorization_needs : (a : Authorization) → AuthorizationFits a → Needs 3000
 unfolding authorization_members
 authorization_needs (authorization.Done at i) fits =
     record_within (4532 ∷ 19 ∷ 147 ∷ []) (authorization_members (authorization.Done at i)) (
-      authorization_info_needs i fits.info and whole_needs 1000 (omega arith) and moment_needs at and tt) (omega arith)
+    authorization_info_needs i fits.info and whole_needs 1000 (omega arith) and moment_needs at and tt) (omega arith)
 authorization_needs (authorization.Refused at status) fits =
     record_within (19 ∷ 147 ∷ []) (authorization_members (authorization.Refused at status)) (
-      whole_needs status (let below = fits.below in omega arith) and moment_needs at and tt) (omega arith)
+    whole_needs status (let below = fits.below in omega arith) and moment_needs at and tt) (omega arith)
 
 -- ---- sessions
 

@@ -14,10 +14,7 @@ pub fn packets_have_short_lines()
 {}
 
 /// The line of a packet that lists at most 500 is read as that packet. It is what `write_packet` writes.
-pub fn written_packets_are_read_again(
-    alloc: Global,
-    packet: &Packet,
-) -> Result<String, AllocError>
+pub fn written_packets_are_read_again(alloc: Global, packet: &Packet) -> Result<String, AllocError>
     ensures { IfOk result (λ s. listed packet.now.body ≤ 500 → packet_in (string_bytes s) ≡ Ok packet.now) }
 {
     packets_have_short_lines();
