@@ -88,15 +88,24 @@ class Questions(ClientCase):
     async def ask(self) -> None:
         await self.carry(self.packet("authorize", 5, {"token_uid": "AA01", "type": "RFID", "location": self.place}))
 
-    async def test_a_refusal_over_http_is_an_answer_and_a_fault_is_none(self) -> None:
+    async def test_what_the_providers_node_did_not_send_is_no_packet(self) -> None:
         async def refuses(received: Received) -> web.StreamResponse:
             return answered(status_code=2004)
-        for answer in (fails(404), refuses, fails(500)):
+
+        async def numbered(received: Received) -> web.StreamResponse:
+            response = answered(status_code=2004, headers={"X-Serial": "9"})
+            response.set_status(404)
+            return response
+        for answer in (fails(404), refuses, numbered, fails(500)):
             self.party.answers["tokens"] = answer
             await self.ask()
-        self.assertEqual([("authorization", 5, 2001), ("authorization", 5, 2004)],
-                         [(answer.kind, answer.request, answer.body["status_code"]) for answer in self.delivered])
-        self.assertEqual({"status_code", "timestamp"}, set(self.delivered[0].body))
+            self.assertEqual([], self.delivered)
+
+    async def test_a_refusal_by_the_providers_node_is_its_packet(self) -> None:
+        self.party.answers["tokens"] = with_serial(status_code=2004, serial=9)
+        await self.ask()
+        self.assertEqual([("authorization", 5, 9, 2004)], [
+            (answer.kind, answer.request, answer.serial, answer.body["status_code"]) for answer in self.delivered])
 
     async def test_the_location_is_the_body(self) -> None:
         self.party.answers["tokens"] = with_serial({"allowed": "ALLOWED", "token": token("NL/TNM")})
