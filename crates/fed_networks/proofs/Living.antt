@@ -1,5 +1,5 @@
 -- The life of a node is a run of it.
-use Rattle.std.proofs.Common.{◌≡◌, ℕ, List, [], ◌∷◌, ◌++◌, Option, refl, sym, subst, append_assoc, append-nil}
+use Rattle.std.proofs.Common.{ℕ, List, [], ◌∷◌, ◌++◌, Option, refl, sym, subst, append_assoc, append-nil}
 use Rattle.std.specs.Prelude.{Contains}
 use Rattle.feeding_laws.specs.Feeding.{CameOnce, next_came, none_came, starts}
 use Rattle.history_laws.proofs.Replaying.{operator_happens, provider_happens}

@@ -1,9 +1,7 @@
 -- A node of either role that starts again under another setup.
-use Rattle.std.proofs.Common.{◌≡◌, ℕ, List, refl, sym, ap, subst, ◌∙◌}
+use Rattle.std.proofs.Common.{List, refl, sym, ap, subst, ◌∙◌}
 use Rattle.history_laws.proofs.Replaying.{own_operator, own_provider, party_stays}
-use Rattle.node_core.specs.Members.{IsMadeOfRows, line_of, peers_of}
-use Rattle.network_laws.specs.Steps.{NodeHappens}
-use Rattle.ocpi_types.specs.declared.rows.Row.{Row}
+use Rattle.node_core.specs.Members.{line_of, peers_of}
 use Rattle.ocpi_types.specs.declared.setup.Node.{Node}
 use Rattle.ocpi_types.specs.declared.setup.Node.TheVariants as node
 use Rattle.operator_rows.specs.State as operator_state
@@ -13,8 +11,7 @@ use Rattle.provider_rows.specs.State as provider_state
 use Rattle.provider_steps.specs.Events as provider
 use Rattle.provider_steps.specs.Moves as provider_moves
 use Rattle.reopening_laws.proofs.Reopening.{operators_reopen, providers_reopen}
-use Rattle.reopening_laws.specs.Nodes.{IsAlike, IsNodeOf, NodesReopen, NodesStay, start_of}
-use Rattle.stored_laws.specs.Nodes.{AreNodeRows, CanStartAgain}
+use Rattle.reopening_laws.specs.Nodes.{IsNodeOf, NodesReopen, NodesStay}
 use Rattle.world_steps.specs.Steps.{AtOperator, AtProvider, NodeEvent, NodeStep}
 use Rattle.world_steps.specs.World.{NodeState, Operates, Provides, opening_of}
 
