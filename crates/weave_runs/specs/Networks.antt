@@ -20,7 +20,8 @@ BeginWithoutRows told = (t : Transcript) → Contains told t → (x : Opening) (
 -- each later run of a transcript spells the party of its node as the first does, in the same role
 abbrev pub IsSpelledAlike : Transcript → Type 0
 IsSpelledAlike t =
-    (x : Opening) (xs : List Opening) → t.openings ≡ x ∷ xs → (y : Opening) → Contains xs y → (m n : Node) → slice_get x.setup x.member ≡ Some m → slice_get y.setup y.member ≡ Some n → IsAlike m n
+    (x : Opening) (xs : List Opening) → t.openings ≡ x ∷ xs → (y : Opening) → Contains xs y
+    → (m n : Node) → slice_get x.setup x.member ≡ Some m → slice_get y.setup y.member ≡ Some n → IsAlike m n
 
 abbrev pub AreSpelledAlike : List Transcript → Type 0
 AreSpelledAlike told = (t : Transcript) → Contains told t → IsSpelledAlike t
@@ -40,7 +41,8 @@ pub record IsLifeTold (t : Transcript) (l : NodeLife) : Type 0 where
   pub member : Node
   pub is_member : slice_get first.setup first.member ≡ Some member
   pub setup : l.setup ≡ setup_of first.setup member
-  pub starts : (k at : ℕ) (e : NodeEvent) → slice_get t.sources k ≡ Some (Restarted at) → slice_get l.events k ≡ Some e → (x : Opening) × (slice_get t.openings at ≡ Some x) × IsStartOf x e
+  pub starts : (k at : ℕ) (e : NodeEvent) → slice_get t.sources k ≡ Some (Restarted at) → slice_get l.events k ≡ Some e
+      → (x : Opening) × (slice_get t.openings at ≡ Some x) × IsStartOf x e
 
 abbrev pub AreLivesTold : List Transcript → List NodeLife → Type 0
 AreLivesTold told lives = (i : ℕ) (t : Transcript) (l : NodeLife) → slice_get told i ≡ Some t → slice_get lives i ≡ Some l → IsLifeTold t l
