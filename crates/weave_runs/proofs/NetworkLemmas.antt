@@ -19,7 +19,6 @@ use Rattle.histories.proofs.Lists.{in_later, is_in, place_in, some_same}
 use Rattle.history_laws.specs.Replays.{Does, EntryStep, Idle}
 use Rattle.network_laws.specs.Setups as networks
 use Rattle.node_core.specs.Members.{IsMadeOfRows}
-use Rattle.node_replay.specs.Replayed.{restart_entry}
 use Rattle.reopening_laws.specs.Nodes.{IsAlike, IsNodeOf, NodesReopen, NodesStay, setup_of, start_of}
 use Rattle.replays.specs.Happenings.{Came, Happening, Opened, OpenedRun, Placed, entries_behind, openings_in}
 use Rattle.replays.specs.LineTurns.{Held}
@@ -28,7 +27,7 @@ use Rattle.replays.specs.Transcripts.{Transcript, opening_of as run_of, teller}
 use Rattle.replays.specs.declared.transcript.Opening.{Opening}
 use Rattle.replays.specs.declared.transcript.Source.{Source}
 use Rattle.replays.specs.declared.transcript.Source.TheVariants.{Echoed, Restarted}
-use Rattle.stored_laws.specs.Nodes.{AreNodeRows, CanStartAgain, last_serial}
+use Rattle.stored_laws.specs.Nodes.{CanStartAgain, last_serial}
 use Rattle.tables.proofs.Elements.{in_front, in_none, in_single}
 use Rattle.weave.specs.Given.{InterleavesWith}
 use Rattle.world_laws.specs.Laws.{IsSetup}
@@ -36,13 +35,13 @@ use Rattle.world_laws.proofs.Setups.{are_peers_of, by_form_of}
 use Rattle.world_steps.proofs.Places.{of_mapped}
 use Rattle.world_steps.specs.Steps.{NodeEvent}
 use Rattle.world_steps.specs.World.{NodeState, opening_of}
-use Rattle.weave_runs.specs.Histories.{AreHistories, AreTold, AreTranscripts, Lived, lived, lived_told, serial_before}
+use Rattle.weave_runs.specs.Histories.{AreHistories, AreTold, AreTranscripts, Lived, serial_before}
 use Rattle.weave_runs.specs.Networks.{AreLivesTold, AreOfNetwork, AreSpelledAlike, BeginWithoutRows, IsLifeTold, IsStartOf}
 use Rattle.weave_runs.specs.Parties.{AreGiven, HasFile, HaveNoFile}
 use Rattle.weave_runs.specs.declared.told.TranscriptFile.{TranscriptFile}
-use Rattle.weave_runs.proofs.LifeLemmas.{Leads, OpensSo}
+use Rattle.weave_runs.proofs.LifeLemmas.{Leads}
 use Rattle.weave_runs.proofs.NumberLemmas.{entry_can}
-use Rattle.weave_runs.proofs.SourceLemmas.{IsLifeOf, OfFile, StandsBehind, life_at, next_behind, stands_there, teller_is}
+use Rattle.weave_runs.proofs.SourceLemmas.{IsLifeOf, StandsBehind, life_at, next_behind, stands_there, teller_is}
 use Rattle.weave_runs.proofs.ToldLemmas.{sizes, told_at}
 use Rattle.weave_runs.proofs.WorldLemmas.{opened_first}
 
