@@ -19,11 +19,13 @@ use Rattle.histories.proofs.Lists.{in_later, is_in, place_in, some_same}
 use Rattle.history_laws.specs.Replays.{Does, EntryStep, Idle}
 use Rattle.network_laws.specs.Setups as networks
 use Rattle.node_core.specs.Members.{IsMadeOfRows}
+use Rattle.operator_steps.specs.Events as operator
+use Rattle.provider_steps.specs.Events as provider
 use Rattle.reopening_laws.specs.Nodes.{IsAlike, IsNodeOf, NodesReopen, NodesStay, setup_of, start_of}
 use Rattle.replays.specs.Happenings.{Came, Happening, Opened, OpenedRun, Placed, entries_behind, openings_in}
 use Rattle.replays.specs.LineTurns.{Held}
 use Rattle.replays.specs.Telling.{AreRunsOf, AreSourcesOf, IsRunOf}
-use Rattle.replays.specs.Transcripts.{Transcript, opening_of as run_of, teller}
+use Rattle.replays.specs.Transcripts.{Transcript, teller}
 use Rattle.replays.specs.declared.transcript.Opening.{Opening}
 use Rattle.replays.specs.declared.transcript.Source.{Source}
 use Rattle.replays.specs.declared.transcript.Source.TheVariants.{Echoed, Restarted}
@@ -33,10 +35,11 @@ use Rattle.weave.specs.Given.{InterleavesWith}
 use Rattle.world_laws.specs.Laws.{IsSetup}
 use Rattle.world_laws.proofs.Setups.{are_peers_of, by_form_of}
 use Rattle.world_steps.proofs.Places.{of_mapped}
-use Rattle.world_steps.specs.Steps.{NodeEvent}
-use Rattle.world_steps.specs.World.{NodeState, opening_of}
+use Rattle.world_steps.specs.Steps as steps
+use Rattle.world_steps.specs.Steps.{AtOperator, AtProvider, NodeEvent, NodeStep}
+use Rattle.world_steps.specs.World.{NodeState, Operates, Provides, opening_of}
 use Rattle.weave_runs.specs.Histories.{AreHistories, AreTold, AreTranscripts, Lived, serial_before}
-use Rattle.weave_runs.specs.Networks.{AreLivesTold, AreOfNetwork, AreSpelledAlike, BeginWithoutRows, IsLifeTold, IsStartOf}
+use Rattle.weave_runs.specs.Networks.{AreLivesTold, AreOfNetwork, AreSpelledAlike, BeginWithoutRows, IsEventFrom, IsLifeTold, IsStartOf}
 use Rattle.weave_runs.specs.Parties.{AreGiven, HasFile, HaveNoFile}
 use Rattle.weave_runs.specs.declared.told.TranscriptFile.{TranscriptFile}
 use Rattle.weave_runs.proofs.LifeLemmas.{Leads}
@@ -79,13 +82,30 @@ sent_nothing : (setup : List Node) (m : Node) → last_serial (opening_of setup 
 sent_nothing setup (node.Operator party site) = refl
 sent_nothing setup (node.Provider party) = refl
 
+-- what a node does by an event of its history is no start under a setup
+no_start : (s u : NodeState) (x : NodeEvent) → NodeStep s x u → IsStart x → ⊥
+no_start (Operates s) (Operates u) (AtOperator e) (steps.Done by) (line, is) = subst (λ i. operator.Asks s i by.work) (ap (λ (f : operator.Event). f.input) is) by.line
+no_start (Operates s) (Operates u) (AtOperator e) (steps.Restarted now out) (line, is) =
+    let bad : operator.Restarts ≡ operator.Reopens line = sym now ∙ ap (λ (f : operator.Event). f.input) is in cc
+no_start (Provides s) (Provides u) (AtProvider e) (steps.Done by) (p, is) = subst (λ i. provider.Asks s i by.acts) (ap (λ (f : provider.Event). f.input) is) by.line
+no_start (Provides s) (Provides u) (AtProvider e) (steps.Restarted now out) (p, is) =
+    let bad : provider.Restarts ≡ provider.Reopens p = sym now ∙ ap (λ (f : provider.Event). f.input) is in cc
+no_start (Operates s) (Provides u) (AtOperator e) step start = absurd step
+no_start (Operates s) u (AtProvider e) step start = absurd step
+no_start (Provides s) (Operates u) (AtProvider e) step start = absurd step
+no_start (Provides s) u (AtOperator e) step start = absurd step
+
+nothing_starts : (s : NodeState) → IsStart (nothing_at s) → ⊥
+nothing_starts (Operates s) (line, is) = let bad : operator.Ticks 0 ≡ operator.Reopens line = ap (λ (f : operator.Event). f.input) is in cc
+nothing_starts (Provides s) (p, is) = let bad : provider.Ticks 0 ≡ provider.Reopens p = ap (λ (f : provider.Event). f.input) is in cc
+
 -- ---- a life
 
--- each later opening is a start under its setup
+-- each later opening is a start under its setup, and nothing else is one
 abbrev StartsBy : List Happening → List NodeEvent → Type 0
 StartsBy [] events = Unit {0}
 StartsBy (Came text x ∷ hs) [] = ⊥
-StartsBy (Came text x ∷ hs) (e ∷ es) = StartsBy hs es
+StartsBy (Came text x ∷ hs) (e ∷ es) = (IsStart e → ⊥) × StartsBy hs es
 StartsBy (Opened o ∷ hs) [] = ⊥
 StartsBy (Opened o ∷ hs) (e ∷ es) = (e ≡ start_of o.setup o.member) × StartsBy hs es
 
@@ -104,8 +124,8 @@ module _ (reopen : NodesReopen) (stay : NodesStay) (w : List ℕ) (m : Node) whe
   entry_stays s u e (Idle idle) own = subst (IsNodeOf m) (sym idle.same) own
 
   came_so : (s u t : NodeState) (text : List ℕ) (x : Placed) (hs : List Happening) → EntryStep s x.entry u → IsLived u hs t → IsLived s (Came text x ∷ hs) t
-  came_so s u t text x hs (Does y did) later = record { events = y ∷ later.events; lives = (u, IsDone did, later.lives); starts = later.starts }
-  came_so s u t text x hs (Idle idle) later = record { events = nothing_at s ∷ later.events; lives = (u, IsIdle idle refl, later.lives); starts = later.starts }
+  came_so s u t text x hs (Does y did) later = record { events = y ∷ later.events; lives = (u, IsDone did, later.lives); starts = (no_start s u y did.step, later.starts) }
+  came_so s u t text x hs (Idle idle) later = record { events = nothing_at s ∷ later.events; lives = (u, IsIdle idle refl, later.lives); starts = (nothing_starts s, later.starts) }
 
   life_behind : (p : List ℕ) (s t : NodeState) (hs : List Happening) → CanStartAgain s → IsNodeOf m s → AreAlike m (openings_in hs) → Leads w p s hs t → IsLived s hs t
   life_behind p s t [] can own alike leads = record { events = []; lives = leads; starts = tt }
@@ -122,36 +142,33 @@ module _ (reopen : NodesReopen) (stay : NodesStay) (w : List ℕ) (m : Node) whe
 
 -- ---- the starts, by the openings
 
--- the event is a start under the setup of that run
-abbrev IsStartAt : List Opening → ℕ → NodeEvent → Type 0
-IsStartAt openings at e = (x : Opening) × (slice_get openings at ≡ Some x) × IsStartOf x e
-
 start_told : (o : OpenedRun) (x : Opening) → IsRunOf o x → (e : NodeEvent) → e ≡ start_of o.setup o.member → IsStartOf x e
 start_told o x is e starts = (o.member, is.2, starts ∙ ap (λ (ns : List Node). start_of ns o.member) is.1)
 
 module _ (openings : List Opening) where
   each_start : (hs : List Happening) (n : ℕ) (x : Opening) (later : List Opening) (sources : List Source) (events : List NodeEvent) → StandsBehind openings n x later
       → AreRunsOf (openings_in hs) later → AreSourcesOf (suc n) hs sources → StartsBy hs events
-      → (k at : ℕ) (e : NodeEvent) → slice_get sources k ≡ Some (Restarted at) → slice_get events k ≡ Some e → IsStartAt openings at e
-  each_start [] n x later [] events stand runs are starts k at e here there = cc
-  each_start [] n x later (s ∷ sources) events stand runs are starts k at e here there = absurd are
-  each_start (Came text z ∷ hs) n x later [] events stand runs are starts k at e here there = absurd are
-  each_start (Came text z ∷ hs) n x later (Restarted place ∷ sources) events stand runs are starts k at e here there = absurd are
-  each_start (Came text z ∷ hs) n x later (Echoed place line ∷ sources) [] stand runs are starts k at e here there = absurd starts
-  each_start (Came text z ∷ hs) n x later (Echoed place line ∷ sources) (f ∷ events) stand runs are starts zero at e here there =
-      let bad : Echoed place line ≡ Restarted at = some_same (Echoed place line) (Restarted at) here in absurd (cc)
-  each_start (Came text z ∷ hs) n x later (Echoed place line ∷ sources) (f ∷ events) stand runs (number, text_at, are) starts (suc k) at e here there =
-      each_start hs n x later sources events stand runs are starts k at e here there
-  each_start (Opened o ∷ hs) n x later [] events stand runs are starts k at e here there = absurd are
-  each_start (Opened o ∷ hs) n x later (Echoed place line ∷ sources) events stand runs are starts k at e here there = absurd are
-  each_start (Opened o ∷ hs) n x [] (Restarted place ∷ sources) events stand runs are starts k at e here there = absurd runs
-  each_start (Opened o ∷ hs) n x (v ∷ later) (Restarted place ∷ sources) [] stand runs are starts k at e here there = absurd starts
-  each_start (Opened o ∷ hs) n x (v ∷ later) (Restarted place ∷ sources) (f ∷ events) stand runs (number, are) starts zero at e here there =
-      let same : at ≡ suc n = sym (ap run_of (some_same (Restarted place) (Restarted at) here)) ∙ number in
-      (v, ap (slice_get openings) same ∙ stands_there openings (suc n) v later (next_behind openings n x v later stand),
-          start_told o v runs.0 e (sym (some_same f e there) ∙ starts.0))
-  each_start (Opened o ∷ hs) n x (v ∷ later) (Restarted place ∷ sources) (f ∷ events) stand runs (number, are) starts (suc k) at e here there =
-      each_start hs (suc n) v later sources events (next_behind openings n x v later stand) runs.1 are starts.1 k at e here there
+      → (k : ℕ) (s : Source) (e : NodeEvent) → slice_get sources k ≡ Some s → slice_get events k ≡ Some e → IsEventFrom openings s e
+  each_start [] n x later [] events stand runs are starts k s e here there = cc
+  each_start [] n x later (o ∷ sources) events stand runs are starts k s e here there = absurd are
+  each_start (Came text z ∷ hs) n x later [] events stand runs are starts k s e here there = absurd are
+  each_start (Came text z ∷ hs) n x later (Restarted place ∷ sources) events stand runs are starts k s e here there = absurd are
+  each_start (Came text z ∷ hs) n x later (Echoed place line ∷ sources) [] stand runs are starts k s e here there = absurd starts
+  each_start (Came text z ∷ hs) n x later (Echoed place line ∷ sources) (f ∷ events) stand runs are starts zero s e here there =
+      let none : IsEventFrom openings (Echoed place line) e = λ start. starts.0 (subst IsStart (sym (some_same f e there)) start) in
+      subst (λ (o : Source). IsEventFrom openings o e) (some_same (Echoed place line) s here) none
+  each_start (Came text z ∷ hs) n x later (Echoed place line ∷ sources) (f ∷ events) stand runs (number, text_at, are) starts (suc k) s e here there =
+      each_start hs n x later sources events stand runs are starts.1 k s e here there
+  each_start (Opened o ∷ hs) n x later [] events stand runs are starts k s e here there = absurd are
+  each_start (Opened o ∷ hs) n x later (Echoed place line ∷ sources) events stand runs are starts k s e here there = absurd are
+  each_start (Opened o ∷ hs) n x [] (Restarted place ∷ sources) events stand runs are starts k s e here there = absurd runs
+  each_start (Opened o ∷ hs) n x (v ∷ later) (Restarted place ∷ sources) [] stand runs are starts k s e here there = absurd starts
+  each_start (Opened o ∷ hs) n x (v ∷ later) (Restarted place ∷ sources) (f ∷ events) stand runs (number, are) starts zero s e here there =
+      let start : IsEventFrom openings (Restarted place) e =
+      (v, ap (slice_get openings) number ∙ stands_there openings (suc n) v later (next_behind openings n x v later stand), start_told o v runs.0 e (sym (some_same f e there) ∙ starts.0)) in
+      subst (λ (from : Source). IsEventFrom openings from e) (some_same (Restarted place) s here) start
+  each_start (Opened o ∷ hs) n x (v ∷ later) (Restarted place ∷ sources) (f ∷ events) stand runs (number, are) starts (suc k) s e here there =
+      each_start hs (suc n) v later sources events (next_behind openings n x v later stand) runs.1 are starts.1 k s e here there
 
 -- ---- a transcript
 
@@ -216,8 +233,8 @@ module _ (reopen : NodesReopen) (stay : NodesStay) (told : List Transcript) (emp
           },
         )
       where
-        all_starts : (events : List NodeEvent) → StartsBy l.told events → (k at : ℕ) (e : NodeEvent) → slice_get t.sources k ≡ Some (Restarted at) → slice_get events k ≡ Some e
-            → (x : Opening) × (slice_get t.openings at ≡ Some x) × IsStartOf x e
+        all_starts : (events : List NodeEvent) → StartsBy l.told events → (k : ℕ) (s : Source) (e : NodeEvent) → slice_get t.sources k ≡ Some s → slice_get events k ≡ Some e
+            → IsEventFrom t.openings s e
         all_starts events starts = each_start t.openings l.told 0 l.opening l.later t.sources events (record { before = []; size = refl; are = l.openings }) l.are l.sources starts
 
   -- ---- all of them

@@ -2,13 +2,14 @@
 use Rattle.std.specs.Prelude.{◌≡◌, ℕ, List, ◌∷◌, Some, Contains, slice_get}
 use Rattle.ocpi_types.specs.declared.setup.Node.{Node}
 use Rattle.given_laws.specs.Laws.{AreReplayedBy, IsNetworkRunOf}
-use Rattle.given_laws.specs.Lives.{NodeLife}
+use Rattle.given_laws.specs.Lives.{IsStart, NodeLife}
 use Rattle.histories.specs.declared.history.NodeHistory.{NodeHistory}
 use Rattle.histories.specs.Weaving.{Woven}
 use Rattle.reopening_laws.specs.Nodes.{IsAlike, setup_of, start_of}
 use Rattle.replays.specs.Transcripts.{Transcript}
 use Rattle.replays.specs.declared.transcript.Opening.{Opening}
-use Rattle.replays.specs.declared.transcript.Source.TheVariants.{Restarted}
+use Rattle.replays.specs.declared.transcript.Source.{Source}
+use Rattle.replays.specs.declared.transcript.Source.TheVariants.{Echoed, Restarted}
 use Rattle.world_steps.specs.Steps.{NodeEvent}
 
 -- ---- what is seen in the files
@@ -32,8 +33,12 @@ AreSpelledAlike told = (t : Transcript) → Contains told t → IsSpelledAlike t
 abbrev pub IsStartOf : Opening → NodeEvent → Type 0
 IsStartOf x e = (m : Node) × (slice_get x.setup x.member ≡ Some m) × (e ≡ start_of x.setup m)
 
--- The life has the setup of the first run. Where an entry is the opening of a later run, its event is a start under the
--- setup of that.
+-- where an entry is the opening of a later run, its event is a start as that says; and no other event is a start
+abbrev pub IsEventFrom : List Opening → Source → NodeEvent → Type 0
+IsEventFrom openings (Restarted at) e = (x : Opening) × (slice_get openings at ≡ Some x) × IsStartOf x e
+IsEventFrom openings (Echoed at line) e = IsStart e → ⊥
+
+-- the life has the setup of the first run, and its starts are those of the later runs
 pub record IsLifeTold (t : Transcript) (l : NodeLife) : Type 0 where
   pub first : Opening
   pub later : List Opening
@@ -41,8 +46,7 @@ pub record IsLifeTold (t : Transcript) (l : NodeLife) : Type 0 where
   pub member : Node
   pub is_member : slice_get first.setup first.member ≡ Some member
   pub setup : l.setup ≡ setup_of first.setup member
-  pub starts : (k at : ℕ) (e : NodeEvent) → slice_get t.sources k ≡ Some (Restarted at) → slice_get l.events k ≡ Some e
-      → (x : Opening) × (slice_get t.openings at ≡ Some x) × IsStartOf x e
+  pub starts : (k : ℕ) (s : Source) (e : NodeEvent) → slice_get t.sources k ≡ Some s → slice_get l.events k ≡ Some e → IsEventFrom t.openings s e
 
 abbrev pub AreLivesTold : List Transcript → List NodeLife → Type 0
 AreLivesTold told lives = (i : ℕ) (t : Transcript) (l : NodeLife) → slice_get told i ≡ Some t → slice_get lives i ≡ Some l → IsLifeTold t l
