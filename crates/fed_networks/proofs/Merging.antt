@@ -9,6 +9,7 @@ use Rattle.network_laws.specs.Steps.{Happening, MayCome, NetworkRun, NetworkStep
 use Rattle.network_laws.proofs.Right.{networks_are_right}
 use Rattle.network_laws.proofs.Tracing.{history_elsewhere, history_here, history_joined}
 use Rattle.node_laws.specs.Runs.{Run}
+use Rattle.reopening_laws.specs.Nodes.{setup_of}
 use Rattle.ocpi_text.specs.Text.{key}
 use Rattle.ocpi_types.specs.Setups.{party_of}
 use Rattle.ocpi_types.specs.declared.packet.Packet.{Packet}
@@ -26,7 +27,7 @@ use Rattle.world_steps.proofs.Histories.{sent_join}
 use Rattle.world_steps.proofs.Places.{is_in, of_mapped, set_other, set_same, some_same, stands}
 use Rattle.fed_networks.proofs.Living.{life_runs}
 use Rattle.fed_networks.specs.Laws.{AreLives, Happened, InventNothing, IsNetworkOf, NodesFormNetworks, setups_of}
-use Rattle.fed_networks.specs.Lives.{Life, setup_of}
+use Rattle.fed_networks.specs.Lives.{Life}
 
 opens_own : (setup : List Node) (n : Node) → networks.opening_of (setup_of setup n) ≡ opening_of setup n
 opens_own setup (node.Operator party site) = refl

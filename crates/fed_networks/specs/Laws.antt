@@ -6,10 +6,11 @@ use Rattle.network_laws.specs.Steps.{Happening, NetworkRun, history}
 use Rattle.ocpi_text.specs.Text.{key}
 use Rattle.ocpi_types.specs.Setups.{party_of}
 use Rattle.ocpi_types.specs.declared.packet.Packet.{Packet}
+use Rattle.reopening_laws.specs.Nodes.{setup_of}
 use Rattle.world_laws.specs.Laws.{IsSetup}
 use Rattle.world_steps.specs.Traces.{Brings, sent}
 use Rattle.world_steps.specs.World.{Place, World}
-use Rattle.fed_networks.specs.Lives.{Life, StaysAlike, events_of, setup_of}
+use Rattle.fed_networks.specs.Lives.{Life, StaysAlike, events_of}
 
 -- lives of nodes of setups, no two of one party
 pub record AreLives (lives : List Life) : Type 0 where

@@ -1,6 +1,6 @@
 -- A node of either role that starts again under another setup.
 use Rattle.std.proofs.Common.{◌≡◌, ℕ, List, refl, sym, ap, subst, ◌∙◌}
-use Rattle.history_laws.proofs.Replaying.{own_party, party_stays}
+use Rattle.history_laws.proofs.Replaying.{own_operator, own_provider, party_stays}
 use Rattle.node_core.specs.Members.{IsMadeOfRows, line_of, peers_of}
 use Rattle.network_laws.specs.Steps.{NodeHappens}
 use Rattle.ocpi_types.specs.declared.rows.Row.{Row}
@@ -23,13 +23,12 @@ opens_so setup (node.Operator party site) = refl
 opens_so setup (node.Provider party) = refl
 
 stays_so : (member : Node) (s : NodeState) (x : NodeEvent) (t : NodeState) → NodeStep s x t → IsNodeOf member s → IsNodeOf member t
-unfolding own_party
-stays_so (node.Operator party site) (Operates s) (AtOperator e) (Operates t) step own = party_stays (Operates s) (AtOperator e) (Operates t) step ∙ own
+stays_so (node.Operator party site) (Operates s) (AtOperator e) (Operates t) step own = sym (own_operator t) ∙ party_stays (Operates s) (AtOperator e) (Operates t) step ∙ own_operator s ∙ own
 stays_so (node.Operator party site) (Operates s) (AtOperator e) (Provides t) step own = absurd step
 stays_so (node.Operator party site) (Operates s) (AtProvider e) t step own = absurd step
 stays_so (node.Operator party site) (Provides s) x t step own = absurd own
 stays_so (node.Provider party) (Operates s) x t step own = absurd own
-stays_so (node.Provider party) (Provides s) (AtProvider e) (Provides t) step own = party_stays (Provides s) (AtProvider e) (Provides t) step ∙ own
+stays_so (node.Provider party) (Provides s) (AtProvider e) (Provides t) step own = sym (own_provider t) ∙ party_stays (Provides s) (AtProvider e) (Provides t) step ∙ own_provider s ∙ own
 stays_so (node.Provider party) (Provides s) (AtProvider e) (Operates t) step own = absurd step
 stays_so (node.Provider party) (Provides s) (AtOperator e) t step own = absurd step
 

@@ -1,5 +1,5 @@
 -- The same of a node of either role: that it is made of its rows under another setup is an event of it in a network.
-use Rattle.std.specs.Prelude.{◌≡◌, ⊥, List, []}
+use Rattle.std.specs.Prelude.{◌≡◌, List, []}
 use Rattle.network_laws.specs.Setups.{OfOperator, OfProvider, Setup}
 use Rattle.network_laws.specs.Steps.{NodeHappens}
 use Rattle.node_core.specs.Members.{IsMadeOfRows, line_of, peers_of}

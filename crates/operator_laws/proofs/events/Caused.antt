@@ -277,7 +277,7 @@ module _ (s : State) (i : Input) (acts : List Act) where
       c (subst (λ l. Contains (all_changes l) c) (ap acts_in h.work_is) j)
 
   resends_caused : (last at : ℕ) (t : State) (part : List Act) → Resends last at t part → AreCaused part
-  resends_caused last at t part h c j = resent_leave at t.rows.pushes h.due Why c (subst (λ l. Contains (all_changes l) c) h.acts_are j)
+  resends_caused last at t part h c j = resent_leave t.providers at t.rows.pushes h.due Why c (subst (λ l. Contains (all_changes l) c) h.acts_are j)
 
   tick_caused : (at : ℕ) (work : Work) → acts ≡ work.acts → TickLine s at work → AreCaused acts
   tick_caused at work same (one, more, (ends, timeouts, one_is), (two, more_two, (expired, expiries, two_is), (three, more_three, deadlines, (four, rest, (again, resends, four_is), rest_is, more_three_is), more_two_is), more_is), work_is) c j =

@@ -44,7 +44,7 @@ runs_are_node_runs ps s t (e ∷ es) among setups fine (u, first, rest) = (
   node (wide ps u),
   steps_are_node_steps ps s u e among fine first,
   runs_are_node_runs ps u t es (still_among ps s u e among (λ line i. setups line (Contains-append_left (setup_of e.input) (setups_in es) line i)) (does s u e first).under)
-    (λ line i. setups line (Contains-append_right (setup_of e.input) (setups_in es) line i)) (consistent_stays s u e first fine) rest,
+      (λ line i. setups line (Contains-append_right (setup_of e.input) (setups_in es) line i)) (consistent_stays s u e first fine) rest,
 )
 
 same_sent : (es : List Event) → nodes.sent (map exchange es) ≡ sent es
@@ -116,7 +116,7 @@ module _ (line : SiteLine) (es : List Event) (t : State) (own : IsOfParty line) 
 
   abbrev pub as_run : nodes.NodeRun before (map exchange es) after
   as_run = runs_are_node_runs ps (opening line) t es (λ x i. Contains-append_left line.parties.providers (flat_map (λ (l : SiteLine). l.parties.providers) (setups_in es)) x i)
-    (λ l i x j. Contains-append_right line.parties.providers (flat_map (λ (l : SiteLine). l.parties.providers) (setups_in es)) x (in_flat (setups_in es) l x i j)) (opening_consistent line own) run
+      (λ l i x j. Contains-append_right line.parties.providers (flat_map (λ (l : SiteLine). l.parties.providers) (setups_in es)) x (in_flat (setups_in es) l x i j)) (opening_consistent line own) run
 
   addressed : (x : Packet) → Contains (sent es) x → (x.from ≡ line.parties.operator) × Contains (providers_in line es) x.to
   addressed x h =

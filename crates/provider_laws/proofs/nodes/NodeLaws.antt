@@ -31,7 +31,7 @@ run_from ps s t (e ∷ es) peers more well (u, first, rest) = (
   node (wide ps u),
   step_from ps s u e peers well first,
   run_from ps u t es (still_among ps s u e peers (λ p i. more p (Contains-append_left (peering_of e.input) (peerings_in es) p i)) (is_among s u e first))
-    (λ p i. more p (Contains-append_right (peering_of e.input) (peerings_in es) p i)) (well_stays s u e first well) rest,
+      (λ p i. more p (Contains-append_right (peering_of e.input) (peerings_in es) p i)) (well_stays s u e first well) rest,
 )
 
 pub runs_are_node_runs : RunsAreNodeRuns
@@ -84,7 +84,7 @@ module _ (p : Peering) (es : List Event) (t : State) (run : Run (opening p) es t
 
   abbrev pub as_run : nodes.NodeRun before (map exchange es) after
   as_run = run_from ps (opening p) t es (λ x i. Contains-append_left p.operators (flat_map (λ (l : Peering). l.operators) (peerings_in es)) x i)
-    (λ l i x j. Contains-append_right p.operators (flat_map (λ (l : Peering). l.operators) (peerings_in es)) x (in_flat (peerings_in es) l x i j)) (well_first p) run
+      (λ l i x j. Contains-append_right p.operators (flat_map (λ (l : Peering). l.operators) (peerings_in es)) x (in_flat (peerings_in es) l x i j)) (well_first p) run
 
   addressed : (x : Packet) → Contains (sent es) x → (x.from ≡ p.provider) × Contains (operators_in p es) x.to
   addressed x h =

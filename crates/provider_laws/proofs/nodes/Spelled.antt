@@ -121,4 +121,4 @@ packets_are_spelled s t e fine happens x i = by happens
         subst (Contains s.operators) f.to (asked_to s e.input h.acts fine h.line f.message f.listed)
     by (Restarted now is) = none (ap (λ (o : Out). o.packets) is) refl
     by (Reopened p now may is) = none (ap (λ (o : Out). o.packets) is) refl
-    by (Refused is) = none (ap (λ (o : Out). o.packets) is) refl
+    by (Refused under is) = none (ap (λ (o : Out). o.packets) is) refl
