@@ -9,12 +9,12 @@ use Rattle.node_laws.specs.Runs.{Run}
 use Rattle.node_runs.proofs.HistoryLemmas.{line_run}
 use Rattle.ocpi_types.specs.declared.setup.Node.{Node}
 use Rattle.reopening_laws.proofs.Nodes.{nodes_reopen, nodes_stay}
-use Rattle.reopening_laws.specs.Nodes.{IsNodeOf, start_of}
+use Rattle.reopening_laws.specs.Nodes.{IsAlike, IsNodeOf, start_of}
 use Rattle.stored_laws.specs.Nodes.{CanStartAgain, NodesCanStartAgain, OpeningsCanStartAgain}
 use Rattle.world_laws.specs.Laws.{IsSetup}
 use Rattle.world_steps.specs.Steps.{AtOperator, AtProvider, NodeEvent, NodeStep}
 use Rattle.world_steps.specs.World.{NodeState, Operates, Provides, opening_of}
-use Rattle.fed_networks.specs.Lives.{Life, StaysAlike, events_of}
+use Rattle.fed_networks.specs.Lives.{Life, events_of}
 
 -- what a node does in a world happens in a network
 happens : (s : NodeState) (x : NodeEvent) (t : NodeState) → NodeStep s x t → NodeHappens s x t
@@ -43,16 +43,16 @@ module _ (again : NodesCanStartAgain) (member : Node) where
       } in
       subst (λ (l : List NodeEvent). Lived member first l next) (append_assoc es (x ∷ []) xs) (lived_on first then next (es ++ x ∷ []) xs on rest)
 
-  lived : {party : List ℕ} {lines : ℕ → List ℕ} {first : NodeState} {last : Option Node} {number : ℕ} {now : NodeState} (came : CameOnce party lines first last number now)
-      → CanStartAgain first → IsNodeOf member first → StaysAlike member came → Lived member first (events_of came) now
+  lived : {setups : List (List Node × Node)} {lines : ℕ → List ℕ} {first : NodeState} {last : Option Node} {number : ℕ} {now : NodeState} (came : CameOnce setups lines first last number now)
+      → CanStartAgain first → IsNodeOf member first → ((setup : List Node) (other : Node) → Contains setups (setup, other) → IsAlike member other) → Lived member first (events_of came) now
   lived none_came can own alike = record { run = refl; can = can; own = own }
   lived {first = first} (next_came {now = before} {next = next} {did = did} came answers) can own alike =
       lived_on first before next (events_of came) did (lived came can own alike) (line_run answers)
-  lived {first = first} (starts {now = before} {next = next} setup other same came a) can own alike =
-      let h = lived came can own alike.0 in
-      let s = nodes_reopen setup member other before next a.rows alike.1 a.are a.made h.can a.again h.own in
+  lived {first = first} (starts {now = before} {next = next} setup other of_them came a) can own alike =
+      let h = lived came can own alike in
+      let s = nodes_reopen setup member other before next a.rows (alike setup other of_them) a.are a.made h.can a.again h.own in
       record { run = run_join NodeHappens first before next (events_of came) (start_of setup other ∷ []) h.run (next, s.0, refl); can = a.again; own = s.1 }
 
-pub life_runs : NodesCanStartAgain → OpeningsCanStartAgain → (l : Life) → IsSetup l.setup → Contains l.setup l.member → StaysAlike l.member l.came
-    → Run NodeHappens (opening_of l.setup l.member) (events_of l.came) l.now
+pub life_runs : NodesCanStartAgain → OpeningsCanStartAgain → (l : Life) → IsSetup l.setup → Contains l.setup l.member
+    → ((setup : List Node) (other : Node) → Contains l.setups (setup, other) → IsAlike l.member other) → Run NodeHappens (opening_of l.setup l.member) (events_of l.came) l.now
 life_runs again openings l is_setup within alike = (lived again l.member l.came (openings l.setup is_setup l.member within) (nodes_stay.at_first l.setup l.member) alike).run

@@ -6,17 +6,18 @@ use Rattle.network_laws.specs.Steps.{Happening, NetworkRun, history}
 use Rattle.ocpi_text.specs.Text.{key}
 use Rattle.ocpi_types.specs.Setups.{party_of}
 use Rattle.ocpi_types.specs.declared.packet.Packet.{Packet}
-use Rattle.reopening_laws.specs.Nodes.{setup_of}
+use Rattle.ocpi_types.specs.declared.setup.Node.{Node}
+use Rattle.reopening_laws.specs.Nodes.{IsAlike, setup_of}
 use Rattle.world_laws.specs.Laws.{IsSetup}
 use Rattle.world_steps.specs.Traces.{Brings, sent}
 use Rattle.world_steps.specs.World.{Place, World}
-use Rattle.fed_networks.specs.Lives.{Life, StaysAlike, events_of}
+use Rattle.fed_networks.specs.Lives.{Life, events_of}
 
--- lives of nodes of setups, no two of one party
+-- lives of nodes of setups, no two of one party; each keeps its party, spelled so, and its role
 pub record AreLives (lives : List Life) : Type 0 where
   pub setups : (l : Life) → Contains lives l → IsSetup l.setup
   pub members : (l : Life) → Contains lives l → Contains l.setup l.member
-  pub alike : (l : Life) → Contains lives l → StaysAlike l.member l.came
+  pub alike : (l : Life) → Contains lives l → (setup : List Node) (member : Node) → Contains l.setups (setup, member) → IsAlike l.member member
   pub apart : (i j : ℕ) (l m : Life) → slice_get lives i ≡ Some l → slice_get lives j ≡ Some m → key (party_of l.member) ≡ key (party_of m.member) → i ≡ j
 
 -- these happened one after another: at each node what its life has, in that order, and nothing else
