@@ -19,7 +19,7 @@ from collections.abc import Iterator
 from network_rows import Rows, bad_rows, rows_of
 from network_setups import Json, Setup
 
-# The longest time that anything may take.
+# The longest time that anything may take, in seconds. The trial may set another.
 PATIENCE = 60.0
 
 

@@ -2,6 +2,7 @@
 """Runs networks of real processes of `node`, each with a setup of its own, and looks whether the promise was kept.
 
     faults/network_trial.py PROGRAM [--runs 50] [--seed 1] [--events 900] [--folder FOLDER] [--plant FAULT]
+                            [--patience 60]
 
 PROGRAM is `ocpi_nodes`. In each run there are three operators and three providers, each a process with a store and a
 transcript. No two setups are equal: each has other partners, in another order and spelling, and strangers among them;
@@ -28,6 +29,7 @@ With --plant one thing is done wrong on purpose, and each run must fail: FAULT i
     older     an older copy of a store is put in place while its node is stopped
     forgets   a line is taken out of a transcript
 
+A process may take --patience seconds for its next line, and for its end: give more where the machine has other work.
 Standard error has a line for each run, and what was wrong. The last line but one tells how often each change of a
 setup was taken and refused. The last line is 'N runs, M failed'; the status is 0 where
 none failed.
@@ -44,6 +46,7 @@ from collections import Counter
 from collections.abc import Iterable
 
 sys.dont_write_bytecode = True
+import network_nodes
 from network_events import Events
 from network_links import Links
 from network_nodes import Broken, Node
@@ -255,9 +258,11 @@ def main() -> int:
     options.add_argument("--seed", type=int, default=1)
     options.add_argument("--events", type=int, default=900)
     options.add_argument("--folder", help="where the files of runs that fail are kept")
+    options.add_argument("--patience", type=float, default=network_nodes.PATIENCE)
     options.add_argument("--plant", choices=sorted(it for it in PLANTS if it))
     given = options.parse_args()
     program, failed = os.path.abspath(given.program), 0
+    network_nodes.PATIENCE = given.patience
     changes: Counter[tuple[str, str]] = Counter()
     for seed in range(given.seed, given.seed + given.runs):
         with tempfile.TemporaryDirectory(dir=QUICK) as folder:

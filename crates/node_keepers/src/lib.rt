@@ -52,18 +52,20 @@
 //! Where keepers of rows come from is a trait, `Keeps`: in memory (`ListKeeps`), or in new files of a folder
 //! (`FileKeeps`). `open_all` opens one for each node of a setup, loads it, and refuses one that is not new; `commit`
 //! finds the keeper by the party and hands it the changes; `close_all` ends them. All of it is said of any type of
-//! keepers. What ends a keeper in a file is a trait of `files.rt` (`InFile`), so that the bodies which hold one are
-//! generic.
+//! keepers. What ends a keeper in a file is a trait (`InFile` of `files.rt`, `FoundInFile` of `found.rt`), so that the
+//! bodies which hold one are generic.
 #![tactic(auto)]
 
 mod copies;
 mod files;
+mod found;
 mod keeping;
 mod keeps;
 mod loading;
 mod system_files;
 
 pub use copies::kept_in_copy;
-pub use files::{FileKeeps, Found, StoreFile, rows_in};
+pub use files::{FileKeeps, StoreFile};
+pub use found::{Found, rows_in};
 pub use keeping::{KeptNode, close_all, commit, open_all};
 pub use keeps::{Keeps, ListKeeps};
