@@ -53,6 +53,6 @@ module _ (again : NodesCanStartAgain) (member : Node) where
       let s = nodes_reopen setup member other before next a.rows (alike setup other of_them) a.are a.made h.can a.again h.own in
       record { run = run_join NodeHappens first before next (events_of came) (start_of setup other ∷ []) h.run (next, s.0, refl); can = a.again; own = s.1 }
 
-pub life_runs : NodesCanStartAgain → OpeningsCanStartAgain → (l : Life) → IsSetup l.setup → Contains l.setup l.member
-    → ((setup : List Node) (other : Node) → Contains l.setups (setup, other) → IsAlike l.member other) → Run NodeHappens (opening_of l.setup l.member) (events_of l.came) l.now
-life_runs again openings l is_setup within alike = (lived again l.member l.came (openings l.setup is_setup l.member within) (nodes_stay.at_first l.setup l.member) alike).run
+pub life_runs : NodesCanStartAgain → OpeningsCanStartAgain → (l : Life) → IsSetup l.of.setup → Contains l.of.setup l.of.member
+    → ((setup : List Node) (other : Node) → Contains l.of.setups (setup, other) → IsAlike l.of.member other) → Run NodeHappens (opening_of l.of.setup l.of.member) (events_of l.came) l.now
+life_runs again openings l is_setup within alike = (lived again l.of.member l.came (openings l.of.setup is_setup l.of.member within) (nodes_stay.at_first l.of.setup l.of.member) alike).run

@@ -1,5 +1,5 @@
 -- From the lives of nodes to a run of their network.
-use Rattle.std.proofs.Common.{◌≡◌, ℕ, suc, List, [], ◌∷◌, ◌++◌, length, map, inl, inr, refl, sym, ap, subst, ◌∙◌, arith, append_assoc, append-nil, length-set}
+use Rattle.std.proofs.Common.{◌≡◌, ℕ, zero, suc, List, [], ◌∷◌, ◌++◌, length, map, inl, inr, refl, sym, ap, subst, ◌∙◌, arith, append_assoc, append-nil, length-set}
 use Rattle.std.specs.Prelude.{Some, Contains, slice_get, slice_set}
 use Rattle.std.proofs.lemmas.Bool.{cases_eq}
 use Rattle.std.proofs.lemmas.List.Elements.{Contains-append_right}
@@ -45,12 +45,17 @@ mapped_size : {X Y : Type 0} (f : X → Y) (xs : List X) → length (map f xs) �
 mapped_size f [] = refl
 mapped_size f (x ∷ xs) = ap suc (mapped_size f xs)
 
+mapped_at : {X Y : Type 0} (f : X → Y) (xs : List X) (i : ℕ) (x : X) → slice_get xs i ≡ Some x → slice_get (map f xs) i ≡ Some (f x)
+mapped_at f [] i x at = absurd (cc at)
+mapped_at f (y ∷ ys) zero x at = cc at
+mapped_at f (y ∷ ys) (suc i) x at = mapped_at f ys i x at
+
 module _ (again : NodesCanStartAgain) (openings : OpeningsCanStartAgain) (lives : List Life) (all : List Happening) (are : AreLives lives) (happened : Happened lives all) (invent : InventNothing lives all) where
   -- where a node stands between two parts of what happened
   record Stands (i : ℕ) (p : Place) (before xs : List Happening) : Type 0 where
     life : Life
     of : slice_get lives i ≡ Some life
-    party : p.party ≡ party_of life.member
+    party : p.party ≡ party_of life.of.member
     run : Run NodeHappens p.node (history xs i) life.now
     sent_is : p.sent ≡ sent (history before i)
 
@@ -129,20 +134,23 @@ module _ (again : NodesCanStartAgain) (openings : OpeningsCanStartAgain) (lives 
       let r = go xs (before ++ x ∷ []) n.after (append_assoc before (x ∷ []) xs ∙ is) (n.size ∙ size) n.standing in
       record { after = r.after; run = (n.after, n.step, r.run); standing = r.standing }
 
-  setup_at : (i : ℕ) (s : Setup) → slice_get (setups_of lives) i ≡ Some s → (l : Life) × (slice_get lives i ≡ Some l) × (setup_of l.setup l.member ≡ s)
-  setup_at i s at = of_mapped (λ (l : Life). setup_of l.setup l.member) lives i s at
+  one_of : (i : ℕ) (l : Life) → slice_get lives i ≡ Some l → Contains (map (λ (x : Life). x.of) lives) l.of
+  one_of i l at = is_in (map (λ (x : Life). x.of) lives) i l.of (mapped_at (λ (x : Life). x.of) lives i l at)
+
+  setup_at : (i : ℕ) (s : Setup) → slice_get (setups_of lives) i ≡ Some s → (l : Life) × (slice_get lives i ≡ Some l) × (setup_of l.of.setup l.of.member ≡ s)
+  setup_at i s at = of_mapped (λ (l : Life). setup_of l.of.setup l.of.member) lives i s at
 
   standing_first : Standing (opened (setups_of lives)) [] all
   standing_first i p at =
       let (s, there, is) = of_mapped place_of (setups_of lives) i p at in
       let (l, of, is_s) = setup_at i s there in
-      let run = life_runs again openings l (are.setups l (is_in lives i l of)) (are.members l (is_in lives i l of)) (are.alike l (is_in lives i l of)) in
+      let run = life_runs again openings l (are.setups l.of (one_of i l of)) (are.members l.of (one_of i l of)) (are.alike l.of (one_of i l of)) in
       subst (λ (z : Place). Stands i z [] all) is (record {
         life = l;
         of = of;
-        party = ap name_of (sym is_s) ∙ named_own l.setup l.member;
-        run = subst (λ (n : NodeState). Run NodeHappens n (history all i) l.now) (sym (opens_own l.setup l.member) ∙ ap networks.opening_of is_s)
-            (subst (λ (es : List NodeEvent). Run NodeHappens (opening_of l.setup l.member) es l.now) (sym (happened.each i l of)) run);
+        party = ap name_of (sym is_s) ∙ named_own l.of.setup l.of.member;
+        run = subst (λ (n : NodeState). Run NodeHappens n (history all i) l.now) (sym (opens_own l.of.setup l.of.member) ∙ ap networks.opening_of is_s)
+            (subst (λ (es : List NodeEvent). Run NodeHappens (opening_of l.of.setup l.of.member) es l.now) (sym (happened.each i l of)) run);
         sent_is = refl;
       })
 
@@ -153,18 +161,18 @@ module _ (again : NodesCanStartAgain) (openings : OpeningsCanStartAgain) (lives 
       each s within =
           let (i, at) = place_in (setups_of lives) s within in
           let (l, of, is) = setup_at i s at in
-          let here = is_in lives i l of in
-          let (k, there) = place_in l.setup l.member (are.members l here) in
-          subst IsOwnSetup is (own_form l.setup (are.setups l here) k l.member there)
+          let here = one_of i l of in
+          let (k, there) = place_in l.of.setup l.of.member (are.members l.of here) in
+          subst IsOwnSetup is (own_form l.of.setup (are.setups l.of here) k l.of.member there)
 
       apart : (i j : ℕ) (n m : Setup) → slice_get (setups_of lives) i ≡ Some n → slice_get (setups_of lives) j ≡ Some m → key (name_of n) ≡ key (name_of m) → i ≡ j
       apart i j n m at there same =
           let (l, of, is) = setup_at i n at in
           let (k, of_k, is_k) = setup_at j m there in
-          are.apart i j l k of of_k (ap key (sym (named_own l.setup l.member) ∙ ap name_of is) ∙ same ∙ ap key (sym (ap name_of is_k) ∙ named_own k.setup k.member))
+          are.apart i j l.of k.of (mapped_at (λ (x : Life). x.of) lives i l of) (mapped_at (λ (x : Life). x.of) lives j k of_k) (ap key (sym (named_own l.of.setup l.of.member) ∙ ap name_of is) ∙ same ∙ ap key (sym (ap name_of is_k) ∙ named_own k.of.setup k.of.member))
 
   whole : Went (opened (setups_of lives)) all
-  whole = go all [] (opened (setups_of lives)) refl (mapped_size place_of (setups_of lives) ∙ mapped_size (λ (l : Life). setup_of l.setup l.member) lives) standing_first
+  whole = go all [] (opened (setups_of lives)) refl (mapped_size place_of (setups_of lives) ∙ mapped_size (λ (l : Life). setup_of l.of.setup l.of.member) lives) standing_first
 
   pub is_network : IsNetworkOf lives all
   is_network = record {

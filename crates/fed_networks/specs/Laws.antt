@@ -11,14 +11,17 @@ use Rattle.reopening_laws.specs.Nodes.{IsAlike, setup_of}
 use Rattle.world_laws.specs.Laws.{IsSetup}
 use Rattle.world_steps.specs.Traces.{Brings, sent}
 use Rattle.world_steps.specs.World.{Place, World}
-use Rattle.fed_networks.specs.Lives.{Life, events_of}
+use Rattle.fed_networks.specs.Lives.{Life, NodeSetups, events_of}
 
--- lives of nodes of setups, no two of one party; each keeps its party, spelled so, and its role
-pub record AreLives (lives : List Life) : Type 0 where
-  pub setups : (l : Life) → Contains lives l → IsSetup l.setup
-  pub members : (l : Life) → Contains lives l → Contains l.setup l.member
-  pub alike : (l : Life) → Contains lives l → (setup : List Node) (member : Node) → Contains l.setups (setup, member) → IsAlike l.member member
-  pub apart : (i j : ℕ) (l m : Life) → slice_get lives i ≡ Some l → slice_get lives j ≡ Some m → key (party_of l.member) ≡ key (party_of m.member) → i ≡ j
+-- nodes of setups, no two of one party; each keeps its party, spelled so, and its role
+pub record AreNodes (nodes : List NodeSetups) : Type 0 where
+  pub setups : (n : NodeSetups) → Contains nodes n → IsSetup n.setup
+  pub members : (n : NodeSetups) → Contains nodes n → Contains n.setup n.member
+  pub alike : (n : NodeSetups) → Contains nodes n → (setup : List Node) (member : Node) → Contains n.setups (setup, member) → IsAlike n.member member
+  pub apart : (i j : ℕ) (n m : NodeSetups) → slice_get nodes i ≡ Some n → slice_get nodes j ≡ Some m → key (party_of n.member) ≡ key (party_of m.member) → i ≡ j
+
+abbrev pub AreLives : List Life → Type 0
+AreLives lives = AreNodes (map (λ (l : Life). l.of) lives)
 
 -- these happened one after another: at each node what its life has, in that order, and nothing else
 pub record Happened (lives : List Life) (xs : List Happening) : Type 0 where
@@ -29,10 +32,10 @@ pub record Happened (lives : List Life) (xs : List Happening) : Type 0 where
 -- send may be anything.
 abbrev pub InventNothing : List Life → List Happening → Type 0
 InventNothing lives xs = (before after : List Happening) (x : Happening) → xs ≡ before ++ x ∷ after → (l : Life) → slice_get lives x.node ≡ Some l → (q : Packet) → Brings x.event q →
-    (j : ℕ) (m : Life) → slice_get lives j ≡ Some m → key (party_of m.member) ≡ key q.from → (key q.to ≡ key (party_of l.member)) × Contains (sent (history before j)) q
+    (j : ℕ) (m : Life) → slice_get lives j ≡ Some m → key (party_of m.of.member) ≡ key q.from → (key q.to ≡ key (party_of l.of.member)) × Contains (sent (history before j)) q
 
 abbrev pub setups_of : List Life → List Setup
-setups_of lives = map (λ (l : Life). setup_of l.setup l.member) lives
+setups_of lives = map (λ (l : Life). setup_of l.of.setup l.of.member) lives
 
 -- it is a run of the network of these nodes, which ends with each as its life left it; and all is right
 pub record IsNetworkOf (lives : List Life) (xs : List Happening) : Type 0 where

@@ -13,14 +13,18 @@ events_of none_came = []
 events_of (next_came {did = did} before answers) = events_of before ++ did
 events_of (starts setup member of_them before again) = events_of before ++ start_of setup member ∷ []
 
--- A node of a setup, with the lines that came to it. Before the first one it had no rows. Since then it may have run
--- under other setups: each is one of `setups`, with the member of it that the node then was.
-pub record Life : Type 0 where
+-- A node: the member of a setup that it is at first, and the setups under which it may run since then, each with the
+-- member of it that the node then is.
+pub record NodeSetups : Type 0 where
   pub setup : List Node
   pub member : Node
   pub setups : List (List Node × Node)
+
+-- A node, with the lines that came to it. Before the first one it had no rows.
+pub record Life : Type 0 where
+  pub of : NodeSetups
   pub lines : ℕ → List ℕ
   pub last : Option Node
   pub number : ℕ
   pub now : NodeState
-  pub came : CameOnce setups lines (opening_of setup member) last number now
+  pub came : CameOnce of.setups lines (opening_of of.setup of.member) last number now

@@ -7,6 +7,7 @@ ghost use Rattle.fed_networks.specs.Laws.{NodesFormNetworks};
 
 use feeding_laws::laws::fed_runs_are_exact;
 use node_keepers::Keeps;
+use node_rows::laws::empty_is_held;
 use stored_laws::laws::{nodes_can_start_again, openings_can_start_again};
 
 /// Whatever happened at nodes that were fed lines by their numbers, over links that invent nothing between them, is a run
@@ -26,5 +27,6 @@ pub fn fed_nodes_form_networks<S: Keeps>()
 {
     nodes_can_start_again();
     openings_can_start_again();
+    empty_is_held();
     fed_runs_are_exact::<S>();
 }
