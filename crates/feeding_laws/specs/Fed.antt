@@ -113,8 +113,8 @@ RunsAreFed {K} keeper source =
 -- ---- runs one after another
 
 -- Runs of a node over one store, each under one of these setups, as that member of it, and over what the one before
--- left: what its keeper kept at the end, or what a stop left of that. The first is told 1; each other is told at most the number of
--- the last line that the one before answered.
+-- left: what its keeper kept at the end, or what a stop left of that. The first is told 1; each other is told at most
+-- the number of the last line that the one before answered.
 pub data AreFedRuns {K : Type 0} (keeper : Keeper K) (source : Source K) (setups : List (List Node × Node)) (lines : ℕ → List ℕ) (first : Content) : ℕ → Content → Type 0 where
   none_fed : AreFedRuns keeper source setups lines first 1 first
   one_fed : {seen base most : ℕ} {before after : Content} {text : List ℕ} {kept : K} (setup : List Node) (member : Node) → Contains setups (setup, member)

@@ -31,8 +31,8 @@ pub fn watch_in<'w, 'p>(lines: &'w Lines<'p>, telling: Telling) -> Option<&'w Li
 /// The exit status of a run whose lines were watched: 1 in place of 0, where something is told of a line and that is to
 /// be an error. What watched them is let go.
 pub fn status_with(status: u8, telling: Telling, watch: Watch<'_, Stderr>) -> u8
-    ensures strict { telling.is_strict ≡ true → watch.has_told ≡ true → status ≡ 0 → result ≡ 1 }
-    ensures untold { watch.has_told ≡ false → result ≡ status }
+    ensures strict { telling.is_strict ≡ true → watch.entry.has_told ≡ true → status ≡ 0 → result ≡ 1 }
+    ensures untold { watch.entry.has_told ≡ false → result ≡ status }
     ensures lax { telling.is_strict ≡ false → result ≡ status }
     ensures other { status ≢ 0 → result ≡ status }
 {
