@@ -63,7 +63,8 @@ class Bridge:
         self._pushing = None if locations is None else Pushing(client, locations, state, central_system.connected_count)
         interfaces = Interfaces(
             configuration.ocpi.url, events, objects, requests, locations, feeder.feed, client.takes_orders,
-            feeder.revoke, *([central_system.expect_late] if ocpp is not None else ()))
+            feeder.revoke, central_system.expect_late if ocpp is not None else lambda party, number: None,
+            orders.operator_of)
         server = Server(events, partners, Credentials(configuration, partners, exchange), interfaces, metrics, state,
                         Receiving(clock, places) if locations is None else None)
         admin = Admin(configuration, state, events, feeder, objects, client, metrics, locations, places, central_system,

@@ -24,6 +24,7 @@ from ocpi_bridge.ocpi.exchange import Exchange
 from ocpi_bridge.ocpi.interfaces import Interfaces
 from ocpi_bridge.ocpi.locations import Locations
 from ocpi_bridge.ocpi.objects import Objects
+from ocpi_bridge.ocpi.orders import Orders
 from ocpi_bridge.ocpi.partners import Partners
 from ocpi_bridge.ocpi.places import Places
 from ocpi_bridge.ocpi.receiving import Receiving
@@ -87,7 +88,8 @@ class ServerCase(unittest.IsolatedAsyncioTestCase):
         self.feeder = RevocableFeeder(self.configuration.node, self.events, self.state, self.metrics)
         self.objects = Objects(self.state)
         self.requests = Requests(self.state)
-        self.feeder.before_commit.append(self.objects.note)
+        orders = Orders(self.configuration, self.state, self.events, self.objects, self.requests, self.feeder.feed)
+        self.feeder.before_commit += [self.objects.note, orders.note]
         self.outcomes: list[Outcome] = []
         self.feeder.after_commit.append(self.outcomes.append)
         opened = asyncio.Event()
@@ -103,7 +105,8 @@ class ServerCase(unittest.IsolatedAsyncioTestCase):
         locations = None if site is None else Locations(
             self.state, self.clock, self.objects, self.party, site, self.unusable.get)
         interfaces = Interfaces(URL_OF_BRIDGE, self.events, self.objects, self.requests, locations, self.feed,
-                                lambda party: self.takes_orders, self.feeder.revoke)
+                                lambda party: self.takes_orders, self.feeder.revoke,
+                                operator_of=orders.operator_of)
         credentials = Credentials(self.configuration, partners, exchange)
         application = Server(self.events, partners, credentials, interfaces, self.metrics,
                              self.state, Receiving(self.clock, Places(self.state)) if site is None else None

@@ -84,19 +84,30 @@ class Questions(ClientCase):
 
     is_operator = True
     place = {"location_id": "LOC1", "evse_uids": ["E1"]}
+    # What comes of a refusal by the node, of a 404 and a refusal that are not its packet, of another 404, and of a 500:
+    # the serial and the status of what is fed. Nothing is that the provider's node did not send.
+    refusals: tuple[list[tuple[int, int]], ...] = ([(9, 2004)], [], [], [], [])
 
     async def ask(self) -> None:
         await self.carry(self.packet("authorize", 5, {"token_uid": "AA01", "type": "RFID", "location": self.place}))
 
-    async def test_a_refusal_over_http_is_an_answer_and_a_fault_is_none(self) -> None:
+    async def test_what_comes_of_a_refusal(self) -> None:
         async def refuses(received: Received) -> web.StreamResponse:
             return answered(status_code=2004)
-        for answer in (fails(404), refuses, fails(500)):
+
+        async def numbered(received: Received) -> web.StreamResponse:
+            response = answered(status_code=2004, headers={"X-Serial": "9"})
+            response.set_status(404)
+            return response
+        answers = (with_serial(status_code=2004, serial=9), fails(404), refuses, numbered, fails(500))
+        for answer, wanted in zip(answers, self.refusals, strict=True):
+            self.delivered.clear()
             self.party.answers["tokens"] = answer
             await self.ask()
-        self.assertEqual([("authorization", 5, 2001), ("authorization", 5, 2004)],
-                         [(answer.kind, answer.request, answer.body["status_code"]) for answer in self.delivered])
-        self.assertEqual({"status_code", "timestamp"}, set(self.delivered[0].body))
+            self.assertEqual(wanted, [(each.serial, each.body["status_code"]) for each in self.delivered])
+            for each in self.delivered:
+                self.assertEqual(("authorization", 5, {"status_code", "timestamp"}),
+                                 (each.kind, each.request, set(each.body)))
 
     async def test_the_location_is_the_body(self) -> None:
         self.party.answers["tokens"] = with_serial({"allowed": "ALLOWED", "token": token("NL/TNM")})
@@ -119,9 +130,10 @@ class Questions(ClientCase):
 
 
 class OtherProvider(Questions):
-    """The same, of a provider that is no node."""
+    """The same, of a provider that is no node: a refusal over HTTP is an answer, and a fault is none."""
 
     kind = "ocpi"
+    refusals = ([(0, 2004)], [(0, 2001)], [(0, 2004)], [(0, 2001)], [])
 
     async def allowed(self, **members: object) -> str:
         """What comes of an ALLOWED with these members."""

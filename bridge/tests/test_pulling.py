@@ -99,7 +99,7 @@ class Sessions(ClientCase):
     async def test_what_is_anothers_or_has_no_version_is_passed_over(self) -> None:
         self.has(0, party="FR/XXX")
         first = self.party.lists["sessions"][0]
-        wrong: list[object] = [7, {}, {**first, "last_updated": 7}, {**first, "id": {"nested": []}}]
+        wrong: list[object] = [first, 7, {}, {**first, "last_updated": 7}, {**first, "id": {"nested": []}}]
         self.has(1)
         listed = [*wrong, *self.party.lists["sessions"]]
 
@@ -205,7 +205,8 @@ class PlacesOfNodes(ClientCase):
 
     async def test_what_is_anothers_or_does_not_fit_is_passed_over(self) -> None:
         right = location("BE/BEC")
-        for number, wrong in enumerate([7, {}, {**right, "city": None}, {**right, "evses": [{}]}, location("FR/XXX")]):
+        others = location("FR/XXX", id="LOC9")
+        for number, wrong in enumerate([7, {}, {**right, "city": None}, {**right, "evses": [{}]}, others]):
             async def gives(received: Received) -> web.StreamResponse:
                 return answered([wrong, {**right, "id": f"LOC{number}"}])
             self.party.answers["locations"] = gives

@@ -104,14 +104,14 @@ class Charging(Case):
         enter("row %s\t%s\t%s" % (kind, key, text(row)))
         self.rows[(kind, key)] = text(row)
 
-    def has_session(self, number, request, **members):
-        """A version of a session at E1 stands, with its push as that request."""
+    def has_session(self, number, request, to="NL/TNM", **members):
+        """A version of a session at E1 stands, with its push as that request, whose provider may be spelled otherwise."""
         version = {**self.first_version(number, token(), "E1", "09:00:00", reference(77)), **members}
         self.sessions[number] = version
         self.pushed_as[number] = request
         self.pushes[request] = ("put_session", version, "NL/TNM")
         self.stands("session", "%s/%s" % (OPERATOR, version["id"].upper()), version)
-        self.stands("push", "%d" % request, {"body": version, "kind": "put_session", "to": "NL/TNM"})
+        self.stands("push", "%d" % request, {"body": version, "kind": "put_session", "to": to})
 
     def has_bill(self, number=1, given=None, updated="09:30:00", session=None, **members):
         """A session that is completed stands, and its bill, both acknowledged. The session may have another id, and the

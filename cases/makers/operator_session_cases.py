@@ -282,6 +282,14 @@ def add_stored_rows():
 
 
 def add_spellings():
+    c = Charging("a push that was stored is sent again to its provider as the site spells it")
+    for counter, last in ("session", 1), ("request", 7), ("serial", 9):
+        c.stands("count", counter, {"last": last})
+    c.has_session(1, 7, to="Nl/tNM", status="ACTIVE", start_date_time=moment("09:00:00"), last_updated=moment("09:30:00"))
+    c.restart()
+    c.tick("09:30:01")
+    c.finished(10, again=[7])
+    c.stored()
     c = Charging("a session names its place as the site does, and its token and reference as the start does")
     c.spelled["Lu/Lum"] = "lU/lUM"
     start = {"token": token("lL01", "lu/LUM"), "location_id": "loc2", "evse_uid": "e3", "connector_id": "1"}

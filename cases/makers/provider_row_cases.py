@@ -103,7 +103,24 @@ REFUSED = {
 }
 
 
+def add_spellings():
+    """What was stored is sent again to its operator as the provider spells it; the row stays as it is."""
+    c = Case("requests that were stored are sent again to their operators as the provider spells them")
+    rows = [held(), push(3, to="be/bEC"), stop(4, "Be/bec"), stop(5, "fr/FRC"), count("request", 5), count("serial", 9)]
+    c.made(rows)
+    for (kind, number, row), operator in zip(rows[1:4], ("BE/BEC", "BE/BEC", "FR/FRC"), strict=True):
+        c.requests[int(number)] = (row["kind"], row["body"], operator)
+    c.tick("10:00:00")
+    c.resent(10, 3, 4, 5)
+    c.ack(3, party="Be/bec", at="10:00:01")
+    c.drop("push", "3")
+    c.tick("10:00:10")
+    c.resent(13, 4, 5)
+    c.stored()
+
+
 def add_row_cases():
+    add_spellings()
     for name, rows in MADE.items():
         c = Case("a provider of " + name)
         c.made(rows)

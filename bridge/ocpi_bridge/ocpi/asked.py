@@ -6,11 +6,14 @@ from aiohttp import web
 
 from ..clock import milliseconds_of
 from ..json_text import JsonObject, read_json
+from ..parties import party_of, same_party
 from .envelope import INVALID, Refusal
 from .objects import FOREVER, Part
 from .requests import number_of
 
 SENDER, RECEIVER = "/ocpi/2.2.1/sender", "/ocpi/2.2.1/receiver"
+# Whose an object is that comes in a packet of a kind: the party that stands in it, or in its token.
+OWNERS = {"put_token": "", "put_session": "", "post_cdr": "", "start_session": "token", "reserve_now": "token"}
 # The most objects that a response lists.
 MOST_LISTED = 1000
 
@@ -38,6 +41,18 @@ def compare(names: Mapping[str, str], body: JsonObject) -> None:
         value = body.get(name)
         if isinstance(value, str) and value.upper() != text.upper():
             raise Refusal(200, INVALID, f"{name}: the path says otherwise")
+
+
+def refuse_of_another(kind: str, body: JsonObject, party: str) -> None:
+    """Raises Refusal where a partner sends what is another party's. What is missing there, the node refuses."""
+    inside = OWNERS.get(kind)
+    owned = body.get(inside) if inside else body
+    if inside is None or not isinstance(owned, dict):
+        return
+    codes = owned.get("country_code"), owned.get("party_id")
+    if all(isinstance(code, str) for code in codes) and not same_party(party_of(*codes), party):
+        path = f"{inside}." if inside else ""
+        raise Refusal(200, INVALID, f"{path}country_code, {path}party_id: wanted are your own")
 
 
 def part_of(query: Mapping[str, str]) -> Part:

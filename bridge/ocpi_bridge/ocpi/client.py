@@ -224,18 +224,18 @@ def _warn(packet: Packet, response: Response, told: str, answer: Packet | None) 
 def answer_of(packet: Packet, kind: str, response: Response, clock: Clock) -> Packet | None:
     """The packet by which a partner of a kind answers a request. None where it is lost.
 
-    A 4xx to a question about a token is an answer, but for one that says nothing of the token: who gives it is not
-    offline. A partner of kind `node` tells the serial of its node's packet. Without one its bridge has answered, which
-    counts only as the refusal of a question.
+    A partner of kind `node` tells the serial of its node's packet. Without one its bridge has answered, or what stands
+    before it, and its node has said nothing: no packet is made of that. Of any other partner a 4xx to a question about
+    a token is an answer, but for one that says nothing of the token: who gives it is not offline.
     """
     question, answering = packet.kind == "authorize", FORMS[packet.kind].answer
+    serial = number_of(response.headers.get("X-Serial", "")) if kind == "node" else None
+    if kind == "node" and serial is None:
+        return None
     status_code, data = response.body.get("status_code"), response.body.get("data")
-    if question and 400 <= response.status < 500 and response.status not in TRANSIENT:
+    if question and kind == "ocpi" and 400 <= response.status < 500 and response.status not in TRANSIENT:
         status_code = INVALID
     elif response.status >= 300 or not isinstance(status_code, int):
-        return None
-    serial = number_of(response.headers.get("X-Serial", "")) if kind == "node" else None
-    if kind == "node" and serial is None and (not question or status_code == SUCCESS):
         return None
     body: Body = {"status_code": status_code, "timestamp": str(response.body.get("timestamp"))}
     if serial is None:

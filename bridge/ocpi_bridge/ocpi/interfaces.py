@@ -15,7 +15,8 @@ from ..events import Events, Outcome, Packet
 from ..json_text import JsonObject, write_json
 from ..parties import party_key, party_of, same_party
 from ..records import Body, Event
-from .asked import RECEIVER, SENDER, compare, members_of, module_of, part_of, segments_of
+from .asked import (RECEIVER, SENDER, compare, members_of, module_of, part_of, refuse_of_another,
+                    segments_of)
 from .envelope import (INVALID, SERVER_ERROR, SUCCESS, UNKNOWN_LOCATION, UNKNOWN_TOKEN, Refusal, answer, is_printable,
                        refusal_of)
 from .locations import Locations
@@ -53,14 +54,17 @@ class Interfaces:
                  feed: Callable[[Event], Awaitable[Outcome]],
                  takes_orders: Callable[[str], bool] = lambda party: True,
                  revoke: Callable[[Event], bool] = lambda event: False,
-                 expect_late: Callable[[str, int], None] = lambda party, number: None) -> None:
+                 expect_late: Callable[[str, int], None] = lambda party, number: None,
+                 operator_of: Callable[[int | None], str | None] = lambda number: None) -> None:
         """`locations` are those of an operator, and None at a provider. `feed` carries out an event, and goes on where
         nobody waits any more, unless `revoke` takes the event back, which tells whether it could. `takes_orders` says
-        whether the result of one command more may wait for a partner, and `expect_late` keeps that a command is late.
+        whether the result of one command more may wait for a partner, `expect_late` keeps that a command is late, and
+        `operator_of` says to whom the command of a number was given, where that is known.
         """
         self._url, self._events, self._clock, self._feed = url, events, events.clock, feed
         self._objects, self._requests, self._locations = objects, requests, locations
         self._takes_orders, self._revoke, self._expect_late = takes_orders, revoke, expect_late
+        self._operator_of = operator_of
         self._patching = asyncio.Lock()
         self._under_way: dict[tuple[str, int], UnderWay] = {}
 
@@ -93,6 +97,9 @@ class Interfaces:
         return await self._deliver(request, kind, body)
 
     async def post_result(self, request: web.Request) -> web.Response:
+        operator = self._operator_of(number_of(request.match_info["number"]))
+        if operator is not None and not same_party(operator, request["partner"].party):
+            raise Refusal(200, INVALID, "the command was given to another party")
         url = f"{NODES_URL}{self._events.node}/{request.match_info['number']}"
         return await self._deliver(request, "command_result", {**await members_of(request), "response_url": url})
 
@@ -162,6 +169,7 @@ class Interfaces:
     async def _deliver(self, request: web.Request, kind: str, body: JsonObject) -> web.Response:
         """Delivers a packet of a kind and a body, and answers as the node does. Raises Refusal."""
         partner: Partner = request["partner"]
+        refuse_of_another(kind, body, partner.party)
         serial, number = await self._numbers(request, partner)
         if kind == "start_session" and partner.own_references and not body.get("authorization_reference"):
             body = {**body, "authorization_reference": reference_of(partner.party, number)}

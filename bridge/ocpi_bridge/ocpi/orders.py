@@ -92,6 +92,11 @@ class Orders:
     def _now(self) -> int:
         return int(self._events.clock.seconds() * 1000)
 
+    def operator_of(self, request: int | None) -> str | None:
+        """The operator to whom the command of a number was given, if there is one."""
+        rows = self._state.query("SELECT operator FROM order_given WHERE request = ?", request)
+        return rows[0][0] if rows else None
+
     def age(self, command: Packet) -> int:
         """The milliseconds since a command was ordered."""
         rows = self._state.query("SELECT at FROM order_given WHERE request = ?", command.request)

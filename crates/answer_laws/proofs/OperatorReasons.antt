@@ -8,7 +8,7 @@ use Rattle.node_steps.specs.declared.fault.NodeFault.TheVariants.{NotForMe, Unkn
 use Rattle.operator_rows.specs.Sound.{IsConsistent}
 use Rattle.operator_rows.specs.State.{State}
 use Rattle.operator_steps.specs.Credits.{HasNoCreditStamp}
-use Rattle.operator_steps.specs.Events.{Arrives, Credits, Input, Reports, Restarts, Serves, Ticks}
+use Rattle.operator_steps.specs.Events.{Arrives, Credits, Input, Reopens, Reports, Restarts, Serves, Ticks}
 use Rattle.operator_steps.specs.Faults.{IsCreditFault, IsDue, IsOwnFault, IsReportFault}
 use Rattle.operator_steps.specs.Moves.{Work}
 use Rattle.operator_steps.specs.Sessions.{HasNoStamp}
@@ -81,6 +81,7 @@ module _ (s : State) where
     one_reason (Credits at session) f g h k a b = one_branch (one_is StampEnd) (one_is NumbersUsedUp) f g (credit_reason apart at session f h a) (credit_reason apart at session g k b)
     one_reason (Ticks at) f g h k a b = tick_reason at f h a ∙ sym (tick_reason at g k b)
     one_reason Restarts f g h k a b = absurd h
+    one_reason (Reopens line) f g h k a b = absurd h
 
 -- ---- a node of either role
 

@@ -12,7 +12,7 @@ use Rattle.operator_rows.specs.Sound.{IsConsistent}
 use Rattle.operator_rows.specs.State.{State}
 use Rattle.operator_steps.specs.Credits as credits
 use Rattle.operator_steps.specs.Credits.{CreditLine, CreditsTo, HasNoCreditStamp, next_credit}
-use Rattle.operator_steps.specs.Events.{Arrives, Asks, Credits, Event, Input, Reports, Restarts, Serves, Ticks, event_out}
+use Rattle.operator_steps.specs.Events.{Arrives, Asks, Credits, Event, Input, Reopens, Reports, Restarts, Serves, Ticks, event_out}
 use Rattle.operator_steps.specs.Moves.{Quietly, Work, acted, quiet}
 use Rattle.operator_steps.specs.Service as service
 use Rattle.operator_steps.specs.Service.{ServiceLine}
@@ -102,6 +102,7 @@ module _ (s : State) (fine : IsConsistent s) (apart : SiteDiffers s) where
   one_asked (Credits at session) v w h g = one_quiet (CreditLine s at session) (one_credit s apart at session) v w h g
   one_asked (Ticks at) v w h g = one_moment s fine apart at v w h g
   one_asked Restarts v w h g = absurd h
+  one_asked (Reopens line) v w h g = absurd h
 
   one_event : (x y : Event) (t u : State) → x.input ≡ y.input → event_out x t ≡ event_out y u → (x ≡ y) × (t ≡ u)
   one_event x y t u same out = (λ i. record { input = same i; changes = (out i).changes; packets = (out i).packets }, λ i. (out i).state)

@@ -12,7 +12,7 @@ use Rattle.node_steps.specs.Acts.{Act}
 use Rattle.node_steps.specs.declared.fault.NodeFault.{NodeFault}
 use Rattle.node_steps.specs.declared.fault.NodeFault.TheVariants.{NotForMe, UnknownOperator, UnknownToken, StampEnd, NumbersUsedUp, Memory}
 use Rattle.provider_rows.specs.State.{State}
-use Rattle.provider_steps.specs.Events.{Arrives, Gives, Input, Restarts, Submits, Ticks}
+use Rattle.provider_steps.specs.Events.{Arrives, Gives, Input, Reopens, Restarts, Submits, Ticks}
 use Rattle.provider_steps.specs.Faults.{IsOperator, IsOrderFault, IsPacketFault, IsTickFault, IsTokenFault}
 use Rattle.provider_steps.specs.Orders as orders
 use Rattle.provider_steps.specs.Orders.{LacksToken, Makes, OrderLine}
@@ -117,3 +117,4 @@ module _ (s : State) where
   one_reason (Gives at t) f g h k a b = one_branch (one_branch (one_is _) (one_is _)) (one_is _) f g (token_reason at t f h a) (token_reason at t g k b)
   one_reason (Ticks at) f g h k a b = tick_reason at f h a ∙ sym (tick_reason at g k b)
   one_reason Restarts f g h k a b = absurd h
+  one_reason (Reopens p) f g h k a b = absurd h

@@ -18,7 +18,7 @@ use Rattle.node_steps.specs.Acts.{Act, commanded, in_turn}
 use Rattle.provider_rows.specs.Sound.{IsConsistent}
 use Rattle.provider_rows.specs.State.{State}
 use Rattle.provider_steps.specs.Acts.{own_url, referenced, stored, token_acts}
-use Rattle.provider_steps.specs.Events.{Arrives, Asks, Event, Gives, Input, Restarts, Submits, Ticks, event_out}
+use Rattle.provider_steps.specs.Events.{Arrives, Asks, Event, Gives, Input, Reopens, Restarts, Submits, Ticks, event_out}
 use Rattle.provider_steps.specs.Moves.{acted}
 use Rattle.provider_steps.specs.Orders as orders
 use Rattle.provider_steps.specs.Orders.{IsOwnToken, Makes, OrderLine, next_reference, next_request}
@@ -119,7 +119,7 @@ one_token s at t fine xs ys h g =
     h.acts_are ∙ (λ i. stored (version i) ∷ in_turn (token_acts at (version i)) s.rows.outbox.last (pushes i)) ∙ sym g.acts_are
 
 one_moment : (s : State) (at : ℕ) → AtMostOne (TickLine s at)
-one_moment s at xs ys h g = h.acts_are ∙ ap (all_resent at s.rows.outbox) (one_exactly _ h.due g.due h.are_due g.are_due) ∙ sym g.acts_are
+one_moment s at xs ys h g = h.acts_are ∙ ap (all_resent s.operators at s.rows.outbox) (one_exactly _ h.due g.due h.are_due g.are_due) ∙ sym g.acts_are
 
 -- ---- any input
 
@@ -129,6 +129,7 @@ one_asked s fine apart (Submits at operator o) xs ys h g = one_order s at operat
 one_asked s fine apart (Gives at t) xs ys h g = one_token s at t fine xs ys h g
 one_asked s fine apart (Ticks at) xs ys h g = one_moment s at xs ys h g
 one_asked s fine apart Restarts xs ys h g = absurd h
+one_asked s fine apart (Reopens p) xs ys h g = absurd h
 
 module _ (s : State) (fine : IsConsistent s) (apart : UrlsDiffer s) where
   -- what is left of an event is one, where what it leaves is

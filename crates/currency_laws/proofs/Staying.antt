@@ -3,6 +3,7 @@ use Rattle.std.proofs.Common.{◌≡◌, ℕ, Bool, true, false, List, [], ◌�
 use Rattle.std.specs.Prelude.{Some, Contains}
 use Rattle.std.specs.FinMap.{get}
 use Rattle.std.proofs.lemmas.Bool.{cases_Bool}
+use Rattle.tables.proofs.Elements.{in_none}
 use Rattle.ocpi_text.specs.Text.{key}
 use Rattle.ocpi_types.specs.Credits.{is_credit}
 use Rattle.ocpi_types.specs.declared.cdrs.Cdr.{Cdr}
@@ -119,7 +120,7 @@ at_first line own = (
   opening_consistent line own,
   record {
     billed = sessions_are_billed_once line [] (opening line) own refl;
-    own = λ id x has v now. let all = currencies_are_of_site line [] (opening line) own refl in all.cdrs id x has ∙ sym (all.sessions (key x.session_id) v now);
+    own = λ id x has v now. let all = currencies_are_of_site line [] (opening line) own refl (λ other i. absurd (in_none other i)) in all.cdrs id x has ∙ sym (all.sessions (key x.session_id) v now);
   },
 )
 

@@ -11,6 +11,8 @@
 //!
 //! - What is watched for explanations is passed on: a watched reader gives what the reader within has left, and a
 //!   watched writer holds what the writer within holds. By `WatchedReader`, `WatchedWriter`: `remaining`, `contents`.
+//! - A watch begins with nothing told, and tells whether it has told of a line. By `Watch::new`: `untold`;
+//!   `Watch::has_told`. When that changes, no clause says (tested as which words follow).
 //! - The explanation of a malformed line begins with the line's number, the place of the event in it where it has
 //!   several, and the refusal with the name of its member. By `explain_malformed` (`specs/Explained`).
 //! - Which path, column and words follow, which idle and skipped events are told, and why: no clause says so. Tested

@@ -1,5 +1,7 @@
 //! What goes into a program and comes out of it, and what is said of that.
 
+ghost use Rattle.std.specs.Prelude.{◌≡◌, true, false};
+
 use crate::answers::{Case, Program, tell_idle, tell_refused, tell_skipped};
 use crate::known::Known;
 use crate::malformed::{LineText, Place, explain_malformed};
@@ -71,7 +73,10 @@ impl<'p, E: Write> Watch<'p, E> {
         telling: Telling,
         echoes: bool,
         errors: E,
-    ) -> Watch<'p, E> {
+    ) -> Watch<'p, E>
+        ensures untold { result.has_told ≡ false }
+        ensures telling { result.telling ≡ telling }
+    {
         Watch {
             alloc,
             errors,
@@ -94,7 +99,9 @@ impl<'p, E: Write> Watch<'p, E> {
     }
 
     /// Whether a line was refused, or came to nothing where that may be a mistake.
-    pub fn has_told(&self) -> bool {
+    pub fn has_told(&self) -> bool
+        ensures { result ≡ self.now.has_told }
+    {
         self.has_told
     }
 
@@ -244,7 +251,9 @@ impl<'p, E: Write> Watch<'p, E> {
         }
     }
 
-    fn say(&mut self, text: &[u8]) {
+    fn say(&mut self, text: &[u8])
+        ensures told { self.new.has_told ≡ true }
+    {
         self.has_told = true;
         if self.telling.explains {
             let _ = write_whole(&mut self.errors, text);

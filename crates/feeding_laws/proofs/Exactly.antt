@@ -1,12 +1,11 @@
 -- Each line that is fed by its number takes hold once, and in order.
 use Rattle.std.proofs.Common.{◌≡◌, ◌≢◌, ◌⊎◌, ◌++◌, ◌∙◌, ◌+◌, ◌<◌, ◌≤◌, ℕ, zero, suc, List, [], ◌∷◌, Option, None, Some, refl, sym, ap, subst, inl, inr, arith, length, length-append, append_assoc, append-nil}
-use Rattle.std.specs.Prelude.{slice_get}
+use Rattle.std.specs.Prelude.{Contains, slice_get}
 use Rattle.line_runs.specs.declared.run.Turn.{Turn}
 use Rattle.node_rows.specs.Laws.{AreClasses, RestartsAreHeld}
 use Rattle.node_runs.specs.LineAnswers.{Answers}
 use Rattle.node_runs.specs.NumberedRuns.{Carries, Changed, IsKnown, IsRead, Numbered, Takes, none_carried, none_changed, one_carried, one_changed, one_quiet}
 use Rattle.node_runs.proofs.HistoryLemmas.{line_run}
-use Rattle.ocpi_text.specs.Text.{key}
 use Rattle.ocpi_types.specs.Setups.{party_of}
 use Rattle.ocpi_types.specs.declared.rows.Row.{Row}
 use Rattle.ocpi_types.specs.declared.setup.Node.{Node}
@@ -90,10 +89,10 @@ module _ (alike : RestartsAreHeld) (classes : AreClasses) where
       → Answers party now number line turn out did next → changes_of_each did ≡ [] → restarted now ≡ restarted next
   quiet_line {now = now} {did = did} {next = next} is none = alike_by_events alike classes now next did (line_run is) none
 
-  module _ (party : List ℕ) (lines : ℕ → List ℕ) (first : NodeState) where
+  module _ (setups : List (List Node × Node)) (lines : ℕ → List ℕ) (first : NodeState) where
     -- to some node with these rows each line came once, up to that number
     abbrev Came : ℕ → NodeState → Type 0
-    Came number state = (member : Option Node) × (now : NodeState) × CameOnce party lines first member number now × (restarted now ≡ restarted state)
+    Came number state = (member : Option Node) × (now : NodeState) × CameOnce setups lines first member number now × (restarted now ≡ restarted state)
 
     -- up to each number from that of the last line that took hold to that of the last which was answered
     abbrev CameTo : ℕ → ℕ → NodeState → Type 0
@@ -104,20 +103,20 @@ module _ (alike : RestartsAreHeld) (classes : AreClasses) where
 
     -- ---- one run
 
-    module _ (setup : List Node) (member : Node) (party_is : key (party_of member) ≡ key party) (found : Held) (start : NodeState) (opens : StartsAgain setup member found.state start) (base seen : ℕ) (within : base ≤ seen)
+    module _ (setup : List Node) (member : Node) (of_them : Contains setups (setup, member)) (found : Held) (start : NodeState) (opens : StartsAgain setup member found.state start) (base seen : ℕ) (within : base ≤ seen)
         (so_far : CameTo found.line seen found.state) where
       opens_so : (now : NodeState) → restarted now ≡ restarted found.state → StartsAgain setup member now start
       opens_so now is = record { rows = opens.rows; are = alike_rows opens.rows found.state now (sym is) opens.are; made = opens.made; again = opens.again }
 
-      begins : (number : ℕ) → found.line ≤ number → (number ≤ seen) ⊎ (number ≤ found.line) → CameOnce party lines first (Some member) number start
+      begins : (number : ℕ) → found.line ≤ number → (number ≤ seen) ⊎ (number ≤ found.line) → CameOnce setups lines first (Some member) number start
       begins number above below =
           let (was, now, came, is) = so_far number above below in
-          starts setup member party_is came (opens_so now is)
+          starts setup member of_them came (opens_so now is)
 
       -- what is so behind the lines that were answered so far
       record SoFar (read : List (List ℕ)) (did : List Numbered) (now : NodeState) : Type 0 where
         below : base + length read ≤ found.line → now ≡ start
-        above : found.line ≤ base + length read → CameOnce party lines first (Some member) (base + length read) now
+        above : found.line ≤ base + length read → CameOnce setups lines first (Some member) (base + length read) now
         rows : (changed : List ℕ) (last : ℕ) → Changed found.line did changed last → CameTo last (base + length read) now
         rise : (changed : List ℕ) (last : ℕ) → Changed found.line did changed last → Rise found.line changed last × ((last ≤ base + length read) ⊎ (last ≤ found.line))
 
@@ -187,9 +186,9 @@ module _ (alike : RestartsAreHeld) (classes : AreClasses) where
         low_so (IsKnown known written none same) low = same ∙ h.below (omega (arith, low))
         low_so (IsRead new turn answers) low = absurd (omega (arith, new, low))
 
-        high_so : Takes (party_of member) found.line (suc at) line now out did next → found.line ≤ suc at → CameOnce party lines first (Some member) (suc at) next
+        high_so : Takes (party_of member) found.line (suc at) line now out did next → found.line ≤ suc at → CameOnce setups lines first (Some member) (suc at) next
         high_so (IsKnown known written none same) high =
-            subst (CameOnce party lines first (Some member) (suc at)) (sym (same ∙ h.below (omega (arith, known)))) (begins (suc at) high (inr known))
+            subst (CameOnce setups lines first (Some member) (suc at)) (sym (same ∙ h.below (omega (arith, known)))) (begins (suc at) high (inr known))
         high_so (IsRead new turn answers) high =
             next_came (h.above (omega (arith, new))) (subst (λ (l : List ℕ). Answers (party_of member) now (suc at) l turn out did next) is answers)
 
@@ -233,7 +232,7 @@ module _ (alike : RestartsAreHeld) (classes : AreClasses) where
         one_so_far : SoFar (before ++ line ∷ []) (xs ++ (suc (base + length before), did) ∷ []) next
         one_so_far = record {
           below = λ low. low_so takes (omega (arith, low, long));
-          above = λ high. subst (λ (n : ℕ). CameOnce party lines first (Some member) n next) (omega (arith, long)) (high_so takes (omega (arith, high, long)));
+          above = λ high. subst (λ (n : ℕ). CameOnce setups lines first (Some member) n next) (omega (arith, long)) (high_so takes (omega (arith, high, long)));
           rows = λ changed last c number above below.
               let m = one_more xs (suc at) did changed last c in
               elim m.is [
@@ -275,7 +274,7 @@ module _ (alike : RestartsAreHeld) (classes : AreClasses) where
       }
       left_by read did now changed left h (One_more earlier before c new turn out more after answers some same line_is) =
           let at = base + length read in
-          let came : CameOnce party lines first (Some member) (suc at) after = next_came (h.above (omega (arith, new))) answers in
+          let came : CameOnce setups lines first (Some member) (suc at) after = next_came (h.above (omega (arith, new))) answers in
           let r = h.rise earlier before c in
           record {
             came = λ number above below. subst (λ (n : ℕ). Came n left.state) (le_same (suc at) number (omega (arith, above, line_is)) (only_next at number left.line line_is above below)) (Some member, after, came, sym same);
@@ -292,15 +291,15 @@ module _ (alike : RestartsAreHeld) (classes : AreClasses) where
 
   -- ---- all runs
 
-  record AllEnd (party : List ℕ) (lines : ℕ → List ℕ) (first : Held) (seen : ℕ) (changed : List ℕ) (left : Held) : Type 0 where
-    came : CameTo party lines first.state left.line seen left.state
+  record AllEnd (setups : List (List Node × Node)) (lines : ℕ → List ℕ) (first : Held) (seen : ℕ) (changed : List ℕ) (left : Held) : Type 0 where
+    came : CameTo setups lines first.state left.line seen left.state
     rise : Rise 1 changed left.line
 
   -- behind a run more
-  ran_end : {setup : List Node} {member : Node} {party : List ℕ} {lines : ℕ → List ℕ} {first found left : Held} {seen base : ℕ} {before changed : List ℕ} {read : List (List ℕ)}
-      → key (party_of member) ≡ key party → base ≤ seen → AllEnd party lines first seen before found → Ran setup member lines found base read changed left
-      → AllEnd party lines first (base + length read) (before ++ changed) left
-  ran_end {found = found} {seen = seen} {base = base} {before = before} party_is within h NotBegun = record {
+  ran_end : {setup : List Node} {member : Node} {setups : List (List Node × Node)} {lines : ℕ → List ℕ} {first found left : Held} {seen base : ℕ} {before changed : List ℕ} {read : List (List ℕ)}
+      → Contains setups (setup, member) → base ≤ seen → AllEnd setups lines first seen before found → Ran setup member lines found base read changed left
+      → AllEnd setups lines first (base + length read) (before ++ changed) left
+  ran_end {found = found} {seen = seen} {base = base} {before = before} of_them within h NotBegun = record {
     came = λ number above below. h.came number above (lower number below);
     rise = subst (λ (l : List ℕ). Rise 1 l found.line) (sym (append-nil before)) h.rise;
   }
@@ -308,25 +307,25 @@ module _ (alike : RestartsAreHeld) (classes : AreClasses) where
       lower : (number : ℕ) → (number ≤ base + length {A = List ℕ} []) ⊎ (number ≤ found.line) → (number ≤ seen) ⊎ (number ≤ found.line)
       lower number (inl low) = inl (omega (arith, low, within))
       lower number (inr low) = inr low
-  ran_end {setup = setup} {member = member} {party = party} {lines = lines} {first = first} {found = found} {left = left} {seen = seen} {base = base} {changed = changed} {read = read} party_is within h
+  ran_end {setup = setup} {member = member} {setups = setups} {lines = lines} {first = first} {found = found} {left = left} {seen = seen} {base = base} {changed = changed} {read = read} of_them within h
       (Began start opens are did now carries leaves) =
-      let so_far = all_so_far party lines first.state setup member party_is found start opens base seen within h.came read did now carries are in
-      let e = left_by party lines first.state setup member party_is found start opens base seen within h.came read did now changed left so_far leaves in
+      let so_far = all_so_far setups lines first.state setup member of_them found start opens base seen within h.came read did now carries are in
+      let e = left_by setups lines first.state setup member of_them found start opens base seen within h.came read did now changed left so_far leaves in
       record { came = e.came; rise = rise_join h.rise e.rise }
 
-  all_end : {party : List ℕ} {lines : ℕ → List ℕ} {first left : Held} {seen : ℕ} {changed : List ℕ} → first.line ≡ 1 → AreRuns party lines first seen changed left → AllEnd party lines first seen changed left
-  all_end {party = party} {lines = lines} {first = first} new none_ran = record {
-    came = λ number above below. subst (λ (n : ℕ). Came party lines first.state n first.state) (le_same 1 number (omega (arith, above, new)) (under_one number below)) (None, first.state, none_came, refl);
+  all_end : {setups : List (List Node × Node)} {lines : ℕ → List ℕ} {first left : Held} {seen : ℕ} {changed : List ℕ} → first.line ≡ 1 → AreRuns setups lines first seen changed left → AllEnd setups lines first seen changed left
+  all_end {setups = setups} {lines = lines} {first = first} new none_ran = record {
+    came = λ number above below. subst (λ (n : ℕ). Came setups lines first.state n first.state) (le_same 1 number (omega (arith, above, new)) (under_one number below)) (None, first.state, none_came, refl);
     rise = subst (Rise 1 []) (sym new) none_rises;
   }
     where
       under_one : (number : ℕ) → (number ≤ 1) ⊎ (number ≤ first.line) → number ≤ 1
       under_one number (inl low) = low
       under_one number (inr low) = omega (arith, low, new)
-  all_end new (one_ran setup member party_is runs some within ran) = ran_end party_is within (all_end new runs) ran
+  all_end new (one_ran setup member of_them runs some within ran) = ran_end of_them within (all_end new runs) ran
 
   pub feeding_is_exact : FeedingIsExact
-  feeding_is_exact party lines first left seen changed new runs =
+  feeding_is_exact setups lines first left seen changed new runs =
       let h = all_end new runs in
       elim (le_total seen left.line) [
         | inl low ↦ let c = h.came left.line (omega arith) (inr (omega arith)) in

@@ -1,5 +1,5 @@
 -- Runs of the command `node` that are fed lines by their numbers: what each leaves in its store, and what it writes.
-use Rattle.std.specs.Prelude.{◌≡◌, ◌≤◌, ℕ, suc, ◌+◌, Bool, List, [], ◌∷◌, ◌++◌, Option, None, Some, Ok, Err, length, take}
+use Rattle.std.specs.Prelude.{◌≡◌, ◌≤◌, ℕ, suc, ◌+◌, Bool, List, [], ◌∷◌, ◌++◌, Option, None, Some, Ok, Err, Contains, length, take}
 use Rattle.std.specs.Str.Lines.{lines as lines_of}
 use Rattle.json_text.specs.declared.fault.JsonFault.{JsonFault}
 use Rattle.line_runs.specs.Numbered.{echo_of}
@@ -17,8 +17,6 @@ use Rattle.node_runs.specs.declared.fault.NodeStop.{NodeStop}
 use Rattle.node_steps.specs.declared.fault.NodeFault.TheVariants.{NumbersUsedUp}
 use Rattle.node_store.specs.Contents.{Content, line_of}
 use Rattle.ocpi_text.specs.Whole.{max_whole}
-use Rattle.ocpi_text.specs.Text.{key}
-use Rattle.ocpi_types.specs.Setups.{party_of}
 use Rattle.ocpi_types.specs.declared.setup.Node.{Node}
 use Rattle.stored_laws.specs.Nodes.{CanStartAgain}
 use Rattle.stored_nodes.specs.Keepers.{Keeper}
@@ -114,26 +112,26 @@ RunsAreFed {K} keeper source =
 
 -- ---- runs one after another
 
--- Runs of a party's node over one store, each under a setup of its own, and over what the one before left: what its
--- keeper kept at the end, or what a stop left of that. The first is told 1; each other is told at most the number of
--- the last line that the one before answered.
-pub data AreFedRuns {K : Type 0} (keeper : Keeper K) (source : Source K) (party : List ℕ) (lines : ℕ → List ℕ) (first : Content) : ℕ → Content → Type 0 where
-  none_fed : AreFedRuns keeper source party lines first 1 first
-  one_fed : {seen base most : ℕ} {before after : Content} {text : List ℕ} {kept : K} (setup : List Node) (member : Node) → key (party_of member) ≡ key party
-      → AreFedRuns keeper source party lines first seen before → 1 ≤ base → base ≤ seen → (run : FedRun keeper source setup member lines base most text kept)
-      → keeper.is_honest kept → keeper.content run.fresh ≡ before → IsLeftBy keeper kept after → AreFedRuns keeper source party lines first (base + length run.read) after
-  one_unopened : {seen base : ℕ} {before : Content} (setup : List Node) (member : Node) → key (party_of member) ≡ key party
-      → AreFedRuns keeper source party lines first seen before → 1 ≤ base → base ≤ seen → AreFedRuns keeper source party lines first base before
+-- Runs of a node over one store, each under one of these setups, as that member of it, and over what the one before
+-- left: what its keeper kept at the end, or what a stop left of that. The first is told 1; each other is told at most
+-- the number of the last line that the one before answered.
+pub data AreFedRuns {K : Type 0} (keeper : Keeper K) (source : Source K) (setups : List (List Node × Node)) (lines : ℕ → List ℕ) (first : Content) : ℕ → Content → Type 0 where
+  none_fed : AreFedRuns keeper source setups lines first 1 first
+  one_fed : {seen base most : ℕ} {before after : Content} {text : List ℕ} {kept : K} (setup : List Node) (member : Node) → Contains setups (setup, member)
+      → AreFedRuns keeper source setups lines first seen before → 1 ≤ base → base ≤ seen → (run : FedRun keeper source setup member lines base most text kept)
+      → keeper.is_honest kept → keeper.content run.fresh ≡ before → IsLeftBy keeper kept after → AreFedRuns keeper source setups lines first (base + length run.read) after
+  one_unopened : {seen base : ℕ} {before : Content} (setup : List Node) (member : Node) → Contains setups (setup, member)
+      → AreFedRuns keeper source setups lines first seen before → 1 ≤ base → base ≤ seen → AreFedRuns keeper source setups lines first base before
 
 -- what is kept at the end is exact
-pub record AreExact (party : List ℕ) (lines : ℕ → List ℕ) (first : Held) (seen : ℕ) (c : Content) : Type 0 where
+pub record AreExact (setups : List (List Node × Node)) (lines : ℕ → List ℕ) (first : Held) (seen : ℕ) (c : Content) : Type 0 where
   pub changed : List ℕ
   pub left : Held
   pub holds : Holds c left
-  pub exact : IsExact party lines first seen changed left
+  pub exact : IsExact setups lines first seen changed left
 
 -- so it is of each node whose store had no line at first
 abbrev pub FedRunsAreExact : {K : Type 0} → Keeper K → Source K → Type 0
 FedRunsAreExact {K} keeper source =
-    (party : List ℕ) (lines : ℕ → List ℕ) (first last : Content) (held : Held) (seen : ℕ) → Holds first held → held.line ≡ 1
-    → AreFedRuns keeper source party lines first seen last → AreExact party lines held seen last
+    (setups : List (List Node × Node)) (lines : ℕ → List ℕ) (first last : Content) (held : Held) (seen : ℕ) → Holds first held → held.line ≡ 1
+    → AreFedRuns keeper source setups lines first seen last → AreExact setups lines held seen last

@@ -1,11 +1,10 @@
 -- A node that is fed lines by their numbers, in runs over one store that may stop anywhere, each under a setup of its
 -- own: each line takes hold once, and in order.
-use Rattle.std.specs.Prelude.{◌≡◌, ◌≢◌, ◌≤◌, ◌<◌, ℕ, suc, ◌+◌, List, [], ◌∷◌, ◌++◌, Option, None, Some, length, slice_get}
+use Rattle.std.specs.Prelude.{◌≡◌, ◌≢◌, ◌≤◌, ◌<◌, ℕ, suc, ◌+◌, List, [], ◌∷◌, ◌++◌, Option, None, Some, Contains, length, slice_get}
 use Rattle.line_runs.specs.declared.run.Turn.{Turn}
 use Rattle.node_core.specs.Members.{IsMadeOfRows}
 use Rattle.node_runs.specs.LineAnswers.{Answers}
 use Rattle.node_runs.specs.NumberedRuns.{Carries, Changed, Numbered}
-use Rattle.ocpi_text.specs.Text.{key}
 use Rattle.ocpi_types.specs.Setups.{party_of}
 use Rattle.ocpi_types.specs.declared.rows.Row.{Row}
 use Rattle.ocpi_types.specs.declared.setup.Node.{Node}
@@ -48,26 +47,26 @@ pub data Ran (setup : List Node) (member : Node) (lines : ℕ → List ℕ) (fou
       → (did : List Numbered) (now : NodeState) → Carries (party_of member) found.line base start read did now
       → Leaves (party_of member) lines found.line (base + length read) did now left changed → Ran setup member lines found base read changed left
 
--- Runs of a party's node one after another, each over what the one before left, and each under a setup of its own,
--- which has that party in some case. The first is told 1; each other is told at most the number of the last line that
--- the one before answered, which is that of the last `done` that its feeder can have seen. The numbers are those of the
--- lines by which rows were changed, in the order in which that was done.
-pub data AreRuns (party : List ℕ) (lines : ℕ → List ℕ) (first : Held) : ℕ → List ℕ → Held → Type 0 where
-  none_ran : AreRuns party lines first 1 [] first
-  one_ran : {seen base : ℕ} {before changed : List ℕ} {found left : Held} {read : List (List ℕ)} (setup : List Node) (member : Node) → key (party_of member) ≡ key party
-      → AreRuns party lines first seen before found → 1 ≤ base → base ≤ seen → Ran setup member lines found base read changed left
-      → AreRuns party lines first (base + length read) (before ++ changed) left
+-- Runs of a node one after another, each over what the one before left, and each under one of these setups, as that
+-- member of it. The first is told 1; each other is told at most the number of the last line that the one before
+-- answered, which is that of the last `done` that its feeder can have seen. The numbers are those of the lines by which
+-- rows were changed, in the order in which that was done.
+pub data AreRuns (setups : List (List Node × Node)) (lines : ℕ → List ℕ) (first : Held) : ℕ → List ℕ → Held → Type 0 where
+  none_ran : AreRuns setups lines first 1 [] first
+  one_ran : {seen base : ℕ} {before changed : List ℕ} {found left : Held} {read : List (List ℕ)} (setup : List Node) (member : Node) → Contains setups (setup, member)
+      → AreRuns setups lines first seen before found → 1 ≤ base → base ≤ seen → Ran setup member lines found base read changed left
+      → AreRuns setups lines first (base + length read) (before ++ changed) left
 
 -- ---- what is so of them
 
--- To a party's node the lines of the numbers from 2 on came, each once and in their order, up to that number. Between
--- some of them the node started again: it is then that member of a setup; before it first did, of none.
-pub data CameOnce (party : List ℕ) (lines : ℕ → List ℕ) (first : NodeState) : Option Node → ℕ → NodeState → Type 0 where
-  none_came : CameOnce party lines first None 1 first
-  next_came : {member : Node} {number : ℕ} {now next : NodeState} {turn : Turn} {out : List ℕ} {did : List Deed} → CameOnce party lines first (Some member) number now
-      → Answers (party_of member) now (suc number) (lines (suc number)) turn out did next → CameOnce party lines first (Some member) (suc number) next
-  starts : {was : Option Node} {number : ℕ} {now next : NodeState} (setup : List Node) (member : Node) → key (party_of member) ≡ key party
-      → CameOnce party lines first was number now → StartsAgain setup member now next → CameOnce party lines first (Some member) number next
+-- To a node the lines of the numbers from 2 on came, each once and in their order, up to that number. Between some of
+-- them the node started again, under one of these setups: it is then that member of it; before it first did, of none.
+pub data CameOnce (setups : List (List Node × Node)) (lines : ℕ → List ℕ) (first : NodeState) : Option Node → ℕ → NodeState → Type 0 where
+  none_came : CameOnce setups lines first None 1 first
+  next_came : {member : Node} {number : ℕ} {now next : NodeState} {turn : Turn} {out : List ℕ} {did : List Deed} → CameOnce setups lines first (Some member) number now
+      → Answers (party_of member) now (suc number) (lines (suc number)) turn out did next → CameOnce setups lines first (Some member) (suc number) next
+  starts : {was : Option Node} {number : ℕ} {now next : NodeState} (setup : List Node) (member : Node) → Contains setups (setup, member)
+      → CameOnce setups lines first was number now → StartsAgain setup member now next → CameOnce setups lines first (Some member) number next
 
 -- each of these numbers is above the one before it, and the first above `low`; the last is `high`, or it is `low`
 pub data Rise (low : ℕ) : List ℕ → ℕ → Type 0 where
@@ -76,11 +75,11 @@ pub data Rise (low : ℕ) : List ℕ → ℕ → Type 0 where
 
 -- The rows that are kept at the end are those of a node to which each line came once, in order, up to the last that was
 -- answered, and up to the last that took hold. No line changed rows twice.
-pub record IsExact (party : List ℕ) (lines : ℕ → List ℕ) (first : Held) (seen : ℕ) (changed : List ℕ) (left : Held) : Type 0 where
+pub record IsExact (setups : List (List Node × Node)) (lines : ℕ → List ℕ) (first : Held) (seen : ℕ) (changed : List ℕ) (left : Held) : Type 0 where
   pub last : ℕ
   pub member : Option Node
   pub now : NodeState
-  pub came : CameOnce party lines first.state member last now
+  pub came : CameOnce setups lines first.state member last now
   pub kept : restarted left.state ≡ restarted now
   pub answered : seen ≤ last
   pub held : left.line ≤ last
@@ -89,5 +88,5 @@ pub record IsExact (party : List ℕ) (lines : ℕ → List ℕ) (first : Held) 
 -- so it is of each node whose store had no line at first, however often it was stopped, wherever, and under whatever
 -- setups it ran
 abbrev pub FeedingIsExact : Type 0
-FeedingIsExact = (party : List ℕ) (lines : ℕ → List ℕ) (first left : Held) (seen : ℕ) (changed : List ℕ) → first.line ≡ 1
-    → AreRuns party lines first seen changed left → IsExact party lines first seen changed left
+FeedingIsExact = (setups : List (List Node × Node)) (lines : ℕ → List ℕ) (first left : Held) (seen : ℕ) (changed : List ℕ) → first.line ≡ 1
+    → AreRuns setups lines first seen changed left → IsExact setups lines first seen changed left

@@ -35,11 +35,11 @@ pub own_party : NodeState → List ℕ
 own_party (Operates s) = s.party
 own_party (Provides s) = s.party
 
-operator_happens : (s : operator.State) (e : operator_events.Event) (t : operator.State) → OperatorDoes s e t → operator_events.Happens s e t
+pub operator_happens : (s : operator.State) (e : operator_events.Event) (t : operator.State) → OperatorDoes s e t → operator_events.Happens s e t
 operator_happens s e t (steps.Done by) = operator_events.Done by
 operator_happens s e t (steps.Restarted now is) = operator_events.Restarted now is
 
-provider_happens : (s : provider.State) (e : provider_events.Event) (t : provider.State) → ProviderDoes s e t → provider_events.Happens s e t
+pub provider_happens : (s : provider.State) (e : provider_events.Event) (t : provider.State) → ProviderDoes s e t → provider_events.Happens s e t
 provider_happens s e t (steps.Done by) = provider_events.Done by
 provider_happens s e t (steps.Restarted now is) = provider_events.Restarted now is
 
@@ -56,6 +56,14 @@ pub opens_as : (setup : List Node) (n : Node) → own_party (opening_of setup n)
 unfolding own_party
 opens_as setup (node.Operator party site) = refl
 opens_as setup (node.Provider party) = refl
+
+pub own_operator : (s : operator.State) → own_party (Operates s) ≡ s.party
+unfolding own_party
+own_operator s = refl
+
+pub own_provider : (s : provider.State) → own_party (Provides s) ≡ s.party
+unfolding own_party
+own_provider s = refl
 
 -- a packet that a node takes is for it
 operator_takes : (s : operator.State) (e : operator_events.Event) (t : operator.State) (at : ℕ) (q : Packet) → OperatorDoes s e t → e.input ≡ operator_events.Arrives at q → key q.to ≡ key s.party

@@ -107,7 +107,7 @@ module _ {K : Type 0} (keeper : Keeper K) where
   -- ---- an event was refused
 
   pub not_done : (old new : Stored K) (history : List Entry) (k : NodeEventKind) (f : ApplyFault) → Fails keeper None old k f new → IsNotDone keeper old history k (cell_fault f) new
-  not_done old new history k (apply.Store (store.Refused cause)) fails = fails
+  not_done old new history k (apply.Store (store.Refused cause)) fails = (tt, fails.1)
   not_done old new history k (apply.Store store.BadRow) fails = absurd fails.0
   not_done old new history k (apply.Store store.OldLayout) fails = absurd fails.0
   not_done old new history k (apply.Store store.Memory) fails = inr fails.1

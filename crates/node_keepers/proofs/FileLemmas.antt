@@ -16,9 +16,10 @@ use Rattle.sqlite_disk.specs.declared.Files.{Files}
 use Rattle.ocpi_types.specs.declared.rows.Row.{Row}
 use Rattle.row_table.specs.Kept.{Kept, IsClean, content, texts}
 use Rattle.sqlite.specs.Files.{over_files}
-use Rattle.node_store.specs.Closed.{IsCopiedIfClean}
+use Rattle.node_store.specs.Closed.{IsCopiedIfClean, IsUnclosed}
+use Rattle.node_store.specs.Contents.{Content}
 use Rattle.node_store.specs.declared.fault.StoreFault.{StoreFault}
-use Rattle.node_keepers.specs.InFiles.{HadRows, IsBlank, IsFoundIn, WereFoundIfClean}
+use Rattle.node_keepers.specs.InFiles.{HadRows, HadRowsBefore, HeldRows, IsBlank, IsFoundIn, Tells, WereFound}
 
 -- what is found in files of which the database is empty
 found_nothing : (image : Image) (trees : Trees) → length image.db ≡ 0 → AreFoundIn image trees → IsEmpty trees
@@ -72,35 +73,53 @@ of_opened Known P Q (Ok k) (Err e) each known fault told = tt
 of_opened Known P Q (Err e) (Ok f) each known fault told = absurd (cc fault)
 of_opened Known P Q (Err e) (Err other) each known fault told = tt
 
+-- what is told of a keeper's rows, however it ended
+pub had_rows : {K E L : Type 0} (content_now : K → Content) (is_honest : K → Type 0) (leaves : K → E → Type 0) (keeps : K → StoreFault → L → Type 0) (k last : K) (rows : Option (List Row))
+    (closed : Result E (StoreFault × L)) → (is_honest last → is_honest k) → (is_honest last → Tells (content_now k) rows) → (is_honest last → content_now last ≡ content_now k)
+    → IfOk closed (leaves last) → IfErr closed (λ e. keeps last e.0 e.1) → HadRows content_now is_honest leaves keeps k rows closed
+had_rows content_now is_honest leaves keeps k last rows (Ok ended) earlier are same left kept = (last, record { earlier = earlier; are = are; same = same }, left)
+had_rows content_now is_honest leaves keeps k last rows (Err e) earlier are same left kept = (last, record { earlier = earlier; are = are; same = same }, kept)
+
 -- a keeper of a file had these rows
-abbrev pub TheRows : {D : Type 0} {g : Ghosts D} → Kept (FileStore D g) × ℕ → Option (List Row) → Files D → Type 0
+abbrev pub TheRows : {D : Type 0} {g : Ghosts D} → Kept (FileStore D g) × ℕ → Option (List Row) → Result (Files D) (StoreFault × FileStore D g) → Type 0
 TheRows {D} {g} = HadRows (λ (k : Kept (FileStore D g) × ℕ). texts over_files k.0) (λ (k : Kept (FileStore D g) × ℕ). IsClean over_files k.0)
     (λ (k : Kept (FileStore D g) × ℕ) (files : Files D). IsCopiedIfClean k.0.conn files)
+    (λ (k : Kept (FileStore D g) × ℕ) (fault : StoreFault) (left : FileStore D g). IsUnclosed k.0.conn left fault)
 
 -- they were found in the file
 module _ {D : Type 0} {g : Ghosts D} (image : Image) where
-  the_rows : (k : Kept (FileStore D g) × ℕ) (rows : Option (List Row)) (files : Files D) → IsFoundIn image k → TheRows k rows files → WereFoundIfClean g image rows files
-  the_rows k rows files found had = λ clean.
-      let copied = had.left clean in
-      record { first = k.0; found = found (had.earlier copied.was_clean); are = had.are copied.was_clean; last = had.last.0; same = had.same copied.was_clean; copied = copied }
+  abbrev HadThem : Kept (FileStore D g) × ℕ → Option (List Row) → Kept (FileStore D g) × ℕ → Type 0
+  HadThem k rows last = HadRowsBefore (λ (k : Kept (FileStore D g) × ℕ). texts over_files k.0) (λ (k : Kept (FileStore D g) × ℕ). IsClean over_files k.0) k rows last
+
+  held : (k last : Kept (FileStore D g) × ℕ) (rows : Option (List Row)) → IsFoundIn image k → HadThem k rows last → IsClean over_files last.0 → HeldRows image rows last.0
+  held k last rows found had clean = record { first = k.0; found = found (had.earlier clean); are = had.are clean; same = had.same clean }
+
+  the_rows : (k : Kept (FileStore D g) × ℕ) (rows : Option (List Row)) (closed : Result (Files D) (StoreFault × FileStore D g)) → IsFoundIn image k → TheRows k rows closed
+      → WereFound g image rows closed
+  the_rows k rows (Ok files) found had = λ clean.
+      let copied = had.2 clean in
+      (had.0.0, held k had.0 rows found had.1 copied.was_clean, copied)
+  the_rows k rows (Err e) found had = λ clean.
+      let was : IsClean over_files had.0.0 = let more = had.2.closed.quiet.clean in omega arith in
+      (had.0.0, held k had.0 rows found had.1 was, had.2)
 
   module _ {F V : Type 0} (opened : Result (Kept (FileStore D g) × ℕ) StoreFault) (r : Result F StoreFault) (found : IfOk opened (IsFoundIn image))
-      (fault : IfErr opened (λ e. r ≡ Err e)) (rows : F → Result V StoreFault) (items : V → List Row) (closed : F → Result (Files D) StoreFault) where
-    pub rows_found : IfOk opened (λ k. IfOk r (λ f. IfOk (rows f) (λ v. IfOk (closed f) (TheRows k (Some (items v)))))) →
-        IfOk r (λ f. IfOk (rows f) (λ v. IfOk (closed f) (WereFoundIfClean g image (Some (items v)))))
+      (fault : IfErr opened (λ e. r ≡ Err e)) (rows : F → Result V StoreFault) (items : V → List Row) (closed : F → Result (Files D) (StoreFault × FileStore D g)) where
+    pub rows_found : IfOk opened (λ k. IfOk r (λ f. IfOk (rows f) (λ v. TheRows k (Some (items v)) (closed f)))) →
+        IfOk r (λ f. IfOk (rows f) (λ v. WereFound g image (Some (items v)) (closed f)))
     rows_found told =
-        of_opened (IsFoundIn image) (λ (k : Kept (FileStore D g) × ℕ) (f : F). IfOk (rows f) (λ v. IfOk (closed f) (TheRows k (Some (items v)))))
-        (λ (f : F). IfOk (rows f) (λ v. IfOk (closed f) (WereFoundIfClean g image (Some (items v))))) opened r
-        (λ k f known. each_ok (λ (v : V). IfOk (closed f) (TheRows k (Some (items v)))) (λ (v : V). IfOk (closed f) (WereFoundIfClean g image (Some (items v)))) (rows f)
-        (λ v. each_ok (TheRows k (Some (items v))) (WereFoundIfClean g image (Some (items v))) (closed f) (λ files. the_rows k (Some (items v)) files known)))
+        of_opened (IsFoundIn image) (λ (k : Kept (FileStore D g) × ℕ) (f : F). IfOk (rows f) (λ v. TheRows k (Some (items v)) (closed f)))
+        (λ (f : F). IfOk (rows f) (λ v. WereFound g image (Some (items v)) (closed f))) opened r
+        (λ k f known. each_ok (λ (v : V). TheRows k (Some (items v)) (closed f)) (λ (v : V). WereFound g image (Some (items v)) (closed f)) (rows f)
+        (λ v. the_rows k (Some (items v)) (closed f) known))
         found fault told
 
-    pub bad_found : (bad : StoreFault) → IfOk opened (λ k. IfOk r (λ f. IfErr (rows f) (λ e. e ≡ bad → IfOk (closed f) (TheRows k None)))) →
-        IfOk r (λ f. IfErr (rows f) (λ e. e ≡ bad → IfOk (closed f) (WereFoundIfClean g image None)))
+    pub bad_found : (bad : StoreFault) → IfOk opened (λ k. IfOk r (λ f. IfErr (rows f) (λ e. e ≡ bad → TheRows k None (closed f)))) →
+        IfOk r (λ f. IfErr (rows f) (λ e. e ≡ bad → WereFound g image None (closed f)))
     bad_found bad told =
-        of_opened (IsFoundIn image) (λ (k : Kept (FileStore D g) × ℕ) (f : F). IfErr (rows f) (λ e. e ≡ bad → IfOk (closed f) (TheRows k None)))
-        (λ (f : F). IfErr (rows f) (λ e. e ≡ bad → IfOk (closed f) (WereFoundIfClean g image None))) opened r
-        (λ k f known. each_err (λ (e : StoreFault). e ≡ bad → IfOk (closed f) (TheRows k None))
-        (λ (e : StoreFault). e ≡ bad → IfOk (closed f) (WereFoundIfClean g image None)) (rows f)
-        (λ e had is. each_ok (TheRows k None) (WereFoundIfClean g image None) (closed f) (λ files. the_rows k None files known) (had is)))
+        of_opened (IsFoundIn image) (λ (k : Kept (FileStore D g) × ℕ) (f : F). IfErr (rows f) (λ e. e ≡ bad → TheRows k None (closed f)))
+        (λ (f : F). IfErr (rows f) (λ e. e ≡ bad → WereFound g image None (closed f))) opened r
+        (λ k f known. each_err (λ (e : StoreFault). e ≡ bad → TheRows k None (closed f))
+        (λ (e : StoreFault). e ≡ bad → WereFound g image None (closed f)) (rows f)
+        (λ e had is. the_rows k None (closed f) known (had is)))
         found fault told

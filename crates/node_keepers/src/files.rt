@@ -1,14 +1,12 @@
-//! Keepers in files: those of new nodes, that of one node, and the rows of a file that stands.
+//! Keepers in files: those of new nodes, and that of one node.
 
 ghost use Rattle.std.specs.Prelude.{
   ◌≡◌,
-  ◌≢◌,
   [],
   Err,
   IfErr,
   IfOk,
   IfSome,
-  IsOk,
   None,
   Ok,
   Some,
@@ -20,20 +18,17 @@ ghost use Rattle.std.specs.Prelude.{
 ghost use Rattle.node_store.specs.Closed.{IsCopiedIfClean};
 ghost use Rattle.node_store.specs.Contents.{Content};
 ghost use Rattle.node_store.specs.Faults.{IsCommitFault};
-ghost use Rattle.node_store.specs.declared.fault.StoreFault.TheVariants.{BadRow, OldLayout};
-ghost use Rattle.node_keepers.specs.InFiles.{HadRows, IsBlank, IsFoundIn, WereFoundIfClean};
+ghost use Rattle.node_keepers.specs.InFiles.{IsBlank, IsFoundIn};
 ghost use Rattle.row_table.specs.Kept.{IsClean, MayLeave, texts};
 ghost use Rattle.sqlite.specs.Files.{over_files};
 ghost use Rattle.sqlite.specs.WalFiles.{image_at};
 
 use crate::keeps::Keeps;
-use crate::loading::load_rows;
 use crate::system_files::{
     Identity, LOG_OF_A_PAGE, Locked, Standing, find_file, find_folder, find_or_make_file,
     make_file, remove_empty_log,
 };
 use node_store::{Cause, Keep, StoreFault, TableKeep, Unopened};
-use ocpi_types::Row;
 use row_table::Past;
 use sqlite::{File, FileFrom, FileStore, Files, Start, Unknown};
 use sqlite_disk::Disk;
@@ -403,7 +398,7 @@ fn keeper_of<K: Keep + Drop, L: Locked + Drop>(
 
 /// Opens the file at a path, which stands, as a database. A refusal leaves no file beside it that was not there before,
 /// but a log where the file is empty, where another program has the file, or where no file came back.
-fn open_file<S: Start>(
+pub(crate) fn open_file<S: Start>(
     rt: &HostRuntime,
     path: &str,
     standing: &Standing,
@@ -430,61 +425,4 @@ fn open_new(
     ensures stops { IfOk result (λ k. IsClean over_files k.0 → (c : Content) → MayLeave over_files k.0 c → c ≡ texts over_files k.0) }
 {
     open_file(rt, path, standing, Unknown)
-}
-
-/// What was found in a file that was opened.
-#[derive(Drop)]
-pub struct Found<F> {
-    /// Its rows, ordered by kind and key, or why they were not told: `BadRow` where a text is no row of its kind and
-    /// key, or that of the number of the last line is no such number, and never `OldLayout`.
-    pub rows: Result<Vec<Row>, StoreFault>,
-    /// The file and its log, which was closed once these were read, so that the file holds all rows alone. Both are
-    /// locked until they are dropped. After a refusal the rows are in the file and its log together, as before.
-    pub closed: Result<F, StoreFault>,
-}
-
-/// The rows of a keeper that was opened, which ends here. It stands for any keeper, since a body that holds one in a
-/// file is dear to prove.
-fn rows_of<K: InFile>(
-    rt: &HostRuntime,
-    path: &str,
-    identity: Option<Identity>,
-    opened: Result<K, StoreFault>,
-) -> Result<Found<K::Ended>, StoreFault>
-    ensures told { IfOk opened (λ k. IsOk result) }
-    ensures rows { IfOk opened (λ k. IfOk result (λ f. IfOk f.rows (λ v. IfOk f.closed (HadRows K.content K.is_honest K.leaves k (Some v.items))))) }
-    ensures bad { IfOk opened (λ k. IfOk result (λ f. IfErr f.rows (λ e. e ≡ BadRow → IfOk f.closed (HadRows K.content K.is_honest K.leaves k None)))) }
-    ensures layout { IfOk result (λ f. IfErr f.rows (λ e. e ≢ OldLayout)) }
-    ensures closed { IfOk result (λ f. IfErr f.closed IsCommitFault) }
-    ensures fault { IfErr opened (λ e. result ≡ Err e) }
-{
-    let mut keep = opened?;
-    let rows = load_rows(&mut keep);
-    let closed = keep.end(rt, path, identity);
-    Ok(Found { rows, closed })
-}
-
-/// The rows of a file that exists. It is refused where it was not opened: `NotFound`, `NotAFile` and `PermissionDenied`
-/// are told of the path before the file is opened as a database. Else the file is closed again. A refusal leaves no
-/// file beside it that was not there before, but a log where the file is empty, where another program has the file, or
-/// where no file came back.
-///
-/// `S` stands for what the file holds. A program names `Unknown`.
-pub fn rows_in<S: Start>(
-    rt: &HostRuntime,
-    path: &str,
-    start: S,
-) -> Result<Found<Files<FileFrom<S>>>, StoreFault>
-    ensures rows { IfOk result (λ f. IfOk f.rows (λ v. IfOk f.closed (WereFoundIfClean ⟦<FileFrom<S> as Disk>⟧ (image_at S.Start) (Some v.items)))) }
-    ensures bad { IfOk result (λ f. IfErr f.rows (λ e. e ≡ BadRow → IfOk f.closed (WereFoundIfClean ⟦<FileFrom<S> as Disk>⟧ (image_at S.Start) None))) }
-    ensures layout { IfOk result (λ f. IfErr f.rows (λ e. e ≢ OldLayout)) }
-    ensures closed { IfOk result (λ f. IfErr f.closed IsCommitFault) }
-{
-    let standing = find_file(rt, path)?;
-    rows_of(
-        rt,
-        path,
-        standing.identity,
-        open_file(rt, path, &standing, start),
-    )
 }

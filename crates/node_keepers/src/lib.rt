@@ -29,11 +29,12 @@
 //!   held, as it is in layout 2, whatever that was (`FindsInFile`). By `Keeps::open`: `found` (`specs/InFiles`).
 //! - What a closing leaves is handed out: the files, locked until they are dropped, which were copied as `node_store`
 //!   says. A `StoreFile` is opened once. By `Keeps::close`: `closed`; that it is opened once: by its type.
-//! - The rows of a file are those that it held; a text that is no row, or no number of a line, is told only where it
-//!   held one. The file was copied as it was closed. By `rows_in` (`specs/InFiles`).
+//! - The rows of a file are those that it held, also where closing it is refused then; a text that is no row, or no number
+//!   of a line, is told only where it held one. A file that was closed was copied; one that was not comes back as its
+//!   store. By `rows_in`: `rows`, `bad` (`WereFound` of `specs/InFiles`).
 //! - A log is removed only while this program holds the locks of its file, and where its name still leads to that file.
 //!   No clause says what lies on a disk (tested by `tools/try_stores`, `faults/open_at_once.py`).
-//! - A closing is refused for what a commit may be refused, `Refused` or `Memory`. All keepers are closed, also where
+//! - A closing is refused for what a commit may be refused (`IsCommitFault`). All keepers are closed, also where
 //!   one is refused, and where a later one is not opened. By `Keeps::close`, `close_all`: the fault; that all are, and
 //!   what each left, none (proved; the rest by reading).
 //! - The rows of the i-th node are in `node<i>.db`, and new files are empty. No clause says so: a `Keep` has no name
@@ -51,18 +52,20 @@
 //! Where keepers of rows come from is a trait, `Keeps`: in memory (`ListKeeps`), or in new files of a folder
 //! (`FileKeeps`). `open_all` opens one for each node of a setup, loads it, and refuses one that is not new; `commit`
 //! finds the keeper by the party and hands it the changes; `close_all` ends them. All of it is said of any type of
-//! keepers. What ends a keeper in a file is a trait of `files.rt` (`InFile`), so that the bodies which hold one are
-//! generic.
+//! keepers. What ends a keeper in a file is a trait (`InFile` of `files.rt`, `FoundInFile` of `found.rt`), so that the
+//! bodies which hold one are generic.
 #![tactic(auto)]
 
 mod copies;
 mod files;
+mod found;
 mod keeping;
 mod keeps;
 mod loading;
 mod system_files;
 
 pub use copies::kept_in_copy;
-pub use files::{FileKeeps, Found, StoreFile, rows_in};
+pub use files::{FileKeeps, StoreFile};
+pub use found::{Found, rows_in};
 pub use keeping::{KeptNode, close_all, commit, open_all};
 pub use keeps::{Keeps, ListKeeps};

@@ -1,6 +1,6 @@
 -- What a node does at once, one thing each: it keeps a reply and sends it, sends it again, makes a request, sends a
 -- request again, or lets one go that is settled. Each is a step; what does several is a step by `join`.
-use Rattle.std.proofs.Common.{◌≡◌, ◌≢◌, ◌⊎◌, zero, suc, ℕ, ◌+◌, ◌<◌, ◌≤◌, List, [], ◌∷◌, length, inl, inr, refl, sym, ap, subst, ◌∙◌, arith}
+use Rattle.std.proofs.Common.{◌≡◌, ◌≢◌, ◌⊎◌, zero, suc, ℕ, ◌+◌, ◌≤◌, List, [], ◌∷◌, length, inl, inr, refl, sym, ap, subst, ◌∙◌, arith}
 use Rattle.std.specs.Prelude.{Some, None, Contains, slice_get}
 use Rattle.std.specs.Cmp.{nat_cmp_total}
 use Rattle.std.specs.FinMap.{get, insert, nat_cmp-IsAntisymmetric}
@@ -12,8 +12,8 @@ use Rattle.tables.specs.Keys.{text_number_total, text_number_exact}
 use Rattle.tables.proofs.Elements.{in_none, in_single}
 use Rattle.tables.proofs.Maps.{get-insert_same, get-insert_other, told}
 use Rattle.tables.proofs.Options.{not_both}
-use Rattle.node_laws.specs.Nodes.{Node, Exchange, Request, request_of, IsReply, IsRepeated, IsNumbered, CountsPackets, IsAnswer, KeepsReplies, IsSettled, IsMade, KeepsRequests, AreGiven, NodeStep}
-use Rattle.node_laws.proofs.Joining.{IsPart, answer_of_part, settled_of_part, one_value}
+use Rattle.node_laws.specs.Nodes.{Node, Exchange, Request, request_of, Carries, CarriesStanding, IsOwn, IsReply, IsRepeated, IsNumbered, CountsPackets, IsAnswer, KeepsReplies, IsSettled, IsMade, KeepsRequests, AreGiven, NodeStep}
+use Rattle.node_laws.proofs.Joining.{IsPart, answer_of_part, carry_one, settled_of_part, one_value}
 use Rattle.node_laws.proofs.BodyKinds.{one_reply, reply_or_repeated}
 
 abbrev pub sends_none : List Packet → Exchange
@@ -50,15 +50,22 @@ module _ (s t : Node) where
     kept = λ x r i is. subst (λ m. get m (key x.to, x.request) ≡ Some r) (sym same) (sent x r i is);
   }
 
+  -- what stood still stands
+  still_carries : SameStanding s t → (x : Packet) → CarriesStanding s x → CarriesStanding t x
+  still_carries same x (r, stood, carries) = (r, same x.request ∙ stood, carries)
+
   -- what is sent stood
-  same_requests : (e : Exchange) → SameStanding s t → ((x : Packet) → Contains e.packets x → Contains s.peers x.to) → ((x : Packet) → Contains e.packets x → ¬ IsReply x.body → s.standing x.request ≡ Some (request_of x)) → KeepsRequests s e t
+  same_requests : (e : Exchange) → SameStanding s t → ((x : Packet) → Contains e.packets x → Contains s.peers x.to) → ((x : Packet) → Contains e.packets x → ¬ IsReply x.body → CarriesStanding s x) → KeepsRequests s e t
   same_requests e same peer stood = record {
     to_peer = peer;
     own = λ x i apart. inl (stood x i apart);
-    one = λ x y i j x_apart y_apart equal. one_value (request_of x) (request_of y) (sym (stood x i x_apart) ∙ ap s.standing equal ∙ stood y j y_apart);
+    one = λ x y i j x_apart y_apart equal.
+        let mine = stood x i x_apart in
+        let other = stood y j y_apart in
+        carry_one x y mine.0 other.0 mine.2 other.2 (one_value mine.0 other.0 (sym mine.1 ∙ ap s.standing equal ∙ other.1));
     made = λ n r has. inl (sym (same n) ∙ has);
     stays = λ n r has. inl (same n ∙ has);
-    stands = λ x i repeated. inl (same x.request ∙ stood x i (λ is. reply_or_repeated x.body is repeated));
+    stands = λ x i repeated. inl (still_carries same x (stood x i (λ is. reply_or_repeated x.body is repeated)));
   }
 
 -- nothing is sent, and nothing changes that others can tell
@@ -119,9 +126,13 @@ module _ (s t : Node) (came : List Packet) (x : Packet) (among : StaysAmong s t)
   }
 
   -- it stood
-  pub resend_step : t.last ≡ s.last → SameStanding s t → s.standing x.request ≡ Some (request_of x) → NodeStep s (sends_one came x) t
-  resend_step last standing stood = request_step (omega (arith, last)) (λ given. same_requests s t (sends_one came x) standing (λ y i. subst (λ (z : Packet). Contains s.peers z.to) (in_single x y i) (given x.request (request_of x) stood).peer) (λ y i other.
-      subst (λ (z : Packet). s.standing z.request ≡ Some (request_of z)) (in_single x y i) stood))
+  pub resend_step : t.last ≡ s.last → SameStanding s t → CarriesStanding s x → (AreGiven s → Contains s.peers x.to) → NodeStep s (sends_one came x) t
+  resend_step last standing stood peer = request_step (omega (arith, last)) (λ given. same_requests s t (sends_one came x) standing (λ y i. subst (λ (z : Packet). Contains s.peers z.to) (in_single x y i) (peer given))
+      (λ y i other. subst (CarriesStanding s) (in_single x y i) stood))
+
+  -- each packet of the one is that one
+  itself : (y z : Packet) → Contains (x ∷ []) y → Contains (x ∷ []) z → Carries y (request_of z)
+  itself y z i j = subst (λ (q : Packet). Carries q (request_of z)) (in_single x y i) (subst (λ (q : Packet). Carries x (request_of q)) (in_single x z j) (record { to = refl; body = refl }))
 
   -- it is new, and stands from now on; another that is about the same may end
   pub request_new_step : Contains s.peers x.to → t.last ≡ s.last + 1 → x.request ≡ s.last + 1 → t.standing x.request ≡ Some (request_of x) →
@@ -129,11 +140,11 @@ module _ (s t : Node) (came : List Packet) (x : Packet) (among : StaysAmong s t)
       ((n : ℕ) (r : Request) → n ≢ x.request → t.standing n ≡ Some r → s.standing n ≡ Some r) → NodeStep s (sends_one came x) t
   request_new_step peer last number stands stay old = request_step (omega (arith, last)) (λ given. record {
     to_peer = λ y i. subst (λ (z : Packet). Contains s.peers z.to) (in_single x y i) peer;
-    own = λ y i other. subst (λ (z : Packet). (s.standing z.request ≡ Some (request_of z)) ⊎ ((s.last < z.request) × (z.request ≤ t.last))) (in_single x y i) (inr (omega (arith, number), omega (arith, number, last)));
-    one = λ y z i j y_apart z_apart equal. ap request_of (sym (in_single x y i) ∙ in_single x z j);
+    own = λ y i other. subst (IsOwn s t) (in_single x y i) (inr (omega (arith, number), omega (arith, number, last)));
+    one = λ y z i j y_apart z_apart equal. itself y z i j;
     made = λ n r has. made_by n r has;
     stays = λ n r has. stay n r (λ same. let below = (given n r has).below in absurd (omega (arith, below, same, number))) has;
-    stands = λ y i repeated. inl (subst (λ (z : Packet). t.standing z.request ≡ Some (request_of z)) (in_single x y i) stands);
+    stands = λ y i repeated. inl (subst (CarriesStanding t) (in_single x y i) (request_of x, stands, record { to = refl; body = refl }));
   })
     where
       made_at : (n : ℕ) (r : Request) → t.standing n ≡ Some r → n ≡ x.request → IsMade s (sends_one came x) t n r
@@ -153,8 +164,8 @@ module _ (s t : Node) (came : List Packet) (x : Packet) (among : StaysAmong s t)
   pub ask_step : Contains s.peers x.to → t.last ≡ s.last + 1 → x.request ≡ s.last + 1 → ¬ IsRepeated x.body → SameStanding s t → NodeStep s (sends_one came x) t
   ask_step peer last number once standing = request_step (omega (arith, last)) (λ given. record {
     to_peer = λ y i. subst (λ (z : Packet). Contains s.peers z.to) (in_single x y i) peer;
-    own = λ y i other. subst (λ (z : Packet). (s.standing z.request ≡ Some (request_of z)) ⊎ ((s.last < z.request) × (z.request ≤ t.last))) (in_single x y i) (inr (omega (arith, number), omega (arith, number, last)));
-    one = λ y z i j y_apart z_apart equal. ap request_of (sym (in_single x y i) ∙ in_single x z j);
+    own = λ y i other. subst (IsOwn s t) (in_single x y i) (inr (omega (arith, number), omega (arith, number, last)));
+    one = λ y z i j y_apart z_apart equal. itself y z i j;
     made = λ n r has. inl (sym (standing n) ∙ has);
     stays = λ n r has. inl (standing n ∙ has);
     stands = λ y i repeated. absurd (once (subst (λ (z : Packet). IsRepeated z.body) (sym (in_single x y i)) repeated));

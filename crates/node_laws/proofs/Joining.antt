@@ -6,7 +6,7 @@ use Rattle.ocpi_text.specs.Text.{key}
 use Rattle.ocpi_types.specs.declared.packet.Packet.{Packet}
 use Rattle.ocpi_types.specs.declared.stored.Reply.{Reply}
 use Rattle.tables.proofs.Elements.{in_none}
-use Rattle.node_laws.specs.Nodes.{Node, Exchange, Request, both, request_of, IsReply, IsRepeated, CountsPackets, IsAnswer, KeepsReplies, IsSettled, Acknowledged, Replaced, Responded, Resulted, IsMade, IsOwn, KeepsRequests, AreGiven, NodeStep}
+use Rattle.node_laws.specs.Nodes.{Node, Exchange, Request, both, request_of, AreAboutSame, Carries, CarriesStanding, IsReply, IsRepeated, CountsPackets, IsAnswer, KeepsReplies, IsSettled, Acknowledged, Replaced, Responded, Resulted, Sessions, Tokens, IsMade, IsOwn, KeepsRequests, AreGiven, NodeStep}
 use Rattle.node_laws.proofs.Lists.{in_joined}
 
 -- all of the first exchange is in the second
@@ -36,6 +36,31 @@ given_after s t e h given n r has = elim ((h.asks given).made n r has) [
 
 pub one_value : {X : Type 0} (x y : X) → Some x ≡ Some y → x ≡ y
 one_value x y e = cc
+
+-- packets that carry one request
+pub carries_equal : (x : Packet) (q r : Request) → Carries x q → q ≡ r → Carries x r
+carries_equal x q r h same = subst (Carries x) same h
+
+pub carries_back : (x y : Packet) → Carries x (request_of y) → Carries y (request_of x)
+carries_back x y h = record { to = sym h.to; body = sym h.body }
+
+pub carry_one : (x y : Packet) (q r : Request) → Carries x q → Carries y r → q ≡ r → Carries x (request_of y)
+carry_one x y q r h g same = record {
+  to = h.to ∙ ap (λ (z : Request). key z.to) same ∙ sym g.to;
+  body = h.body ∙ ap (λ (z : Request). z.body) same ∙ sym g.body;
+}
+
+-- what settles a request settles what a packet that carries it asks
+module _ (e : Exchange) (n : ℕ) (x : Packet) (r : Request) (h : Carries x r) where
+  about_carried : (q : Request) → AreAboutSame r q → AreAboutSame (request_of x) q
+  about_carried q (Sessions a b is other party id) = Sessions a b (h.body ∙ is) other party id
+  about_carried q (Tokens a b is other to party type uid) = Tokens a b (h.body ∙ is) other (h.to ∙ to) party type uid
+
+  pub settled_carried : IsSettled e n r → IsSettled e n (request_of x)
+  settled_carried (Acknowledged q came a is done from number) = Acknowledged q came a is done (from ∙ sym h.to) number
+  settled_carried (Replaced y sent above same) = Replaced y sent above (about_carried (request_of y) same)
+  settled_carried (Responded c carried q came w is from number) = Responded c (h.body ∙ carried) q came w is (from ∙ sym h.to) number
+  settled_carried (Resulted c carried q came w is from url) = Resulted c (h.body ∙ carried) q came w is (from ∙ sym h.to) url
 
 module _ (s u t : Node) (e f : Exchange) (h : NodeStep s e u) (g : NodeStep u f t) where
   left : IsPart e (both e f)
@@ -79,9 +104,9 @@ module _ (s u t : Node) (e f : Exchange) (h : NodeStep s e u) (g : NodeStep u f 
     then = g.asks (given_after s u e h given)
 
     -- what stands in between stood at first, or was made first
-    own_before : (x : Packet) → u.standing x.request ≡ Some (request_of x) → IsOwn s t x
-    own_before x stands = elim (first.made x.request (request_of x) stands) [
-      | inl old ↦ inl old
+    own_before : (x : Packet) → CarriesStanding u x → IsOwn s t x
+    own_before x (r, stands, carries) = elim (first.made x.request r stands) [
+      | inl old ↦ inl (r, old, carries)
       | inr made ↦ inr (made.above, let below = made.given in let rises = g.rises in omega (arith, below, rises))
     ]
 
@@ -93,31 +118,32 @@ module _ (s u t : Node) (e f : Exchange) (h : NodeStep s e u) (g : NodeStep u f 
 
     below_first : (x : Packet) → Contains e.packets x → ¬ IsReply x.body → x.request ≤ u.last
     below_first x here apart = elim (first.own x here apart) [
-      | inl old ↦ let below = (given x.request (request_of x) old).below in let rises = h.rises in omega (arith, below, rises)
+      | inl old ↦ let below = (given x.request old.0 old.1).below in let rises = h.rises in omega (arith, below, rises)
       | inr (above, below) ↦ below
     ]
 
     -- a request of the first exchange, and one of the second under the same number that stood in between
-    agree_before : (x y : Packet) → Contains e.packets x → ¬ IsReply x.body → ¬ IsReply y.body → x.request ≡ y.request → u.standing y.request ≡ Some (request_of y) → request_of x ≡ request_of y
-    agree_before x y here no_x no_y same stands = elim (first.made y.request (request_of y) stands) [
+    agree_before : (x y : Packet) → Contains e.packets x → ¬ IsReply x.body → ¬ IsReply y.body → x.request ≡ y.request → CarriesStanding u y → Carries x (request_of y)
+    agree_before x y here no_x no_y same (r, stands, carries) = elim (first.made y.request r stands) [
       | inl old ↦ elim (first.own x here no_x) [
-        | inl mine ↦ one_value (request_of x) (request_of y) (sym mine ∙ ap s.standing same ∙ old)
-        | inr (above, below) ↦ absurd (let given_y = (given y.request (request_of y) old).below in omega (arith, above, same, given_y))
+        | inl mine ↦ carry_one x y mine.0 r mine.2 carries (one_value mine.0 r (sym mine.1 ∙ ap s.standing same ∙ old))
+        | inr (above, below) ↦ absurd (let given_y = (given y.request r old).below in omega (arith, above, same, given_y))
       ]
       | inr made ↦
-          first.one x made.packet here made.was_sent no_x (λ is. no_y (subst IsReply (ap (λ (r : Request). r.body) made.request) is)) (same ∙ sym made.number) ∙ made.request
+          let no_made : ¬ IsReply made.packet.body = λ is. no_y (subst IsReply (ap (λ (z : Request). z.body) made.request ∙ sym carries.body) is) in
+          carry_one x y r r (carries_equal x (request_of made.packet) r (first.one x made.packet here made.was_sent no_x no_made (same ∙ sym made.number)) made.request) carries refl
     ]
 
-    agree_across : (x y : Packet) → Contains e.packets x → Contains f.packets y → ¬ IsReply x.body → ¬ IsReply y.body → x.request ≡ y.request → request_of x ≡ request_of y
+    agree_across : (x y : Packet) → Contains e.packets x → Contains f.packets y → ¬ IsReply x.body → ¬ IsReply y.body → x.request ≡ y.request → Carries x (request_of y)
     agree_across x y here there no_x no_y same = elim (then.own y there no_y) [
       | inl stands ↦ agree_before x y here no_x no_y same stands
       | inr (above, below) ↦ absurd (let before = below_first x here no_x in omega (arith, above, before, same))
     ]
 
-    agree_both : (x y : Packet) → Contains (both e f).packets x → Contains (both e f).packets y → ¬ IsReply x.body → ¬ IsReply y.body → x.request ≡ y.request → request_of x ≡ request_of y
+    agree_both : (x y : Packet) → Contains (both e f).packets x → Contains (both e f).packets y → ¬ IsReply x.body → ¬ IsReply y.body → x.request ≡ y.request → Carries x (request_of y)
     agree_both x y i j no_x no_y same = elim (in_both x i) [
       | inl x_here ↦ elim (in_both y j) [ inl y_here ↦ first.one x y x_here y_here no_x no_y same | inr y_there ↦ agree_across x y x_here y_there no_x no_y same ]
-      | inr x_there ↦ elim (in_both y j) [ inl y_here ↦ sym (agree_across y x y_here x_there no_y no_x (sym same)) | inr y_there ↦ then.one x y x_there y_there no_x no_y same ]
+      | inr x_there ↦ elim (in_both y j) [ inl y_here ↦ carries_back y x (agree_across y x y_here x_there no_y no_x (sym same)) | inr y_there ↦ then.one x y x_there y_there no_x no_y same ]
     ]
 
     made_both : (n : ℕ) (r : Request) → t.standing n ≡ Some r → (s.standing n ≡ Some r) ⊎ IsMade s (both e f) t n r
@@ -147,9 +173,19 @@ module _ (s u t : Node) (e f : Exchange) (h : NodeStep s e u) (g : NodeStep u f 
     stays_then n r (inl stands) = elim (then.stays n r stands) [ inl still ↦ inl still | inr settled ↦ inr (settled_of_part f (both e f) right n r settled) ]
     stays_then n r (inr settled) = inr (settled_of_part e (both e f) left n r settled)
 
-    stands_both : (x : Packet) → Contains (both e f).packets x → IsRepeated x.body → (t.standing x.request ≡ Some (request_of x)) ⊎ IsSettled (both e f) x.request (request_of x)
+    -- what stood in between, and what a packet that carries it asks
+    carried_then : (x : Packet) → CarriesStanding u x → CarriesStanding t x ⊎ IsSettled (both e f) x.request (request_of x)
+    carried_then x (r, stands, carries) = elim (stays_then x.request r (inl stands)) [
+      | inl still ↦ inl (r, still, carries)
+      | inr settled ↦ inr (settled_carried (both e f) x.request x r carries settled)
+    ]
+
+    stands_both : (x : Packet) → Contains (both e f).packets x → IsRepeated x.body → CarriesStanding t x ⊎ IsSettled (both e f) x.request (request_of x)
     stands_both x i repeated = elim (in_both x i) [
-      | inl here ↦ stays_then x.request (request_of x) (first.stands x here repeated)
+      | inl here ↦ elim (first.stands x here repeated) [
+        | inl stands ↦ carried_then x stands
+        | inr settled ↦ inr (settled_of_part e (both e f) left x.request (request_of x) settled)
+      ]
       | inr there ↦ elim (then.stands x there repeated) [ inl still ↦ inl still | inr settled ↦ inr (settled_of_part f (both e f) right x.request (request_of x) settled) ]
     ]
 

@@ -6,7 +6,7 @@ use Rattle.ocpi_types.specs.Stored.{body_of_reply}
 use Rattle.ocpi_types.specs.declared.packet.Packet.{Packet}
 use Rattle.ocpi_types.specs.declared.stored.Reply.{Reply}
 use Rattle.node_laws.specs.Runs.{Run}
-use Rattle.node_laws.specs.Nodes.{Node, Exchange, Request, NodeStep, AreGiven, IsReply, IsRepeated, IsNumbered, IsAnswer, IsMade, IsSettled, request_of, exchanged}
+use Rattle.node_laws.specs.Nodes.{Node, Exchange, Request, NodeStep, AreGiven, Carries, CarriesStanding, IsReply, IsRepeated, IsNumbered, IsAnswer, IsMade, IsSettled, request_of, exchanged}
 
 abbrev pub NodeRun : Node → List Exchange → Node → Type 0
 NodeRun s es t = Run NodeStep s es t
@@ -38,15 +38,16 @@ RepliesStay = (s t : Node) (es : List Exchange) → NodeRun s es t → (k : List
 abbrev pub RepliesAnswer : Type 0
 RepliesAnswer = (s t : Node) (es : List Exchange) → NodeRun s es t → (p : List ℕ) (n : ℕ) (r : Reply) → get t.replies (p, n) ≡ Some r → (get s.replies (p, n) ≡ Some r) ⊎ IsAnswer (exchanged es) p n r
 
--- each number of an own request has one body and one addressee, however often it is sent
+-- each number of an own request has one body and one addressee, however often it is sent, and however the addressee is
+-- spelled
 abbrev pub RequestsAgree : Type 0
 RequestsAgree = (s t : Node) (es : List Exchange) → NodeRun s es t → AreGiven s → (x y : Packet) → Contains (sent es) x → Contains (sent es) y → ¬ IsReply x.body → ¬ IsReply y.body →
-    x.request ≡ y.request → request_of x ≡ request_of y
+    x.request ≡ y.request → Carries x (request_of y)
 
 -- a request that was sent, and is repeated until it is settled, stands until then
 abbrev pub RequestsStand : Type 0
 RequestsStand = (s t : Node) (es : List Exchange) → NodeRun s es t → AreGiven s → (x : Packet) → Contains (sent es) x → IsRepeated x.body →
-    (t.standing x.request ≡ Some (request_of x)) ⊎ IsSettled (exchanged es) x.request (request_of x)
+    CarriesStanding t x ⊎ IsSettled (exchanged es) x.request (request_of x)
 
 -- a request that stands stood before, or was sent under its number
 abbrev pub RequestsWereSent : Type 0

@@ -29,6 +29,11 @@ pub record Request : Type 0 where
 abbrev pub request_of : Packet → Request
 request_of x = record { to = x.to; body = x.body }
 
+-- the packet carries the request: its body, to its party, however that is spelled
+pub record Carries (x : Packet) (r : Request) : Type 0 where
+  pub to : key x.to ≡ key r.to
+  pub body : x.body ≡ r.body
+
 pub record Node : Type 0 where
   pub party : List ℕ
   -- the parties that it exchanges packets with, as they are spelled
@@ -126,18 +131,22 @@ pub record IsMade (s : Node) (e : Exchange) (t : Node) (n : ℕ) (r : Request) :
   pub number : packet.request ≡ n
   pub request : request_of packet ≡ r
 
+-- the packet carries the request that stands under its number
+abbrev pub CarriesStanding : Node → Packet → Type 0
+CarriesStanding s x = (r : Request) × (s.standing x.request ≡ Some r) × Carries x r
+
 -- a request of its own that a node sends: one that stood, or the next
 abbrev pub IsOwn : Node → Node → Packet → Type 0
-IsOwn s t x = (s.standing x.request ≡ Some (request_of x)) ⊎ ((s.last < x.request) × (x.request ≤ t.last))
+IsOwn s t x = CarriesStanding s x ⊎ ((s.last < x.request) × (x.request ≤ t.last))
 
 -- what the node asks: a number is of one request, which stands until it is settled. All that is sent is to a peer
 pub record KeepsRequests (s : Node) (e : Exchange) (t : Node) : Type 0 where
   pub to_peer : (x : Packet) → Contains e.packets x → Contains s.peers x.to
   pub own : (x : Packet) → Contains e.packets x → ¬ IsReply x.body → IsOwn s t x
-  pub one : (x y : Packet) → Contains e.packets x → Contains e.packets y → ¬ IsReply x.body → ¬ IsReply y.body → x.request ≡ y.request → request_of x ≡ request_of y
+  pub one : (x y : Packet) → Contains e.packets x → Contains e.packets y → ¬ IsReply x.body → ¬ IsReply y.body → x.request ≡ y.request → Carries x (request_of y)
   pub made : (n : ℕ) (r : Request) → t.standing n ≡ Some r → (s.standing n ≡ Some r) ⊎ IsMade s e t n r
   pub stays : (n : ℕ) (r : Request) → s.standing n ≡ Some r → (t.standing n ≡ Some r) ⊎ IsSettled e n r
-  pub stands : (x : Packet) → Contains e.packets x → IsRepeated x.body → (t.standing x.request ≡ Some (request_of x)) ⊎ IsSettled e x.request (request_of x)
+  pub stands : (x : Packet) → Contains e.packets x → IsRepeated x.body → CarriesStanding t x ⊎ IsSettled e x.request (request_of x)
 
 -- the number of a request was given, and it is to a peer
 pub record IsGiven (s : Node) (n : ℕ) (r : Request) : Type 0 where

@@ -70,6 +70,7 @@ provider_asked s (provider_events.Submits at to order) acts fine line range = or
 provider_asked s (provider_events.Gives at t) acts fine line range = tokens at t s acts fine line range
 provider_asked s (provider_events.Ticks at) acts fine line range = ticks at s acts fine line range
 provider_asked s provider_events.Restarts acts fine line range = absurd line
+provider_asked s (provider_events.Reopens p) acts fine line range = absurd line
 
 -- ---- steps that are planned
 

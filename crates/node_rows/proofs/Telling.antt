@@ -110,12 +110,12 @@ held_rows_start_again = record { operators = operators; providers = providers }
 
 operator_counts : (s t : operator.State) (e : operator_events.Event) → operator_sound.IsConsistent s → operator_events.Happens s e t → SerialsFollow (Operates s) (AtOperator e) (Operates t)
 operator_counts s t e fine happens =
-    let counts = (operator_nodes.steps_are_node_steps s t e fine happens).counts in
+    let counts = (operator_nodes.steps_are_node_steps s.providers s t e (λ x i. i) fine happens).counts in
     record { last = counts.serial; each = λ k q at. (counts.each k q at).serial }
 
 provider_counts : (s t : provider.State) (e : provider_events.Event) → provider_sound.IsConsistent s → provider_events.Happens s e t → SerialsFollow (Provides s) (AtProvider e) (Provides t)
 provider_counts s t e fine happens =
-    let counts = (provider_nodes.steps_are_node_steps s t e fine happens).counts in
+    let counts = (provider_nodes.steps_are_node_steps s.operators s t e (λ x i. i) fine happens).counts in
     record { last = counts.serial; each = λ k q at. (counts.each k q at).serial }
 
 pub serials_are_in_order : SerialsAreInOrder

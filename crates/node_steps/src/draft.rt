@@ -26,8 +26,10 @@ ghost use Rattle.node_steps.specs.Drafts.{
   step_of,
   with_acts,
 };
+ghost use Rattle.node_steps.specs.Peers.{spelled};
 
 use crate::fault::NodeFault;
+use crate::peers::spelling;
 use crate::plan::{Plan, Volatile};
 use ocpi_text::{Moment, Party, PartyKey, Whole};
 use ocpi_types::{
@@ -277,18 +279,19 @@ impl Draft {
         self.note(at, number)
     }
 
-    /// Adds that the push of a number is sent again at a moment.
+    /// Adds that the push of a number is sent again at a moment, to its party as these peers spell it.
     pub fn resend(
         &mut self,
+        peers: &[Party],
         at: Moment,
         number: Whole,
         outgoing: &Outgoing,
     ) -> Result<(), AllocError>
         requires { HasNumbers 1 0 self.old }
-        ensures { OnOk result (self.new ≡ with_acts (resent at number outgoing.now.to outgoing.now.push ∷ []) self.old) }
+        ensures { OnOk result (self.new ≡ with_acts (resent at number (spelled peers.now outgoing.now.to) outgoing.now.push ∷ []) self.old) }
     {
         let body = outgoing.push.copy()?.into_body();
-        self.send(outgoing.to, number, body)?;
+        self.send(spelling(peers, outgoing.to), number, body)?;
         self.note(at, number)
     }
 
@@ -317,18 +320,19 @@ impl Draft {
         self.note(at, number)
     }
 
-    /// Adds that the command of a number is sent again at a moment.
+    /// Adds that the command of a number is sent again at a moment, to its party as these peers spell it.
     pub fn resend_command(
         &mut self,
+        peers: &[Party],
         at: Moment,
         number: Whole,
         command: &SentCommand,
     ) -> Result<(), AllocError>
         requires { HasNumbers 1 0 self.old }
-        ensures { OnOk result (self.new ≡ with_acts (command_resent at number command.now.to command.now.command ∷ []) self.old) }
+        ensures { OnOk result (self.new ≡ with_acts (command_resent at number (spelled peers.now command.now.to) command.now.command ∷ []) self.old) }
     {
         let body = Body::Command(command.command.copy()?);
-        self.send(command.to, number, body)?;
+        self.send(spelling(peers, command.to), number, body)?;
         self.note(at, number)
     }
 

@@ -25,8 +25,9 @@
 //!   never told as Memory. By `Draft::open`: `ok`, `in_range`, `err`.
 //! - An act needs numbers that were counted, so it fails for want of memory alone. By `requires` of the acts;
 //!   `counters_in_range`.
-//! - The party of a list is found without case, or there is none. Copies equal their changes; a plan may do nothing, or
-//!   change one row. By `find_peer`, `peer_of`, `copies`, `Plan::nothing`, `Plan::one`.
+//! - The party of a list is found without case, or there is none. What is sent again goes to its party as the list
+//!   spells it. Copies equal their changes; a plan may do nothing, or change one row. By `find_peer`, `peer_of`,
+//!   `Draft::resend`, `Draft::resend_command`, `copies`, `Plan::nothing`, `Plan::one`.
 //! - `NodeFault` has the refusals of both nodes, each with its number, its name and its text (`specs/FaultText`). By
 //!   `number`, `name`, `Display` of `NodeFault`.
 //!

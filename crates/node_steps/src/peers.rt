@@ -2,7 +2,7 @@
 
 ghost use Rattle.std.specs.Prelude.{◌≡◌, IfSome, IfNone, List, ℕ, Contains};
 ghost use Rattle.ocpi_text.specs.Text.{key};
-ghost use Rattle.node_steps.specs.Peers.{IsPeer};
+ghost use Rattle.node_steps.specs.Peers.{IsPeer, spelled};
 
 use ocpi_text::{Party, PartyKey};
 
@@ -25,4 +25,16 @@ pub fn peer_of(peers: &[Party], party: PartyKey) -> Option<&Party>
     ensures none { IfNone result ((p : List ℕ) → Contains peers.now p → key p ≡ party → ⊥) }
 {
     peers.iter().find(|p| p.key() == party)
+}
+
+/// A party as the list spells it; or as it is, where no peer is this party.
+pub(crate) fn spelling(peers: &[Party], party: Party) -> Party
+    ensures { result ≡ spelled peers.now party }
+{
+    for peer in peers {
+        if peer.is_same(&party) {
+            return *peer;
+        }
+    }
+    party
 }

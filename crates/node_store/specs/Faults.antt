@@ -3,6 +3,7 @@ use Rattle.std.specs.Prelude.{ℕ, suc, List, codes, Result, Ok, Err}
 use Rattle.sqlite.specs.declared.error.Error.{Error}
 use Rattle.sqlite.specs.declared.error.Error.TheVariants.{SqliteFailure}
 use Rattle.sqlite.specs.declared.error.ErrorCode.TheVariants as code
+use Rattle.node_store.specs.declared.fault.Cause.{Cause}
 use Rattle.node_store.specs.declared.fault.Cause.TheVariants as cause
 use Rattle.node_store.specs.declared.fault.StoreFault.{StoreFault}
 use Rattle.node_store.specs.declared.fault.StoreFault.TheVariants.{Refused, BadRow, OldLayout, Memory}
@@ -25,9 +26,27 @@ abbrev pub counted : {X : Type 0} → Result X StoreFault → ℕ → ℕ
 counted (Ok x) n = n
 counted (Err e) n = counted_fault e n
 
--- what a commit may refuse
+-- the cause is one that is told of an error of the database (`fault_for`), and of nothing else
+abbrev pub IsOfDatabase : Cause → Type 0
+IsOfDatabase cause.AlreadyExists = ⊥
+IsOfDatabase cause.FolderNotFound = ⊥
+IsOfDatabase cause.NotFound = ⊥
+IsOfDatabase cause.NotAFile = ⊥
+IsOfDatabase cause.PermissionDenied = ⊥
+IsOfDatabase cause.DatabaseBusy = Unit {0}
+IsOfDatabase cause.CannotOpen = Unit {0}
+IsOfDatabase cause.NotADatabase = Unit {0}
+IsOfDatabase cause.StorageFull = Unit {0}
+IsOfDatabase cause.Disk = Unit {0}
+IsOfDatabase cause.Size = Unit {0}
+IsOfDatabase cause.NotEmpty = ⊥
+IsOfDatabase cause.NoKeeper = ⊥
+IsOfDatabase cause.OpenedBefore = ⊥
+IsOfDatabase cause.Other = Unit {0}
+
+-- what a commit may refuse: what is told of an error of the database
 abbrev pub IsCommitFault : StoreFault → Type 0
-IsCommitFault (Refused cause) = Unit {0}
+IsCommitFault (Refused cause) = IsOfDatabase cause
 IsCommitFault BadRow = ⊥
 IsCommitFault OldLayout = ⊥
 IsCommitFault Memory = Unit {0}

@@ -26,6 +26,8 @@
 //! - The rows of the map are given, ordered by kind and key. `BadRow` comes only where a text is no row of its kind and
 //!   key, or that of the number is read as no number from 2. By `Keep::load`: `rows`, `bad`.
 //! - `Refused` comes only in a call that raises the number of calls that the keeper has refused. By `counted` of both.
+//! - A commit is refused for what is told of an error of a database, or for want of memory: never as if a file were
+//!   missing or a keeper were not new. Which error it was is not said. By `Keep::commit`: `fault` (`IsCommitFault`).
 //! - Want of memory leaves what is kept. By `none`, `kept`.
 //! - A stop leaves what a stop before the call could leave, or what the changes of that call make of what was kept. So
 //!   it may leave the rows of a commit that was refused, and then these can be read again. By `Keep::commit`: `stops`.

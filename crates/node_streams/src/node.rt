@@ -41,7 +41,11 @@ fn run_and_report(
     let lines = lines_of(rt, Program::Node(words.party), telling, words.echo);
     let watch = watch_in(&lines, telling);
     let ran = run_one_node(rt, seed, words, watch, transcript, &mut besides);
-    status_with(report_node(rt, ran, besides, words), telling, lines)
+    status_with(
+        report_node(rt, ran, besides, words),
+        telling,
+        lines.into_inner(),
+    )
 }
 
 /// Runs a node with its rows in a file, or in memory where none was named. `besides` gets what is to be told besides

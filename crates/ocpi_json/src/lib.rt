@@ -23,7 +23,8 @@
 //!   `read_packet`, `read_site`, `read_setup`, `read_event`, `read_node_event`: `found`, `only`, `exact`.
 //! - A line that is too long or no UTF-8 is refused as `Syntax`, and never as Memory. By `unread` of these.
 //! - A written packet is the text of its JSON (`packet_json`), its members in the byte order of their names. Within the
-//!   line limit it is read as that packet. By `write_packet`: `text`, `again`.
+//!   line limit it is read as that packet. Its parts are what their types keep, of which `packet_lengths` says how long it
+//!   may be. By `write_packet`: `text`, `again`, `fits`.
 //! - A kind, a key and a text are read exactly where they have the form of a row (`specs/RowForms`, `RowKeys`,
 //!   `StoredForms`), of layout 2 or of layout 1. By `read_row`, `read_row_1`: `found`, `only`, `exact`.
 //! - A written row is read as itself beside its kind and key, however long. By `write_row`: `again`; `write_key`.

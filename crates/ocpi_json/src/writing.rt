@@ -1,9 +1,9 @@
 //! Packets to lines, and rows to stored texts.
 
-ghost use Rattle.std.specs.Prelude.{◌≡◌, ◌≤◌, length, IfOk, Ok, string_bytes};
+ghost use Rattle.std.specs.Prelude.{◌≡◌, ◌≤◌, length, IfOk, Ok, OnOk, string_bytes};
 ghost use Rattle.json_text.specs.Line.{max_line};
 ghost use Rattle.ocpi_types.specs.Rows.{key_of};
-ghost use Rattle.ocpi_json.specs.Packets.{packet_in, packet_text};
+ghost use Rattle.ocpi_json.specs.Packets.{PacketFits, packet_in, packet_text};
 ghost use Rattle.ocpi_json.specs.RowForms.{row_in, row_text};
 ghost use Rattle.ocpi_json.specs.RowKeys.{KeyFits, key_text, kind_of_key, row_kind_word};
 
@@ -21,6 +21,8 @@ use std::alloc::{AllocError, Global};
 pub fn write_packet(alloc: Global, packet: &Packet) -> Result<String, AllocError>
     ensures text { IfOk result (λ s. string_bytes s ≡ packet_text packet.now) }
     ensures again { IfOk result (λ s. length (string_bytes s) ≤ max_line → packet_in (string_bytes s) ≡ Ok packet.now) }
+    // What its types keep: of how long a line may be, `packet_lengths` says more.
+    ensures fits { OnOk result (PacketFits packet.now) }
 {
     let mut out = RecordWriter::new(alloc)?;
     write_members(packet, &mut out)?;

@@ -10,11 +10,19 @@ use Rattle.node_laws.specs.Nodes.{Node, Exchange, Request, NodeStep}
 use Rattle.node_laws.specs.Laws.{NodeRun}
 use Rattle.operator_rows.specs.State.{State, opening}
 use Rattle.operator_rows.specs.Sound.{IsConsistent}
-use Rattle.operator_steps.specs.Events.{Input, Arrives, Serves, Reports, Credits, Ticks, Restarts, Event, Happens}
-use Rattle.operator_laws.specs.Laws.{IsOfParty, Run, sent}
+use Rattle.operator_steps.specs.Events.{Input, Arrives, Serves, Reports, Credits, Ticks, Restarts, Reopens, Event, Happens}
+use Rattle.operator_laws.specs.Laws.{IsOfParty, Run, providers_in, sent, setups_in}
 
 abbrev pub pushed_request : Outgoing → Request
 pushed_request o = record { to = o.to; body = body_of_push o.push }
+
+-- the operator, were it set up with these providers
+abbrev pub wide : List (List ℕ) → State → State
+wide ps s = record s { providers = ps }
+
+-- these are among those
+abbrev pub AreAmong : List (List ℕ) → List (List ℕ) → Type 0
+AreAmong xs ps = (x : List ℕ) → Contains xs x → Contains ps x
 
 -- its peers are the providers of its site, and its own requests the pushes that stand
 abbrev pub node : State → Node
@@ -34,22 +42,28 @@ came_in (Reports at report) = []
 came_in (Credits at session) = []
 came_in (Ticks at) = []
 came_in Restarts = []
+came_in (Reopens line) = []
 
 abbrev pub exchange : Event → Exchange
 exchange e = record { came = came_in e.input; packets = e.packets }
 
--- each event of an operator is a step of a node
+-- each event of an operator is a step of a node, whose peers are any list with the providers of its setup
 abbrev pub StepsAreNodeSteps : Type 0
-StepsAreNodeSteps = (s t : State) (e : Event) → IsConsistent s → Happens s e t → NodeStep (node s) (exchange e) (node t)
+StepsAreNodeSteps = (ps : List (List ℕ)) (s t : State) (e : Event) → AreAmong s.providers ps → IsConsistent s → Happens s e t → NodeStep (node (wide ps s)) (exchange e) (node (wide ps t))
 
 -- so each run is a run of a node, and the laws of nodes hold of it
 abbrev pub RunsAreNodeRuns : Type 0
-RunsAreNodeRuns = (s t : State) (es : List Event) → IsConsistent s → Run s es t → NodeRun (node s) (map exchange es) (node t)
+RunsAreNodeRuns = (ps : List (List ℕ)) (s t : State) (es : List Event) → AreAmong s.providers ps → ((line : SiteLine) → Contains (setups_in es) line → AreAmong line.parties.providers ps) →
+    IsConsistent s → Run s es t → NodeRun (node (wide ps s)) (map exchange es) (node (wide ps t))
 
--- each packet is from this operator, to a provider of its site as the site spells it
+-- each packet is from this operator, to a provider that it was ever set up with, as that setup spells it
 abbrev pub PacketsAreAddressed : Type 0
 PacketsAreAddressed = (line : SiteLine) (es : List Event) (t : State) → IsOfParty line → Run (opening line) es t → (x : Packet) → Contains (sent es) x →
-    (x.from ≡ line.parties.operator) × Contains line.parties.providers x.to
+    (x.from ≡ line.parties.operator) × Contains (providers_in line es) x.to
+
+-- each packet of an event is to a provider of the site at that time, as it spells it then
+abbrev pub PacketsAreSpelled : Type 0
+PacketsAreSpelled = (s t : State) (e : Event) → IsConsistent s → Happens s e t → (x : Packet) → Contains e.packets x → Contains s.providers x.to
 
 -- a push that stands was sent under its number
 abbrev pub PushesWereSent : Type 0

@@ -1,8 +1,8 @@
 -- The laws of an operator over every list of events from its opening: packets that come, in any order and any number
 -- of times, what charge points report, bills that are to be taken back, time that passes, at moments that may go back,
--- EVSEs that go out of service and come back, and restarts of the operator from what it stored; events that are refused
--- among them.
-use Rattle.std.specs.Prelude.{◌≡◌, ◌⊎◌, ℕ, ◌+◌, ◌≤◌, ◌<◌, List, Some, Ok, Contains, slice_get}
+-- EVSEs that go out of service and come back, and restarts of the operator from what it stored, also under another
+-- setup; events that are refused among them.
+use Rattle.std.specs.Prelude.{◌≡◌, ◌⊎◌, ℕ, ◌+◌, ◌≤◌, ◌<◌, List, [], ◌∷◌, Some, Ok, Contains, slice_get}
 use Rattle.std.specs.List.{flat_map}
 use Rattle.std.specs.FinMap.{get}
 use Rattle.ocpi_text.specs.Party.{party_at}
@@ -29,12 +29,29 @@ use Rattle.node_laws.specs.Runs as runs
 use Rattle.outbox.specs.declared.push_book.Outgoing.{Outgoing}
 use Rattle.operator_rows.specs.State.{State, opening}
 use Rattle.operator_rows.specs.Sound.{IsConsistent}
-use Rattle.operator_steps.specs.Events.{Arrives, Event, Happens}
+use Rattle.operator_steps.specs.Events.{Arrives, Credits, Event, Happens, Input, Reopens, Reports, Restarts, Serves, Ticks}
 use Rattle.operator_laws.specs.References.{AreSpent, HaveOneCarrier, Uses}
 
 -- a run from one state to another, event by event
 abbrev pub Run : State → List Event → State → Type 0
 Run s es t = runs.Run Happens s es t
+
+-- the setups under which the operator started again in the run
+abbrev pub setup_of : Input → List SiteLine
+setup_of (Arrives at q) = []
+setup_of (Serves evse in_service) = []
+setup_of (Reports at report) = []
+setup_of (Credits at session) = []
+setup_of (Ticks at) = []
+setup_of Restarts = []
+setup_of (Reopens line) = line ∷ []
+
+abbrev pub setups_in : List Event → List SiteLine
+setups_in es = flat_map (λ (e : Event). setup_of e.input) es
+
+-- all providers that the operator was ever set up with, as they were spelled
+abbrev pub providers_in : SiteLine → List Event → List (List ℕ)
+providers_in line es = flat_map (λ (l : SiteLine). l.parties.providers) (line ∷ setups_in es)
 
 -- all packets of a run, in order
 abbrev pub sent : List Event → List Packet
@@ -101,10 +118,10 @@ abbrev pub Numbered : Type 0
 Numbered = (line : SiteLine) (es : List Event) (t : State) → Run (opening line) es t → (i : ℕ) (x : Packet) → slice_get (sent es) i ≡ Some x → x.serial ≡ i + 1
 
 -- each of the operator's own requests, be it a result, a session, a charge detail record or a question about a token,
--- has one number, one body and one addressee, however often it is sent
+-- has one number, one body and one addressee, however often it is sent, and however the addressee is spelled
 abbrev pub RequestsAgree : Type 0
 RequestsAgree = (line : SiteLine) (es : List Event) (t : State) → IsOfParty line → Run (opening line) es t → (x y : Packet) → Contains (sent es) x → Contains (sent es) y →
-    ¬ IsReply x.body → ¬ IsReply y.body → x.request ≡ y.request → (x.body ≡ y.body) × (x.to ≡ y.to)
+    ¬ IsReply x.body → ¬ IsReply y.body → x.request ≡ y.request → (x.body ≡ y.body) × (key x.to ≡ key y.to)
 
 -- the party acknowledged the request of that number, in the run
 abbrev pub Acknowledged : List Event → List ℕ → ℕ → Type 0
@@ -112,7 +129,7 @@ Acknowledged es to n = (q : Packet) × Came es q × ((a : Ack) × (q.body ≡ bo
 
 -- the push of that number stands, to that party, with that body
 abbrev pub IsPushed : State → ℕ → List ℕ → Body → Type 0
-IsPushed t n to b = (o : Outgoing) × (get t.rows.pushes n ≡ Some o) × (o.to ≡ to) × (body_of_push o.push ≡ b)
+IsPushed t n to b = (o : Outgoing) × (get t.rows.pushes n ≡ Some o) × (key o.to ≡ key to) × (body_of_push o.push ≡ b)
 
 -- a result, or a charge detail record
 abbrev pub IsResultOrRecord : Body → Type 0

@@ -2,7 +2,7 @@
 //! (`Happens`), which is what `Operator::on_packet`, `on_charger`, `on_credit`, `on_tick`, `on_service` and `restart`
 //! do.
 
-ghost use Rattle.operator_laws.specs.AsNode.{StepsAreNodeSteps, RunsAreNodeRuns, PacketsAreAddressed, PushesWereSent};
+ghost use Rattle.operator_laws.specs.AsNode.{StepsAreNodeSteps, RunsAreNodeRuns, PacketsAreAddressed, PacketsAreSpelled, PushesWereSent};
 ghost use Rattle.operator_laws.specs.Made.{OpenCommandsCame, OpenedCommandsCame, RepliesWereGiven, ReservationsAreMade};
 ghost use Rattle.operator_laws.specs.Replied.{
   AcceptedIsOpenOrSettled,
@@ -156,7 +156,7 @@ pub fn opened_commands_came()
     ensures { OpenedCommandsCame }
 {}
 
-/// Each event of an operator is a step of a node.
+/// Each event of an operator is a step of a node, whose peers are all providers that the operator was ever set up with.
 pub fn steps_are_node_steps()
     ensures { StepsAreNodeSteps }
 {}
@@ -166,9 +166,14 @@ pub fn runs_are_node_runs()
     ensures { RunsAreNodeRuns }
 {}
 
-/// Each packet is from this operator, and to a provider of its site.
+/// Each packet is from this operator, and to a provider that it was ever set up with.
 pub fn packets_are_addressed()
     ensures { PacketsAreAddressed }
+{}
+
+/// Each packet is to a provider of the site at that time, as it spells it then.
+pub fn packets_are_spelled()
+    ensures { PacketsAreSpelled }
 {}
 
 /// A push that stands was sent under its number.

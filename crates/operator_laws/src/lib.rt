@@ -16,7 +16,7 @@
 //! # Promises
 //!
 //! Over every list of events from the opening on: packets, reports, credits, ticks, changes of service and restarts,
-//! at moments that may go back, refused ones among them. The steps are those that `Operator` is proved to take
+//! also under another setup, at moments that may go back, refused ones among them. The steps are those that `Operator` is proved to take
 //! (`operator_steps/specs/Events`: `Happens`).
 //!
 //! - All that `consistency` says holds, so no EVSE is ever held twice; and the next two rows. As some others, it is
@@ -32,6 +32,7 @@
 //! - Packets are numbered from 1, each by the next number. By `numbered`.
 //! - Each request of the operator's own, of every kind, has one number, one body and one addressee, however often it is
 //!   sent. By `requests_agree`.
+//! - Each packet is to a provider of the site, as that spells it when the packet is sent. By `packets_are_spelled`.
 //! - A result that was sent is pushed until its addressee acknowledges its number. By `pushes_stand`.
 //! - A result that was sent answers a command that came from its addressee, is posted where that command says, and is
 //!   the one that is kept for it. By `results_are_posted`.
@@ -42,8 +43,8 @@
 //!   CANCEL_RESERVATION about it that was answered before. By `reservations_are_made`.
 //! - Such a reservation was asked for by a RESERVE_NOW of its provider that came in between. By
 //!   `reservations_are_asked_for`.
-//! - Each packet that is sent is from this operator to a provider of the site, and a push that stands was sent under
-//!   its number. By `packets_are_addressed`, `pushes_were_sent`.
+//! - Each packet that is sent is from this operator to a provider that it was ever set up with, and a push that stands
+//!   was sent under its number. By `packets_are_addressed`, `pushes_were_sent`.
 //! - The laws of nodes hold of an operator. By `steps_are_node_steps`, `runs_are_node_runs`.
 //! - An open command is the one that came under its number, or was open before. So is each command that an event
 //!   opened, whether or not it is open still. By `open_commands_came`, `opened_commands_came`.
@@ -69,8 +70,8 @@
 //! The laws stand in a crate of their own, `operator_laws` (`laws.rt`, `specs/Laws`, `specs/References`,
 //! `specs/Replied`, `specs/Made`, `specs/AsNode`), since no must-fail edit breaks them. They speak of every list of
 //! events from the opening: packets in any order and any number of times, reports, credits, ticks, changes of service
-//! and restarts, at moments that may go back, refused events among them (`operator_steps/specs/Events`: `Happens`). A
-//! run is `node_laws`' `Run` over that one relation.
+//! and restarts, also under another setup, at moments that may go back, refused events among them
+//! (`operator_steps/specs/Events`: `Happens`). A run is `node_laws`' `Run` over that one relation.
 //!
 //! `operator_laws` and `session_laws` stand on `operator_steps` and `node_laws`, and not on `operator_core`: the laws
 //! speak of the definition of the steps and of no body. `session_laws` takes its runs from `operator_laws`. So a

@@ -100,7 +100,7 @@ module _ (at : ℕ) (s : State) (x : Happening) where
   BegunActs = all_begun at (s.rows.request + length x.due.ends.items) x.begun.items
 
   abbrev Resent : List Act
-  Resent = all_resent at s.rows.pushes x.resent.items
+  Resent = all_resent s.providers at s.rows.pushes x.resent.items
 
   -- so many packets and requests
   pub happening_send : ((n : ℕ) → Contains x.resent.items n → IsTrue (contains_key s.rows.pushes n)) →
@@ -122,7 +122,7 @@ module _ (at : ℕ) (s : State) (x : Happening) where
       (within_both Ended Expired (ends_within at s.rows.commands.pending s.rows.request x.due.ends.items) (expired_within x.due.expired.items))
       (within_both (Counted ++ BegunActs) Resent
       (within_both Counted BegunActs (count_within s.rows.charged.last_session x.last h) (all_begun_within at (s.rows.request + length x.due.ends.items) x.begun.items))
-      (subst AreWithin (sym (resent_changes at s.rows.pushes x.resent.items)) tt))
+      (subst AreWithin (sym (resent_changes s.providers at s.rows.pushes x.resent.items)) tt))
 
   -- they are gathered one after the other
   module _ (d : Gathered) (numbered : d.counters.request ≡ s.rows.request) (h : HasNumbersOf (happening_acts at s x) d) where
@@ -218,7 +218,7 @@ module _ (s : State) (at : ℕ) (fine : IsConsistent s) (late : List ℕ) (are_l
       let differ : nat_eq s.rows.charged.last_session Last ≡ false = ne_eqb s.rows.charged.last_session Last (λ same. omega (arith, same, some)) in
       let count : List Act = counts_of s.rows.charged.last_session Last in
       let begun : List Act = all_begun at (s.rows.request + length x.ends.items) new.0 in
-      let resent : List Act = all_resent at s.rows.pushes (unreplaced new.0 x.pushes.items) in
+      let resent : List Act = all_resent s.providers at s.rows.pushes (unreplaced new.0 x.pushes.items) in
       let front : List Act = ends_acts at s.rows.commands.pending s.rows.request x.ends.items ++ expired_acts x.expired.items in
       let there : Contains (all_changes count) mark = subst (λ b. Contains (all_changes (map changed (cond b [] (mark ∷ [])))) mark) (sym differ) (in_front mark []) in
       let stored = lift_right front ((count ++ begun) ++ resent) mark (lift_left (count ++ begun) resent mark (lift_left count begun mark there)) in

@@ -106,14 +106,14 @@ impl Planner<'_> {
         Ok(())
     }
 
-    /// Adds that the push of a number is sent again, if it stands.
+    /// Adds that the push of a number is sent again, if it stands, to its provider as the site spells it.
     fn add_resent(&self, draft: &mut Draft, at: Moment, number: Whole) -> Result<(), AllocError>
-        requires { HasNumbersOf (resent_acts at number (map.get self.now.state.rows.pushes number)) draft.old }
-        ensures { OnOk result (draft.new ≡ with_acts (resent_acts at number (map.get self.now.state.rows.pushes number)) draft.old) }
+        requires { HasNumbersOf (resent_acts self.now.state.providers at number (map.get self.now.state.rows.pushes number)) draft.old }
+        ensures { OnOk result (draft.new ≡ with_acts (resent_acts self.now.state.providers at number (map.get self.now.state.rows.pushes number)) draft.old) }
     {
         match self.books.outbox().get(number) {
             None => Ok(()),
-            Some(outgoing) => draft.resend(at, number, outgoing),
+            Some(outgoing) => draft.resend(self.books.providers(), at, number, outgoing),
         }
     }
 
@@ -124,8 +124,8 @@ impl Planner<'_> {
         at: Moment,
         numbers: &[Whole],
     ) -> Result<(), AllocError>
-        requires { HasNumbersOf (all_resent at self.now.state.rows.pushes numbers.now) draft.old }
-        ensures { OnOk result (draft.new ≡ with_acts (all_resent at self.now.state.rows.pushes numbers.now) draft.old) }
+        requires { HasNumbersOf (all_resent self.now.state.providers at self.now.state.rows.pushes numbers.now) draft.old }
+        ensures { OnOk result (draft.new ≡ with_acts (all_resent self.now.state.providers at self.now.state.rows.pushes numbers.now) draft.old) }
     {
         for number in numbers {
             self.add_resent(draft, at, *number)?;

@@ -25,7 +25,7 @@ use Rattle.node_steps.specs.declared.plan.Volatile.TheVariants.{Sent}
 use Rattle.operator_rows.specs.State.{State, as_outbox, opening}
 use Rattle.operator_rows.specs.Stored.{change_key, changed_all}
 use Rattle.operator_rows.specs.Sound.{IsConsistent, IsSound}
-use Rattle.operator_rows.specs.Steps.{AreAwaitable, FullStep, MayFollow, MayFollowFull, after, after_full, restarted, number_of, untimed, untimed_all, timed, timed_all}
+use Rattle.operator_rows.specs.Steps.{AreAwaitable, FullStep, MayFollow, MayFollowFull, after, after_full, reopened, restarted, number_of, untimed, untimed_all, timed, timed_all}
 use Rattle.operator_rows.proofs.KeepingSound.{follow_sound, opening_sound, sound_beside}
 use Rattle.operator_rows.proofs.KeepingCharged.{awaits_still}
 use Rattle.operator_rows.proofs.RowChanges.{row_changes, of_cons, in_later}
@@ -100,6 +100,17 @@ none_awaited evse n q x y = none_some x.awaited (sym (get-empty nat_cmp n) ∙ x
 pub restarted_consistent : (s : State) → IsConsistent s → IsConsistent (restarted s)
 restarted_consistent s h = record {
   sound = sound_beside s (restarted s).resend empty h.sound;
+  resend = λ n has. absurd (has_none ℕ nat_cmp n has);
+  waits = none_awaited;
+  awaited = λ n a has. none_some a (sym (get-empty nat_cmp n) ∙ has);
+  asked = λ n has. absurd (has_none Awaited nat_cmp n has);
+  own = h.own;
+}
+
+-- and where the operator starts again under another setup, under which no row is bad
+pub reopened_consistent : (line : SiteLine) (s : State) → IsSound (reopened line s) → IsConsistent s → IsConsistent (reopened line s)
+reopened_consistent line s sound h = record {
+  sound = sound;
   resend = λ n has. absurd (has_none ℕ nat_cmp n has);
   waits = none_awaited;
   awaited = λ n a has. none_some a (sym (get-empty nat_cmp n) ∙ has);

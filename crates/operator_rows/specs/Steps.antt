@@ -12,6 +12,7 @@ use Rattle.ocpi_types.specs.declared.cdrs.Cdr.{Cdr}
 use Rattle.ocpi_types.specs.declared.sessions.Session.{Session}
 use Rattle.ocpi_types.specs.declared.words.SessionStatus.TheVariants.{Pending}
 use Rattle.session_state.specs.Pasts as pasts
+use Rattle.session_state.specs.Resuming.{CannotResume}
 use Rattle.session_state.specs.Versions.{IsPriced, IsUncharged}
 use Rattle.authorization_book.specs.Waits as waits
 use Rattle.authorization_book.specs.Waits.{HaveRoomForAll, MayWait, waited_all}
@@ -23,9 +24,10 @@ use Rattle.outbox.specs.Resend.{Resend, SendRooms, HasRoomUntil}
 use Rattle.node_steps.specs.Drafts.{Step}
 use Rattle.node_steps.specs.declared.plan.Volatile.{Volatile}
 pub use Rattle.node_steps.specs.Timing.{HasTimeRoom, HaveTimeRoom, number_of, time_taken, timed, timed_all, untimed, untimed_all}
+use Rattle.ocpi_types.specs.declared.site.SiteLine.{SiteLine}
 use Rattle.operator_rows.specs.State.{State}
 use Rattle.operator_rows.specs.Stored.{AreApart, Each, HasRoom, Rooms, changed, changed_all, change_key}
-use Rattle.operator_rows.specs.Sound.{MayAwait, MayChangeAll}
+use Rattle.operator_rows.specs.Sound.{IsSound, MayAwait, MayChangeAll}
 
 -- the state once a change is carried out
 abbrev pub after_change : Change → State → State
@@ -52,6 +54,17 @@ after_full x s = let t = after x.step s in record t { waits = waited_all x.waits
 abbrev pub restarted : State → State
 restarted s = record s { resend = empty; waits = empty }
 
+-- the operator starts again from what it stored, under another setup: other providers, another site
+abbrev pub reopened : SiteLine → State → State
+reopened line s = record s { providers = line.parties.providers; site = line.site; resend = empty; waits = empty }
+
+-- it may: the setup is of the same party, and no row that is stored is bad under it. So each session can go on from its
+-- newest version, at the price of its start under that setup
+pub record MayReopen (s : State) (line : SiteLine) : Type 0 where
+  pub party : line.parties.operator ≡ s.party
+  pub sound : IsSound (reopened line s)
+  pub resumable : (id : List ℕ) (v : Session) → get s.rows.charged.sessions id ≡ Some v → ¬ CannotResume (price_at line.site v.start_date_time) v
+
 -- a push that has no resend time, or that no change is of
 abbrev pub KeepsTime : Resend → List Change → ℕ → Type 0
 KeepsTime resend changes n = (get resend n ≡ None) ⊎ ((c : Change) → Contains changes c → change_key c ≢ keys.Push n)
@@ -72,8 +85,8 @@ pub record Outlasts (resend : Resend) (changes : List Change) (n : ℕ) : Type 0
 abbrev pub KeepsTimeRoom : Resend → List Change → SendRooms → SendRooms → Type 0
 KeepsTimeRoom resend changes s t = (n moment : ℕ) → Outlasts resend changes n → HasRoomUntil s n moment → HasRoomUntil t n moment
 
--- the version may be put by the prices of the moments: a new session begins with it, or it may follow the version that stands (OCPI 2.2.1, Sessions:
--- SessionStatus)
+-- the version may be put by the prices of the moments: a new session begins with it, or it may follow the version that
+-- stands (OCPI 2.2.1, Sessions: SessionStatus)
 abbrev pub IsNextOf : (ℕ → ℤ) → Option Session → Session → Type 0
 IsNextOf price None v = (v.status ≡ Pending) × IsPriced price v × IsUncharged v
 IsNextOf price (Some w) v = pasts.MayFollow price w v

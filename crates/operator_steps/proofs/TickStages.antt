@@ -130,12 +130,12 @@ result_about at m last (e ∷ es) r u n h =
     ]
 
 -- pushes that stand alike are sent again alike
-same_resent : (at : ℕ) (m k : Pushes) (numbers : List ℕ) → ((n : ℕ) → Contains numbers n → get m n ≡ get k n) → all_resent at m numbers ≡ all_resent at k numbers
-same_resent at m k [] h = refl
-same_resent at m k (n ∷ ns) h =
+same_resent : (providers : List (List ℕ)) (at : ℕ) (m k : Pushes) (numbers : List ℕ) → ((n : ℕ) → Contains numbers n → get m n ≡ get k n) → all_resent providers at m numbers ≡ all_resent providers at k numbers
+same_resent providers at m k [] h = refl
+same_resent providers at m k (n ∷ ns) h =
     let one = h n (in_front n ns) in
-    let more = same_resent at m k ns (λ l i. h l (in_later n ns l i)) in
-    λ i. resent_acts at n (one i) ++ more i
+    let more = same_resent providers at m k ns (λ l i. h l (in_later n ns l i)) in
+    λ i. resent_acts providers at n (one i) ++ more i
 
 -- a push that is due was given its number
 pub due_given : (s : State) (at n : ℕ) → IsConsistent s → IsDue (as_outbox s.rows) s.resend at n → n ≤ s.rows.request
@@ -313,12 +313,12 @@ module _ (s : State) (at : ℕ) (ends : List Ending) where
 
       -- the work of the stages is that of the moment
       pub stage_work : (due : List ℕ) → IsConsistent s → AreExactly (IsStillDue s at begun) due →
-          and_then (quiet timeouts) (and_then (quiet (expired_acts expired)) (and_then late_work (and_then (quiet (all_resent at resumed.rows.pushes due)) (quiet []))))
+          and_then (quiet timeouts) (and_then (quiet (expired_acts expired)) (and_then late_work (and_then (quiet (all_resent s.providers at resumed.rows.pushes due)) (quiet []))))
           ≡ record { acts = tick_acts at s ends expired now begun due; waits = map Ends late }
       stage_work due fine h =
-          let resends = same_resent at resumed.rows.pushes s.rows.pushes due (λ n i. let is = (h.exact n).0 i in push_after n (due_given s at n fine is.due) is.unreplaced) in
-          let acts = ap (λ l. timeouts ++ (expired_acts expired ++ (late_work.acts ++ l))) (append-nil (all_resent at resumed.rows.pushes due) ∙ resends)
-          ∙ sym (append_assoc timeouts (expired_acts expired) (late_work.acts ++ all_resent at s.rows.pushes due)) in
+          let resends = same_resent s.providers at resumed.rows.pushes s.rows.pushes due (λ n i. let is = (h.exact n).0 i in push_after n (due_given s at n fine is.due) is.unreplaced) in
+          let acts = ap (λ l. timeouts ++ (expired_acts expired ++ (late_work.acts ++ l))) (append-nil (all_resent s.providers at resumed.rows.pushes due) ∙ resends)
+          ∙ sym (append_assoc timeouts (expired_acts expired) (late_work.acts ++ all_resent s.providers at s.rows.pushes due)) in
           let none = append-nil (map Ends late) in
           λ i. record { acts = acts i; waits = none i }
 
@@ -376,7 +376,7 @@ module _ (s : State) (at : ℕ) (fine : IsConsistent s) (ends : List Ending) (ti
       } in
       let third = late_work s at ends expired late begun now unanswered in
       let after = resumed s at ends expired late begun now unanswered in
-      let again = all_resent at after.rows.pushes due in
+      let again = all_resent s.providers at after.rows.pushes due in
       let fourth : Resends s.rows.request at after again = record { due = due; are_due = (due_seen s at ends expired late begun now unanswered due fine).1 are_due; acts_are = refl } in
       subst (TickLine s at) (stage_work s at ends expired late begun now unanswered due fine are_due)
       (stage (λ t. Quietly (Timeouts at t)) (second_on s.rows.request at) s (quiet (timeouts s at ends)) (and_then (quiet (expired_acts expired)) (and_then third (and_then (quiet again) (quiet []))))
@@ -392,7 +392,7 @@ module _ (s : State) (at : ℕ) (fine : IsConsistent s) (ends : List Ending) (ti
   resends_parts work rest late begun now are_late unanswered h is =
       let line = h.2.1 in
       let are_due = (due_seen s at ends expired late begun now unanswered line.due fine).0 line.are_due in
-      let again = all_resent at (resumed s at ends expired late begun now unanswered).rows.pushes line.due in
+      let again = all_resent s.providers at (resumed s at ends expired late begun now unanswered).rows.pushes line.due in
       let rest_is : rest ≡ and_then (quiet again) (quiet []) = h.4 ∙ (λ i. and_then ((h.2.2 ∙ ap quiet line.acts_are) i) (h.3 i)) in
       record {
         ends = ends;

@@ -84,7 +84,7 @@ module _ (s : State) (at : ℕ) (ends : List Ending) (expired : List Standing) (
   counts = counts_acts s.rows.charged.last_session now
 
   abbrev again : List Act
-  again = all_resent at s.rows.pushes due
+  again = all_resent s.providers at s.rows.pushes due
 
   pub tick_ask : all_requests (tick_acts at s ends expired now begun due) ≡ length ends + all_requests begun
   tick_ask =
@@ -95,7 +95,7 @@ module _ (s : State) (at : ℕ) (ends : List Ending) (expired : List Standing) (
       let one = ends_ask at s.rows.commands.pending s.rows.request ends in
       let two = expired_ask expired in
       let three = counts_ask s.rows.charged.last_session now in
-      let four = resent_ask at s.rows.pushes due in
+      let four = resent_ask s.providers at s.rows.pushes due in
       omega (arith, all, front, back, mid, one, two, three, four)
 
   pub tick_send : ((n : ℕ) → Contains due n → IsTrue (contains_key s.rows.pushes n)) → length (all_messages (tick_acts at s ends expired now begun due)) ≡ length ends + length (all_messages begun) + length due
@@ -106,7 +106,7 @@ module _ (s : State) (at : ℕ) (ends : List Ending) (expired : List Standing) (
       let mid = ap length (messages_append counts begun ∙ ap (λ l. l ++ all_messages begun) (counts_send s.rows.charged.last_session now)) in
       let one = ends_send at s.rows.commands.pending s.rows.request ends in
       let two = expired_send expired in
-      let four = resent_send at s.rows.pushes due stand in
+      let four = resent_send s.providers at s.rows.pushes due stand in
       omega (arith, all, front, back, mid, one, two, four)
 
 module _ (s : State) (at : ℕ) (work : Work) (fine : IsConsistent s) (range : AreInRange s work.acts) (h : IsTickOf s at work) where
@@ -120,7 +120,7 @@ module _ (s : State) (at : ℕ) (work : Work) (fine : IsConsistent s) (range : A
   counts_part = counts_acts s.rows.charged.last_session h.now
 
   abbrev resend_part : List Act
-  resend_part = all_resent at s.rows.pushes h.due
+  resend_part = all_resent s.providers at s.rows.pushes h.due
 
   abbrev front_part : List Act
   front_part = ends_part ++ expiry_part
@@ -171,7 +171,7 @@ module _ (s : State) (at : ℕ) (work : Work) (fine : IsConsistent s) (range : A
   of_back : (c : Change) → Contains (all_changes back_part) c → IsOfBegin c
   of_back c i = elim (Contains-append_cases (all_changes begin_part) (all_changes resend_part) c (subst (λ l. Contains l c) (changes_append begin_part resend_part) i)) [
     | inl j ↦ of_begin c j
-    | inr j ↦ resent_leave at s.rows.pushes h.due IsOfBegin c j
+    | inr j ↦ resent_leave s.providers at s.rows.pushes h.due IsOfBegin c j
   ]
 
   -- a change of what comes first is one of an end or of an expiry
@@ -220,7 +220,7 @@ module _ (s : State) (at : ℕ) (work : Work) (fine : IsConsistent s) (range : A
 
   parts_orderly : AreOrderly all_parts
   parts_orderly = orderly_append front_part back_part front_orderly
-      (orderly_append begin_part resend_part begin_orderly (resent_orderly at s.rows.pushes h.due) (λ c d i j. resent_leave at s.rows.pushes h.due (λ e. change_key e ≢ change_key c) d j))
+      (orderly_append begin_part resend_part begin_orderly (resent_orderly s.providers at s.rows.pushes h.due) (λ c d i j. resent_leave s.providers at s.rows.pushes h.due (λ e. change_key e ≢ change_key c) d j))
       back_other
 
   -- the state with the counters that the step comes to, and its rows once commands and reservations have ended
@@ -279,7 +279,7 @@ module _ (s : State) (at : ℕ) (work : Work) (fine : IsConsistent s) (range : A
       (fit_append ends_part expiry_part start
       (ends_fit at s.rows.commands.pending s.rows.request h.ends start (may_numbered s all_parts h.ends may) (omega (arith, asked)))
       (expired_fit h.expired (left_by ends_part start)))
-      (fit_append begin_part resend_part (left_by front_part start) begin_fit (resent_fit at s.rows.pushes h.due (left_by begin_part (left_by front_part start))))
+      (fit_append begin_part resend_part (left_by front_part start) begin_fit (resent_fit s.providers at s.rows.pushes h.due (left_by begin_part (left_by front_part start))))
 
   -- the numbers of what is sent: of results, of sessions that begin, and of what is sent again
   front_bounds : (v : Volatile) → Contains (all_volatile front_part) v → (s.rows.request < number_of v) × (number_of v ≤ last)
@@ -293,7 +293,7 @@ module _ (s : State) (at : ℕ) (work : Work) (fine : IsConsistent s) (range : A
       (subst (λ l. Contains l v) (volatile_append counts_part h.begun ∙ ap (λ l. l ++ all_volatile h.begun) (counter_untold s.rows.charged.last_session h.now)) i)
 
   again_due : (v : Volatile) → Contains (all_volatile resend_part) v → IsStillDue s at h.begun (number_of v)
-  again_due v i = (h.are_due.exact (number_of v)).0 (of_resent at s.rows.pushes h.due v i).0
+  again_due v i = (h.are_due.exact (number_of v)).0 (of_resent s.providers at s.rows.pushes h.due v i).0
 
   again_given : (v : Volatile) → Contains (all_volatile resend_part) v → number_of v ≤ s.rows.request
   again_given v i = due_given s at (number_of v) fine (again_due v i).due
@@ -332,7 +332,7 @@ module _ (s : State) (at : ℕ) (work : Work) (fine : IsConsistent s) (range : A
 
   back_sent : ActsAreSent s back_part
   back_sent = sent_append begin_part resend_part s begin_sent (resent_sent at s h.due h.are_due.in_order)
-      (λ v i c j. resent_leave at s.rows.pushes h.due (λ d. change_key d ≢ keys.Push (number_of v)) c j)
+      (λ v i c j. resent_leave s.providers at s.rows.pushes h.due (λ d. change_key d ≢ keys.Push (number_of v)) c j)
       begin_leaves
       (λ v w i j same. let above = begin_above v i in let old = again_given w j in omega (arith, above, old, same))
 
@@ -368,7 +368,7 @@ module _ (s : State) (at : ℕ) (work : Work) (fine : IsConsistent s) (range : A
   parts_next =
       let front = next_append s (all_changes ends_part) (all_changes expiry_part) (ends_next at s.rows.commands.pending s s.rows.request h.ends) (expired_next s h.expired) in
       let begin = next_append s (all_changes counts_part) (all_changes h.begun) (counts_next s s.rows.charged.last_session h.now) late.next in
-      let none = subst (AreNext s) (sym (resent_changes at s.rows.pushes h.due)) (next_kinds s [] refl refl) in
+      let none = subst (AreNext s) (sym (resent_changes s.providers at s.rows.pushes h.due)) (next_kinds s [] refl refl) in
       let back = next_append s (all_changes begin_part) (all_changes resend_part) (subst (AreNext s) (sym (changes_append counts_part h.begun)) begin) none in
       subst (AreNext s) (sym (changes_append front_part back_part))
       (next_append s (all_changes front_part) (all_changes back_part) (subst (AreNext s) (sym (changes_append ends_part expiry_part)) front) (subst (AreNext s) (sym (changes_append begin_part resend_part)) back))

@@ -10,6 +10,7 @@ use Rattle.outbox.specs.Pushes.{Pushes}
 use Rattle.outbox.specs.declared.push_book.Outgoing.{Outgoing}
 use Rattle.reservation_book.specs.declared.standing.Standing.{Standing}
 use Rattle.node_steps.specs.Acts.{Act, in_turn, resent}
+use Rattle.node_steps.specs.Peers.{spelled}
 use Rattle.operator_rows.specs.State.{Rows}
 use Rattle.operator_steps.specs.declared.ending.Ending.{Ending}
 use Rattle.operator_steps.specs.Acts.{closed, freed, settled}
@@ -31,13 +32,13 @@ ends_acts at m last ends = in_turn (end_acts at m) last ends
 abbrev pub expired_acts : List Standing → List Act
 expired_acts expired = map (λ (x : Standing). freed x.provider x.id) expired
 
--- the push of that number is sent again
-abbrev pub resent_acts : ℕ → ℕ → Option Outgoing → List Act
-resent_acts at n None = []
-resent_acts at n (Some o) = resent at n o.to o.push ∷ []
+-- the push of that number is sent again, to its provider as these are spelled
+abbrev pub resent_acts : List (List ℕ) → ℕ → ℕ → Option Outgoing → List Act
+resent_acts providers at n None = []
+resent_acts providers at n (Some o) = resent at n (spelled providers o.to) o.push ∷ []
 
-abbrev pub all_resent : ℕ → Pushes → List ℕ → List Act
-all_resent at m numbers = flat_map (λ n. resent_acts at n (get m n)) numbers
+abbrev pub all_resent : List (List ℕ) → ℕ → Pushes → List ℕ → List Act
+all_resent providers at m numbers = flat_map (λ n. resent_acts providers at n (get m n)) numbers
 
 -- the command of that ending is open
 abbrev pub IsOpen : Rows → Ending → Type 0

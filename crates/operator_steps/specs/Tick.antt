@@ -47,7 +47,7 @@ pub record IsToResend (last : ℕ) (s : State) (at n : ℕ) : Type 0 where
 pub record Resends (last at : ℕ) (s : State) (acts : List Act) : Type 0 where
   pub due : List ℕ
   pub are_due : AreExactly (IsToResend last s at) due
-  pub acts_are : acts ≡ all_resent at s.rows.pushes due
+  pub acts_are : acts ≡ all_resent s.providers at s.rows.pushes due
 
 -- what a moment comes to, were there no last number: each stage sees what the ones before it left, so that an
 -- authorization whose deadline has come may take an EVSE that a timeout or an expiry freed

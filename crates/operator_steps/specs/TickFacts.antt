@@ -52,7 +52,7 @@ pub record IsStillDue (s : State) (at : ℕ) (begun : List Act) (n : ℕ) : Type
 abbrev pub tick_acts : ℕ → State → List Ending → List Standing → ℕ → List Act → List ℕ → List Act
 tick_acts at s ends expired now begun due =
     (ends_acts at s.rows.commands.pending s.rows.request ends ++ expired_acts expired) ++
-    ((map changed (count_change counter.Session s.rows.charged.last_session now) ++ begun) ++ all_resent at s.rows.pushes due)
+    ((map changed (count_change counter.Session s.rows.charged.last_session now) ++ begun) ++ all_resent s.providers at s.rows.pushes due)
 
 -- what times out, has expired, is awaited no more and is due, all read from the state before the moment
 pub record IsTickOf (s : State) (at : ℕ) (work : Work) : Type 0 where

@@ -3,7 +3,7 @@
 //!
 //! ```
 //! let (ran, besides) = and_closed(ran, let_go(closed));
-//! status_with(report_node(rt, ran, besides, words), telling, lines)
+//! status_with(report_node(rt, ran, besides, words), telling, lines.into_inner())
 //! ```
 //!
 //! # Promises
@@ -12,7 +12,8 @@
 //! - It is 3 where a transcript was not opened. By `report_unopened`.
 //! - Where a store could not be closed and nothing else had stopped the run, that did. Where something had, it is
 //!   handed on to be told besides. By `and_closed`: `refused`; `besides`, `once`, `nothing`.
-//! - Without `--strict` explanations change no status, and with it none but 0. By `status_with`: `lax`, `other`.
+//! - With `--strict` the status is 1 in place of 0 just where the watch has told of a line. Without it explanations change
+//!   no status, and with it none but 0. By `status_with`: `strict`, `untold`; `lax`, `other`.
 //! - Which words are told. No clause says so (tested by examples, `tools/try_stores`).
 //!
 //! # How it is built

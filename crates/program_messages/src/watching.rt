@@ -28,27 +28,17 @@ pub fn watch_in<'w, 'p>(lines: &'w Lines<'p>, telling: Telling) -> Option<&'w Li
     }
 }
 
-/// The exit status of a run whose lines were watched. What watched them is let go.
-pub fn status_with(status: u8, telling: Telling, lines: Lines<'_>) -> u8
+/// The exit status of a run whose lines were watched: 1 in place of 0, where something is told of a line and that is to
+/// be an error. What watched them is let go.
+pub fn status_with(status: u8, telling: Telling, watch: Watch<'_, Stderr>) -> u8
+    ensures strict { telling.is_strict ≡ true → watch.entry.has_told ≡ true → status ≡ 0 → result ≡ 1 }
+    ensures untold { watch.entry.has_told ≡ false → result ≡ status }
     ensures lax { telling.is_strict ≡ false → result ≡ status }
     ensures other { status ≢ 0 → result ≡ status }
 {
-    let has_told = match lines.try_borrow() {
-        Ok(watch) => watch.has_told(),
-        Err(_) => false,
-    };
-    drop(lines);
-    strict_status(status, telling.is_strict, has_told)
-}
-
-/// The exit status 1 in place of 0, where something is told of a line and that is to be an error.
-fn strict_status(status: u8, is_strict: bool, has_told: bool) -> u8
-    ensures strict { is_strict ≡ true → has_told ≡ true → status ≡ 0 → result ≡ 1 }
-    ensures lax { is_strict ≡ false → result ≡ status }
-    ensures untold { has_told ≡ false → result ≡ status }
-    ensures other { status ≢ 0 → result ≡ status }
-{
-    if is_strict && has_told && status == 0 {
+    let has_told = watch.has_told();
+    drop(watch);
+    if telling.is_strict && has_told && status == 0 {
         1
     } else {
         status

@@ -15,7 +15,7 @@ pub fn run_answer_word(rt: &HostRuntime, seed: HashSeed, telling: Telling) -> u8
     let told = Told::new(rt.alloc());
     let lines = lines_of(rt, Program::Answer, telling, false);
     let ran = answer_buffered(rt, seed, watch_in(&lines, telling));
-    status_with(report(rt, ran, &told), telling, lines)
+    status_with(report(rt, ran, &told), telling, lines.into_inner())
 }
 
 /// Answers the standard input to the standard output.

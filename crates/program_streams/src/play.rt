@@ -27,7 +27,7 @@ pub fn run_play_word(rt: &HostRuntime, seed: HashSeed, words: &PlayWords<'_>) ->
             play_in_files(rt, seed, &mut writer, watch, folder, &mut told)
         }
     };
-    status_with(report(rt, ran, &told), telling, lines)
+    status_with(report(rt, ran, &told), telling, lines.into_inner())
 }
 
 /// Plays the standard input to the standard output, with keepers in memory.

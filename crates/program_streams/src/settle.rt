@@ -5,7 +5,7 @@ use node_keepers::{Found, rows_in};
 use node_programs::{PlayFault, run_settle};
 use node_store::StoreFault;
 use ocpi_types::Row;
-use program_messages::{BUFFER_BYTES, Told, and_closed, let_go, report};
+use program_messages::{BUFFER_BYTES, Told, and_closed, report};
 use sqlite::Unknown;
 use std::io::{self, BufWriter, Write};
 
@@ -50,17 +50,16 @@ fn settle_file<W: Write>(
 }
 
 /// Writes what is owed by what was found in a file, which is let go first.
-fn settle_found<W: Write, C: Drop>(
+fn settle_found<W: Write, C: Drop, L: Drop>(
     rt: &HostRuntime,
     writer: &mut W,
-    found: Result<Found<C>, StoreFault>,
+    found: Result<Found<C, L>, StoreFault>,
     told: &mut Told,
 ) -> Result<Ran, PlayFault> {
-    let Found { rows, closed } = match found {
-        Ok(found) => found,
+    let (rows, closed) = match found {
+        Ok(found) => found.into_rows(),
         Err(fault) => return Err(PlayFault::Store(fault)),
     };
-    let closed = let_go(closed);
     let ran = match rows {
         Ok(rows) => settle_rows(rt, writer, rows.as_slice()),
         Err(fault) => Err(PlayFault::Store(fault)),

@@ -16,55 +16,55 @@ use Rattle.provider_steps.specs.Tick.{TickLine, all_resent, resent_acts}
 use Rattle.provider_core.specs.Planned.{ReferWithin}
 use Rattle.provider_core.proofs.Within.{refer_each}
 
-module _ (at n : ℕ) where
+module _ (operators : List (List ℕ)) (at n : ℕ) where
   -- a push that stands, or a command that does
   abbrev Stands : Option Outgoing → Option SentCommand → Type 0
   Stands o c = IsTrue (is_some o) ⊎ ((x : SentCommand) × (c ≡ Some x))
 
-  one_sends : (o : Option Outgoing) (c : Option SentCommand) (rest : List Act) → Stands o c → length (all_messages (resent_acts at n o c ++ rest)) ≡ suc (length (all_messages rest))
+  one_sends : (o : Option Outgoing) (c : Option SentCommand) (rest : List Act) → Stands o c → length (all_messages (resent_acts operators at n o c ++ rest)) ≡ suc (length (all_messages rest))
   one_sends (Some o) c rest h = refl
   one_sends None (Some c) rest h = refl
   one_sends None None rest (inl h) = absurd (let f : false ≡ true = h in cc)
   one_sends None None rest (inr h) = none_some h.0 h.1
 
-  one_asks : (o : Option Outgoing) (c : Option SentCommand) → all_requests (resent_acts at n o c) ≡ 0
+  one_asks : (o : Option Outgoing) (c : Option SentCommand) → all_requests (resent_acts operators at n o c) ≡ 0
   one_asks (Some o) c = refl
   one_asks None (Some c) = refl
   one_asks None None = refl
 
-  one_within : (o : Option Outgoing) (c : Option SentCommand) → ReferWithin (resent_acts at n o c)
+  one_within : (o : Option Outgoing) (c : Option SentCommand) → ReferWithin (resent_acts operators at n o c)
   one_within (Some o) c = tt
   one_within None (Some c) = tt
   one_within None None = tt
 
-module _ (at : ℕ) (r : OutboxRows) where
-  stands : (n : ℕ) → Waits r n → Stands at n (get r.pushes n) (get r.commands n)
+module _ (operators : List (List ℕ)) (at : ℕ) (r : OutboxRows) where
+  stands : (n : ℕ) → Waits r n → Stands operators at n (get r.pushes n) (get r.commands n)
   stands n (inl h) = inl h
   stands n (inr h) = inr (h.0, h.1)
 
-  sends : (numbers : List ℕ) → ((n : ℕ) → Contains numbers n → Waits r n) → length (all_messages (all_resent at r numbers)) ≡ length numbers
+  sends : (numbers : List ℕ) → ((n : ℕ) → Contains numbers n → Waits r n) → length (all_messages (all_resent operators at r numbers)) ≡ length numbers
   sends [] wait = refl
   sends (n ∷ ns) wait =
-      one_sends at n (get r.pushes n) (get r.commands n) (all_resent at r ns) (stands n (wait n (in_front n ns)))
+      one_sends operators at n (get r.pushes n) (get r.commands n) (all_resent operators at r ns) (stands n (wait n (in_front n ns)))
       ∙ ap suc (sends ns (λ k i. wait k (Contains-append_right (n ∷ []) ns k i)))
 
-  asks : (numbers : List ℕ) → all_requests (all_resent at r numbers) ≡ 0
+  asks : (numbers : List ℕ) → all_requests (all_resent operators at r numbers) ≡ 0
   asks [] = refl
   asks (n ∷ ns) =
-      let all = requests_append (resent_acts at n (get r.pushes n) (get r.commands n)) (all_resent at r ns) in
-      let here = one_asks at n (get r.pushes n) (get r.commands n) in
+      let all = requests_append (resent_acts operators at n (get r.pushes n) (get r.commands n)) (all_resent operators at r ns) in
+      let here = one_asks operators at n (get r.pushes n) (get r.commands n) in
       let rest = asks ns in
       omega (arith, all, here, rest)
 
-  pub resent_within : (numbers : List ℕ) → ReferWithin (all_resent at r numbers)
-  resent_within numbers = refer_each (λ n. resent_acts at n (get r.pushes n) (get r.commands n)) (λ n. one_within at n (get r.pushes n) (get r.commands n)) numbers
+  pub resent_within : (numbers : List ℕ) → ReferWithin (all_resent operators at r numbers)
+  resent_within numbers = refer_each (λ n. resent_acts operators at n (get r.pushes n) (get r.commands n)) (λ n. one_within operators at n (get r.pushes n) (get r.commands n)) numbers
 
 module _ (s : State) (at : ℕ) (due : List ℕ) where
-  pub resent_sends : AreExactly (IsDue s.rows.outbox s.resend at) due → length due ≡ length (all_messages (all_resent at s.rows.outbox due))
-  resent_sends h = sym (sends at s.rows.outbox due (λ n i. ((h.exact n).0 i).waits))
+  pub resent_sends : AreExactly (IsDue s.rows.outbox s.resend at) due → length due ≡ length (all_messages (all_resent s.operators at s.rows.outbox due))
+  resent_sends h = sym (sends s.operators at s.rows.outbox due (λ n i. ((h.exact n).0 i).waits))
 
-  pub resent_asks : 0 ≡ all_requests (all_resent at s.rows.outbox due)
-  resent_asks = sym (asks at s.rows.outbox due)
+  pub resent_asks : 0 ≡ all_requests (all_resent s.operators at s.rows.outbox due)
+  resent_asks = sym (asks s.operators at s.rows.outbox due)
 
-  pub tick_line : AreExactly (IsDue s.rows.outbox s.resend at) due → TickLine s at (all_resent at s.rows.outbox due)
+  pub tick_line : AreExactly (IsDue s.rows.outbox s.resend at) due → TickLine s at (all_resent s.operators at s.rows.outbox due)
   tick_line h = record { due = due; are_due = h; acts_are = refl }

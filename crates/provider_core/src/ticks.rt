@@ -16,17 +16,18 @@ use provider_steps::facts;
 use std::alloc::AllocError;
 
 impl Provider {
-    /// Adds that the request of a number, a push or a command, is sent again, if it stands.
+    /// Adds that the request of a number, a push or a command, is sent again, if it stands, to its operator as the
+    /// provider spells it now.
     fn add_resent(&self, draft: &mut Draft, at: Moment, number: Whole) -> Result<(), AllocError>
-        requires { HasNumbersOf (resent_acts at number (map.get self.now.state.rows.outbox.pushes number) (map.get self.now.state.rows.outbox.commands number)) draft.old }
-        ensures { OnOk result (draft.new ≡ with_acts (resent_acts at number (map.get self.now.state.rows.outbox.pushes number) (map.get self.now.state.rows.outbox.commands number)) draft.old) }
+        requires { HasNumbersOf (resent_acts self.now.state.operators at number (map.get self.now.state.rows.outbox.pushes number) (map.get self.now.state.rows.outbox.commands number)) draft.old }
+        ensures { OnOk result (draft.new ≡ with_acts (resent_acts self.now.state.operators at number (map.get self.now.state.rows.outbox.pushes number) (map.get self.now.state.rows.outbox.commands number)) draft.old) }
     {
         if let Some(outgoing) = self.books.outbox().get(number) {
-            return draft.resend(at, number, outgoing);
+            return draft.resend(self.books.operators(), at, number, outgoing);
         }
         match self.books.outbox().command(number) {
             None => Ok(()),
-            Some(command) => draft.resend_command(at, number, command),
+            Some(command) => draft.resend_command(self.books.operators(), at, number, command),
         }
     }
 
@@ -37,8 +38,8 @@ impl Provider {
         at: Moment,
         numbers: &[Whole],
     ) -> Result<(), AllocError>
-        requires { HasNumbersOf (all_resent at self.now.state.rows.outbox numbers.now) draft.old }
-        ensures { OnOk result (draft.new ≡ with_acts (all_resent at self.now.state.rows.outbox numbers.now) draft.old) }
+        requires { HasNumbersOf (all_resent self.now.state.operators at self.now.state.rows.outbox numbers.now) draft.old }
+        ensures { OnOk result (draft.new ≡ with_acts (all_resent self.now.state.operators at self.now.state.rows.outbox numbers.now) draft.old) }
     {
         for number in numbers {
             self.add_resent(draft, at, *number)?;
@@ -49,9 +50,9 @@ impl Provider {
     /// The step in which the requests that are due are sent again.
     fn plan_resent(&self, at: Moment, due: &[Whole]) -> Result<Plan, NodeFault>
         requires { AreExactly (IsDue self.now.state.rows.outbox self.now.state.resend at) due.now }
-        ensures ok { IfOk result (λ x. step_of x ≡ step_of_acts self.now.state (all_resent at self.now.state.rows.outbox due.now)) }
-        ensures in_range { OnOk result (IsInRange (counted (counters_of self.now.state) (all_resent at self.now.state.rows.outbox due.now))) }
-        ensures err { IfErr result (StopsBy (counted (counters_of self.now.state) (all_resent at self.now.state.rows.outbox due.now))) }
+        ensures ok { IfOk result (λ x. step_of x ≡ step_of_acts self.now.state (all_resent self.now.state.operators at self.now.state.rows.outbox due.now)) }
+        ensures in_range { OnOk result (IsInRange (counted (counters_of self.now.state) (all_resent self.now.state.operators at self.now.state.rows.outbox due.now))) }
+        ensures err { IfErr result (StopsBy (counted (counters_of self.now.state) (all_resent self.now.state.operators at self.now.state.rows.outbox due.now))) }
     {
         let mut draft = self.draft(Needs {
             packets: due.len(),

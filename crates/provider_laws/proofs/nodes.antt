@@ -3,3 +3,4 @@ pub mod LineSteps
 pub mod NodeSteps
 pub mod NodeLaws
 pub mod Acknowledging
+pub mod Spelled

@@ -32,7 +32,7 @@ CommandsStay = (s t : State) (es : List Event) → IsConsistent s → Run s es t
 -- a command that was sent stands under its number, with its addressee
 abbrev pub SentCommandsStand : Type 0
 SentCommandsStand = (s t : State) (es : List Event) → IsConsistent s → Run s es t → (x : Packet) (c : Command) → Contains (sent es) x → x.body ≡ body.Command c →
-    (d : SentCommand) × (get t.rows.outbox.commands x.request ≡ Some d) × (d.to ≡ x.to) × (d.command ≡ c)
+    (d : SentCommand) × (get t.rows.outbox.commands x.request ≡ Some d) × (key d.to ≡ key x.to) × (d.command ≡ c)
 
 -- the command of that number stood with that response
 abbrev pub HadAnswer : State → ℕ → CommandResponse → Type 0

@@ -1,7 +1,7 @@
 -- The laws of a provider over every list of events from its opening: packets that come, in any order and any number of
 -- times, orders that are submitted, tokens that are given, time that passes, at moments that may go back, and restarts
--- of the provider from what it stored; events that are refused among them.
-use Rattle.std.specs.Prelude.{◌≡◌, ◌⊎◌, ℕ, ◌+◌, List, Some, None, Contains, slice_get, ◌++◌, ◌∷◌}
+-- of the provider from what it stored, also among other operators; events that are refused among them.
+use Rattle.std.specs.Prelude.{◌≡◌, ◌⊎◌, ℕ, ◌+◌, List, [], Some, None, Contains, slice_get, ◌++◌, ◌∷◌}
 use Rattle.std.specs.List.{flat_map}
 use Rattle.std.specs.FinMap.{get}
 use Rattle.ocpi_text.specs.Text.{key}
@@ -12,11 +12,27 @@ use Rattle.node_laws.specs.Runs as runs
 use Rattle.node_laws.specs.Nodes.{Answers, IsReply}
 use Rattle.provider_rows.specs.State.{ArePeers, Peering, State, opening}
 use Rattle.provider_rows.specs.Sound.{IsConsistent}
-use Rattle.provider_steps.specs.Events.{Arrives, Event, Happens}
+use Rattle.provider_steps.specs.Events.{Arrives, Event, Gives, Happens, Input, Reopens, Restarts, Submits, Ticks}
 
 -- a run from one state to another, event by event
 abbrev pub Run : State → List Event → State → Type 0
 Run s es t = runs.Run Happens s es t
+
+-- the peers among which the provider started again in the run
+abbrev pub peering_of : Input → List Peering
+peering_of (Arrives at q) = []
+peering_of (Submits at operator order) = []
+peering_of (Gives at t) = []
+peering_of (Ticks at) = []
+peering_of Restarts = []
+peering_of (Reopens p) = p ∷ []
+
+abbrev pub peerings_in : List Event → List Peering
+peerings_in es = flat_map (λ (e : Event). peering_of e.input) es
+
+-- all operators that the provider ever dealt with, as they were spelled
+abbrev pub operators_in : Peering → List Event → List (List ℕ)
+operators_in p es = flat_map (λ (q : Peering). q.operators) (p ∷ peerings_in es)
 
 -- all packets of a run, in order
 abbrev pub sent : List Event → List Packet
@@ -75,9 +91,9 @@ RepliesAnswer = (s t : State) (es : List Event) → Run s es t → (p : List ℕ
 abbrev pub Numbered : Type 0
 Numbered = (p : Peering) (es : List Event) (t : State) → Run (opening p) es t → (i : ℕ) (x : Packet) → slice_get (sent es) i ≡ Some x → x.serial ≡ i + 1
 
--- each packet is from this provider, to an operator that it deals with, as it spells it
+-- each packet is from this provider, to an operator that it was ever set up with, as that setup spells it
 abbrev pub PacketsAreAddressed : Type 0
-PacketsAreAddressed = (p : Peering) (es : List Event) (t : State) → Run (opening p) es t → (x : Packet) → Contains (sent es) x → (x.from ≡ p.provider) × Contains p.operators x.to
+PacketsAreAddressed = (p : Peering) (es : List Event) (t : State) → Run (opening p) es t → (x : Packet) → Contains (sent es) x → (x.from ≡ p.provider) × Contains (operators_in p es) x.to
 
 -- each reply that was sent is the one that is kept for its request
 abbrev pub SentRepliesAreKept : Type 0
@@ -85,7 +101,7 @@ SentRepliesAreKept = (p : Peering) (es : List Event) (t : State) → Run (openin
     get t.rows.replies (key x.to, x.request) ≡ Some r
 
 -- each of the provider's own requests, commands and tokens together, has one number, one body and one addressee,
--- however often it is sent
+-- however often it is sent, and however the addressee is spelled
 abbrev pub RequestsAgree : Type 0
 RequestsAgree = (p : Peering) (es : List Event) (t : State) → Run (opening p) es t → (x y : Packet) → Contains (sent es) x → Contains (sent es) y →
-    ¬ IsReply x.body → ¬ IsReply y.body → x.request ≡ y.request → (x.body ≡ y.body) × (x.to ≡ y.to)
+    ¬ IsReply x.body → ¬ IsReply y.body → x.request ≡ y.request → (x.body ≡ y.body) × (key x.to ≡ key y.to)

@@ -32,7 +32,7 @@ ghost use Rattle.provider_laws.specs.Commands.{
   UrlsHaveOneNumber,
 };
 ghost use Rattle.provider_laws.specs.References.{ReferencesNeverFall, ReferencesHaveOneCarrier, ReferencesAreOwn};
-ghost use Rattle.provider_laws.specs.AsNode.{StepsAreNodeSteps, RunsAreNodeRuns};
+ghost use Rattle.provider_laws.specs.AsNode.{PacketsAreSpelled, StepsAreNodeSteps, RunsAreNodeRuns};
 
 use provider_rows::stays_consistent;
 use provider_steps::facts;
@@ -154,7 +154,7 @@ pub fn references_are_own()
     ensures { ReferencesAreOwn }
 {}
 
-/// Each event of a provider is a step of a node.
+/// Each event of a provider is a step of a node, whose peers are all operators that the provider was ever set up with.
 pub fn steps_are_node_steps()
     ensures { StepsAreNodeSteps }
 {}
@@ -169,9 +169,14 @@ pub fn numbered()
     ensures { Numbered }
 {}
 
-/// Each packet is from this provider, to an operator that it deals with.
+/// Each packet is from this provider, to an operator that it was ever set up with.
 pub fn packets_are_addressed()
     ensures { PacketsAreAddressed }
+{}
+
+/// Each packet is to an operator that the provider deals with at that time, as it spells it then.
+pub fn packets_are_spelled()
+    ensures { PacketsAreSpelled }
 {}
 
 /// Each reply that was sent is the one that is kept for its request.

@@ -10,8 +10,8 @@
 //!
 //! # Promises
 //!
-//! Over every list of events from the opening on (`provider_steps/specs/Events`: `Happens`), and from any state to a
-//! later one where a law speaks of two.
+//! Over every list of events from the opening on, restarts among other operators too (`provider_steps/specs/Events`:
+//! `Happens`), and from any state to a later one where a law speaks of two.
 //!
 //! - All that `consistency` says holds. By `always_consistent`.
 //! - What is held was held before, or came in a packet of its own operator, for a token of this provider. By
@@ -27,6 +27,7 @@
 //! - Each authorization reference is that of a number which the counter gave, and goes, also without case, to one
 //!   command or one kept authorization, also across restarts. By `references_never_fall`, `references_are_own`,
 //!   `references_have_one_carrier`.
+//! - Each packet is to an operator, as the provider spells it when the packet is sent. By `packets_are_spelled`.
 //! - A sent command stands with its addressee. By `commands_stay`, `sent_commands_stand`.
 //! - A response or a result that is kept came from that addressee, under its number or posted to its url, and never
 //!   changes. By `answers_came`, `results_came`, `commands_stay`.

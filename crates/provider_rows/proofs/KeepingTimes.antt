@@ -19,7 +19,7 @@ use Rattle.node_steps.specs.declared.plan.Volatile.TheVariants.{Sent}
 use Rattle.provider_rows.specs.State.{ArePeers, Peering, State, opening}
 use Rattle.provider_rows.specs.Stored.{change_key, changed_all}
 use Rattle.provider_rows.specs.Sound.{IsConsistent}
-use Rattle.provider_rows.specs.Steps.{MayFollow, after, restarted, number_of, untimed, untimed_all, timed, timed_all}
+use Rattle.provider_rows.specs.Steps.{MayFollow, MayReopen, after, reopened, restarted, number_of, untimed, untimed_all, timed, timed_all}
 use Rattle.provider_rows.proofs.KeepingSound.{follow_sound, opening_sound, sound_resent}
 use Rattle.provider_rows.proofs.RowChanges.{row_changes, of_cons, in_later}
 
@@ -69,6 +69,9 @@ follow_consistent s x may h = record {
 
 pub restarted_consistent : (s : State) → IsConsistent s → IsConsistent (restarted s)
 restarted_consistent s h = record { peers = h.peers; sound = sound_resent s (restarted s).resend h.sound; resend = λ n has. absurd (has_none ℕ nat_cmp n has) }
+
+pub reopened_consistent : (p : Peering) (s : State) → MayReopen s p → IsConsistent (reopened p s)
+reopened_consistent p s may = record { peers = may.peers; sound = may.sound; resend = λ n has. absurd (has_none ℕ nat_cmp n has) }
 
 pub opening_consistent : (p : Peering) → ArePeers p → IsConsistent (opening p)
 opening_consistent p are = record { peers = are; sound = opening_sound p; resend = λ n has. absurd (has_none ℕ nat_cmp n has) }

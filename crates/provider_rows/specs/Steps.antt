@@ -10,9 +10,9 @@ use Rattle.outbox.specs.Resend.{Resend, SendRooms, HasRoomUntil}
 use Rattle.node_steps.specs.Drafts.{Step}
 use Rattle.node_steps.specs.declared.plan.Volatile.{Volatile}
 pub use Rattle.node_steps.specs.Timing.{HasTimeRoom, HaveTimeRoom, number_of, time_taken, timed, timed_all, untimed, untimed_all}
-use Rattle.provider_rows.specs.State.{State}
+use Rattle.provider_rows.specs.State.{ArePeers, Peering, State}
 use Rattle.provider_rows.specs.Stored.{AreApart, Each, HasRoom, Rooms, changed, changed_all, change_key}
-use Rattle.provider_rows.specs.Sound.{MayChangeAll}
+use Rattle.provider_rows.specs.Sound.{IsSound, MayChangeAll}
 
 -- the state once a change is carried out
 abbrev pub after_change : Change → State → State
@@ -29,6 +29,16 @@ after x s = record s { rows = changed_all x.changes s.rows; resend = timed_all x
 -- the provider starts again from what it stored: each request that waits is due at once
 abbrev pub restarted : State → State
 restarted s = record s { resend = empty }
+
+-- the provider starts again from what it stored, and deals with other operators
+abbrev pub reopened : Peering → State → State
+reopened p s = record s { operators = p.operators; resend = empty }
+
+-- it may: the peers are of the same party, and no row that is stored is bad among them
+pub record MayReopen (s : State) (p : Peering) : Type 0 where
+  pub party : p.provider ≡ s.party
+  pub peers : ArePeers (record { provider = s.party; operators = p.operators })
+  pub sound : IsSound (reopened p s)
 
 -- a request that has no resend time, or that no change is of
 abbrev pub KeepsTime : Resend → List Change → ℕ → Type 0

@@ -34,6 +34,8 @@ use Rattle.stored_laws.proofs.Operators.{operators_are_whole}
 use Rattle.credit_laws.proofs.Orders.{orders_take_bills_back}
 use Rattle.world_laws.specs.Laws.{IsReached}
 use Rattle.world_laws.specs.Nodes.{OperatorOf}
+use Rattle.operator_laws.specs.Laws.{setups_in}
+use Rattle.world_laws.proofs.Steady.{of_first, setup_kept}
 use Rattle.world_laws.proofs.NodeRuns.{line_of, operator_at}
 use Rattle.world_steps.specs.World.{Place, World}
 use Rattle.world_steps.proofs.Tracing.{traced}
@@ -45,6 +47,7 @@ record HasRun (s : State) : Type 0 where
   by_form : IsOfParty line
   events : List Event
   run : Run (opening line) events s
+  steady : setups_in events ≡ []
 
 has_run : (w : World) → IsReached w → (o : List ℕ) (p : Place) (s : State) → OperatorOf w o p s → HasRun s
 has_run w reached o p s of =
@@ -56,6 +59,7 @@ has_run w reached o p s of =
       by_form = at.trace.by_form;
       events = at.trace.events;
       run = subst (λ (z : State). Run (opening line) at.trace.events z) at.state_is at.trace.run;
+      steady = at.trace.steady;
     }
 
 -- ---- for whom records are
@@ -66,14 +70,14 @@ module _ (s : State) (r : HasRun s) where
 
   -- the parties that it deals with are those of its opening
   same_providers : s.providers ≡ r.line.parties.providers
-  same_providers = kept_runs Happens (λ (z : State). z.providers ≡ r.line.parties.providers) (λ a b e happens h. (does a b e happens).providers ∙ h) (opening r.line) s r.events r.run refl
+  same_providers = (setup_kept r.events (opening r.line) s r.run r.steady).1
 
   by_push : (x : Cdr) → IsPushStanding s (key x.cdr_token.party) (push.PostCdr x) → HasPeer s.providers (key x.cdr_token.party)
   by_push x h = subst (HasPeer s.providers) h.of_provider (consistent.sound.pushes h.number (record { to = h.to; push = push.PostCdr x }) h.stands)
 
   by_packet : (x : Cdr) → WasTaken r.events (key x.cdr_token.party) (push.PostCdr x) → HasPeer s.providers (key x.cdr_token.party)
   by_packet x h =
-      let listed = (packets_are_addressed r.line r.events s r.by_form r.run h.packet h.was_sent).1 in
+      let listed = of_first r.line r.events r.steady h.packet.to (packets_are_addressed r.line r.events s r.by_form r.run h.packet h.was_sent).1 in
       (h.packet.to, subst (λ (l : List (List ℕ)). Contains l h.packet.to) (sym same_providers) listed, h.of_provider)
 
   -- a record is pushed to such a party until that acknowledges it

@@ -22,6 +22,7 @@ use Rattle.refusal_laws.proofs.Refusing.{refusals_exclude_steps}
 use Rattle.stored_laws.specs.Nodes.{CanStartAgain}
 use Rattle.stored_laws.proofs.Starting.{nodes_can_start_again, openings_can_start_again}
 use Rattle.world_laws.specs.Laws.{IsSetup}
+use Rattle.world_laws.proofs.Steady.{does_none, event_keeps}
 use Rattle.world_laws.proofs.NodeRuns.{one_place}
 use Rattle.world_steps.specs.Network.{Input, OfOperator, OfProvider, OperatorInput, ProviderInput, Reaches, WasSent}
 use Rattle.world_steps.specs.Steps as steps
@@ -101,7 +102,7 @@ operator_happens s t e (steps.Restarted is out) = operator.Restarted is out
 
 -- the site of an operator stays
 sites_stay : (n m : NodeState) (x : NodeEvent) → NodeStep n x m → HasLocations n → HasLocations m
-sites_stay (Operates s) (Operates t) (AtOperator e) step h = subst (λ (z : Site). AreLocations z.locations) (sym (does s t e (operator_happens s t e step)).site) h
+sites_stay (Operates s) (Operates t) (AtOperator e) step h = subst (λ (z : Site). AreLocations z.locations) (sym (event_keeps s t e (does_none s e t step) (does s t e (operator_happens s t e step)).under).0) h
 sites_stay (Operates s) (Provides t) (AtOperator e) step h = absurd step
 sites_stay (Operates s) m (AtProvider e) step h = absurd step
 sites_stay (Provides s) (Provides t) (AtProvider e) step h = tt

@@ -12,7 +12,7 @@ use Rattle.operator_rows.specs.State.{State}
 use Rattle.operator_rows.specs.Sound.{IsConsistent}
 use Rattle.operator_steps.specs.Charger.{ChargerLine}
 use Rattle.operator_steps.specs.Credits.{CreditLine}
-use Rattle.operator_steps.specs.Events.{Arrives, Asks, Credits, Input, Reports, Restarts, Serves, Ticks}
+use Rattle.operator_steps.specs.Events.{Arrives, Asks, Credits, Input, Reopens, Reports, Restarts, Serves, Ticks}
 use Rattle.operator_steps.specs.Faults.{PassesLast}
 use Rattle.operator_steps.specs.Moves.{AreInRange, Out, Quietly, StepBy, Work, counters_of}
 use Rattle.operator_steps.specs.Steps.{Comes}
@@ -74,3 +74,4 @@ module _ (s : State) (fine : IsConsistent s) (are : AreLocations s.site.location
   operator_excludes (Credits at session) fault h other step = credits at session fault h other step
   operator_excludes (Ticks at) fault h other step = ticks at fault h other step
   operator_excludes Restarts fault h other step = h
+  operator_excludes (Reopens line) fault h other step = h

@@ -177,7 +177,7 @@ module _ (s : State) (at : ℕ) (fine : IsConsistent s) where
       let ends : tally (ends_acts at s.rows.commands.pending s.rows.request h.ends) ≡ tally (ends_acts at s.rows.commands.pending s.rows.request g.ends) =
       ends_tally at s.rows.commands.pending s.rows.request s.rows.request h.ends g.ends (one_ends (v, h) (w, g)) in
       let counts = ap (λ (n : ℕ). tally (map changed (count_change counter.Session s.rows.charged.last_session n))) alike.last in
-      let again = ap (λ (numbers : List ℕ). tally (all_resent at s.rows.pushes numbers)) due in
+      let again = ap (λ (numbers : List ℕ). tally (all_resent s.providers at s.rows.pushes numbers)) due in
       ap (λ (x : Work). tally x.acts) h.work_is
       ∙ tally_parts (ends_acts at s.rows.commands.pending s.rows.request h.ends ++ expired_acts h.expired) _ (ends_acts at s.rows.commands.pending s.rows.request g.ends ++ expired_acts g.expired) _
       (tally_parts _ (expired_acts h.expired) _ (expired_acts g.expired) ends (expired_tally h.expired ∙ sym (expired_tally g.expired)))

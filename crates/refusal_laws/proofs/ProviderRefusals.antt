@@ -26,7 +26,7 @@ use Rattle.node_steps.specs.declared.fault.NodeFault.{NodeFault}
 use Rattle.node_steps.specs.declared.fault.NodeFault.TheVariants.{NotForMe, UnknownOperator, UnknownToken, StampEnd, NumbersUsedUp, Memory}
 use Rattle.provider_rows.specs.State.{State}
 use Rattle.provider_steps.specs.Acts.{replaced, stored, token_acts}
-use Rattle.provider_steps.specs.Events.{Arrives, Asks, Gives, Input, Restarts, Submits, Ticks}
+use Rattle.provider_steps.specs.Events.{Arrives, Asks, Gives, Input, Reopens, Restarts, Submits, Ticks}
 use Rattle.provider_steps.specs.Faults.{PassesLast}
 use Rattle.provider_steps.specs.Moves.{AreInRange, Out, StepBy, counters_of}
 use Rattle.provider_steps.specs.Orders as orders
@@ -210,7 +210,7 @@ one_moment : (s : State) (at : ℕ) (xs ys : List Act) → TickLine s at xs → 
 one_moment s at xs ys h g =
     let due : h.due ≡ g.due = one_listing (λ (a b : ℕ). a < b) not_below_both h.due g.due h.are_due.in_order g.are_due.in_order
     (λ z i. (g.are_due.exact z).1 ((h.are_due.exact z).0 i)) (λ z i. (h.are_due.exact z).1 ((g.are_due.exact z).0 i)) in
-    ap tally (h.acts_are ∙ ap (all_resent at s.rows.outbox) due ∙ sym g.acts_are)
+    ap tally (h.acts_are ∙ ap (all_resent s.operators at s.rows.outbox) due ∙ sym g.acts_are)
 
 -- ---- refusals
 
@@ -264,3 +264,4 @@ module _ (s : State) (out : Out) where
   provider_excludes (Gives at t) fault h other step = of_token at t fault h other step
   provider_excludes (Ticks at) fault h other step = of_tick at fault h other step
   provider_excludes Restarts fault h other step = h
+  provider_excludes (Reopens p) fault h other step = h

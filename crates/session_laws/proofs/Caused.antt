@@ -42,7 +42,7 @@ use Rattle.operator_steps.specs.Charger as charger
 use Rattle.operator_steps.specs.Charger.{ChargerLine}
 use Rattle.operator_steps.specs.Credits as credits
 use Rattle.operator_steps.specs.Credits.{CreditLine, next_credit}
-use Rattle.operator_steps.specs.Events.{Event, Input, Arrives, Serves, Reports, Credits, Ticks, Restarts, Asks}
+use Rattle.operator_steps.specs.Events.{Event, Input, Arrives, Serves, Reports, Credits, Ticks, Restarts, Reopens, Asks}
 use Rattle.operator_steps.specs.Moves.{AreInRange, Quietly, Work, quiet}
 use Rattle.operator_steps.specs.Service as service
 use Rattle.operator_steps.specs.Service.{ServiceLine}
@@ -302,7 +302,7 @@ module _ (s : State) (i : Input) where
       let ends = ends_acts at s.rows.commands.pending s.rows.request h.ends in
       let expired = expired_acts h.expired in
       let count = map changed (count_change counter.Session last h.now) in
-      let resent = all_resent at s.rows.pushes h.due in
+      let resent = all_resent s.providers at s.rows.pushes h.due in
       let most : last < h.now → h.now ≤ max_whole = (λ below. in_range.numbers counter.Session h.now
       (in_right (ends ++ expired) ((count ++ h.begun) ++ resent) _ (in_left (count ++ h.begun) resent _ (in_left count h.begun _ (counted_in last h.now below))))) in
       subst IsCaused (sym is) (covers_acts _ _ (ends ++ expired) ((count ++ h.begun) ++ resent)
@@ -310,7 +310,7 @@ module _ (s : State) (i : Input) where
       (covers_acts _ _ (count ++ h.begun) resent
       (covers_acts _ _ count h.begun (covers_count _ _ last h.now)
       (late_caused acts at ticks h.late (λ k j. (h.are_late.exact k).0 j) h.now most (s.rows.request + length h.ends) last h.late h.begun h.now h.unanswered (omega arith) (omega arith) (λ k j. j)))
-      (subst (λ l. AreCaused acts l) (sym (resent_changes at s.rows.pushes h.due)) (covers_none _ _))))
+      (subst (λ l. AreCaused acts l) (sym (resent_changes s.providers at s.rows.pushes h.due)) (covers_none _ _))))
 
 -- where what holds at all times holds, each version and each record that an input asks for has a cause
 asked_caused : (s : State) (i : Input) (work : Work) → IsConsistent s → Asks s i work → AreInRange s work.acts → IsCaused s i work.acts
@@ -320,6 +320,7 @@ asked_caused s (Reports at report) work fine line range = report_caused s (Repor
 asked_caused s (Credits at session) work fine line range = credit_caused s (Credits at session) at session refl work line
 asked_caused s (Ticks at) work fine line range = tick_caused s (Ticks at) at refl work ((stages_see s at work fine).0 line) range
 asked_caused s Restarts work fine line range = absurd line
+asked_caused s (Reopens other) work fine line range = absurd line
 
 -- an event puts versions and records for a cause
 module _ (s t : State) (e : Event) (fine : IsConsistent s) (d : Does s e t) where

@@ -1,6 +1,6 @@
 -- The currency of sessions and charge detail records: a session begins in that of its site and keeps it, and a record
 -- has its session's, or its bill's.
-use Rattle.std.proofs.Common.{◌≡◌, ℕ, ℤ, List, inl, inr, sym, ap, ◌∙◌}
+use Rattle.std.proofs.Common.{◌≡◌, ℕ, ℤ, List, [], ◌∷◌, inl, inr, refl, sym, ap, subst, ◌∙◌}
 use Rattle.std.specs.Prelude.{Contains}
 use Rattle.std.specs.FinMap.{get-empty}
 use Rattle.std.proofs.lemmas.Bool.{cases_Bool}
@@ -18,11 +18,14 @@ use Rattle.ocpi_types.specs.declared.sessions.Session.{Session}
 use Rattle.ocpi_types.specs.declared.site.Site.{Site}
 use Rattle.ocpi_types.specs.declared.site.SiteLine.{SiteLine}
 use Rattle.session_tables.specs.Moves.{Ends, Makes}
-use Rattle.node_laws.proofs.Runs.{kept_runs}
+use Rattle.std.proofs.lemmas.List.Elements.{Contains-append_left, Contains-append_right}
+use Rattle.tables.proofs.Elements.{in_front}
+use Rattle.operator_laws.specs.Laws.{Run, setup_of, setups_in}
+use Rattle.operator_laws.proofs.events.Doing.{IsUnder, Same, Other}
 use Rattle.operator_rows.specs.State.{State, opening}
 use Rattle.operator_rows.specs.Sound.{IsConsistent}
 use Rattle.operator_rows.proofs.KeepingTimes.{opening_consistent}
-use Rattle.operator_steps.specs.Events.{Event, Happens}
+use Rattle.operator_steps.specs.Events.{Event}
 use Rattle.session_laws.specs.Bills.{AreInCurrency, CurrenciesAreOfSite}
 use Rattle.session_laws.proofs.Billing.{puts_records, record_from, session_from}
 use Rattle.session_laws.proofs.Caused.{session_cause}
@@ -47,10 +50,7 @@ makes_keep price at (event.Refuses p n) v w none = absurd none
 makes_keep price at (event.Unlocked p n) v w none = absurd none
 makes_keep price at (event.Swipe e k u t) v w none = absurd none
 
-module _ (s t : State) (e : Event) (fine : IsConsistent s) (d : Does s e t) (h : AreInCurrency s) where
-  site_is : s.site.currency ≡ t.site.currency
-  site_is = ap (λ (z : Site). z.currency) (sym d.site)
-
+module _ (s t : State) (e : Event) (fine : IsConsistent s) (d : Does s e t) (h : AreInCurrency s) (site_is : s.site.currency ≡ t.site.currency) where
   -- a version that the event puts
   put_in : (v : Session) → SessionCause s e.input d.acts v → v.currency ≡ t.site.currency
   put_in v (Begun at n b how above within is only) = ap currency_of is ∙ site_is
@@ -82,7 +82,17 @@ none_in line = record {
   cdrs = λ id x has. none_some x (sym (get-empty text_cmp id) ∙ has);
 }
 
+-- the currency that an event leaves
+currency_under : (c : List ℕ) (s u : State) (e : Event) → s.site.currency ≡ c → ((line : SiteLine) → Contains (setup_of e.input) line → line.site.currency ≡ c) → IsUnder s e.input u → u.site.currency ≡ c
+currency_under c s u e is others (Same site same) = ap (λ (z : Site). z.currency) site ∙ is
+currency_under c s u e is others (Other line now site same) = ap (λ (z : Site). z.currency) site ∙ others line (subst (λ i. Contains (setup_of i) line) (sym now) (in_front line []))
+
+in_currency : (c : List ℕ) (es : List Event) (s t : State) → s.site.currency ≡ c → ((line : SiteLine) → Contains (setups_in es) line → line.site.currency ≡ c) → IsConsistent s → AreInCurrency s → Run s es t → AreInCurrency t
+in_currency c [] s t is others fine h run = subst AreInCurrency (sym run) h
+in_currency c (e ∷ es) s t is others fine h (u, first, rest) =
+    let d = does s u e fine first in
+    let now = currency_under c s u e is (λ line i. others line (Contains-append_left (setup_of e.input) (setups_in es) line i)) d.under in
+    in_currency c es u t now (λ line i. others line (Contains-append_right (setup_of e.input) (setups_in es) line i)) d.consistent (stays_in s u e fine d h (is ∙ sym now)) rest
+
 pub currencies_are_of_site : CurrenciesAreOfSite
-currencies_are_of_site line es t own run =
-    (kept_runs Happens (λ z. IsConsistent z × AreInCurrency z) (λ a b e h before. let d = does a b e before.0 h in (d.consistent, stays_in a b e before.0 d before.1)) (opening line) t es run
-    (opening_consistent line own, none_in line)).1
+currencies_are_of_site line es t own run one = in_currency line.site.currency es (opening line) t refl one (opening_consistent line own) (none_in line) run

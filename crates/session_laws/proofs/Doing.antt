@@ -19,10 +19,11 @@ use Rattle.operator_rows.specs.State.{State}
 use Rattle.operator_rows.specs.Stored.{AreApart, change_key}
 use Rattle.operator_rows.specs.Rows.{AreChanges}
 use Rattle.operator_rows.specs.Sound.{IsConsistent, MayChangeAll}
-use Rattle.operator_rows.specs.Steps.{IsNext, MayFollowFull, after_full, restarted}
-use Rattle.operator_rows.proofs.KeepingTimes.{follow_full_consistent, restarted_consistent}
+use Rattle.operator_rows.specs.Steps.{IsNext, MayFollowFull, after_full, reopened, restarted}
+use Rattle.operator_rows.proofs.KeepingTimes.{follow_full_consistent, reopened_consistent, restarted_consistent}
 use Rattle.operator_rows.proofs.RowChanges.{row_changes}
-use Rattle.operator_steps.specs.Events.{Event, Happens, Done, Restarted, Refused, Input, Arrives, Serves, Reports, Credits, Ticks, Restarts, Asks, event_out}
+use Rattle.operator_steps.specs.Events.{Event, Happens, Done, Restarted, Reopened, Refused, Input, Arrives, Serves, Reports, Credits, Ticks, Restarts, Reopens, Asks, event_out}
+use Rattle.operator_laws.proofs.events.Doing.{IsUnder, Same, Other}
 use Rattle.operator_steps.specs.Moves.{AreInRange, Out, StepBy, Work, counters_of, idle, step_of_acts, step_of_work}
 use Rattle.operator_steps.proofs.PacketSteps.{packets}
 use Rattle.operator_steps.proofs.ServiceSteps.{services}
@@ -54,7 +55,7 @@ pub record Does (s : State) (e : Event) (t : State) : Type 0 where
   pub sessions : (v : Session) → Contains e.changes (Put (row.Session v)) → IsNext s v
   pub cdrs : (x : Cdr) → Contains e.changes (Put (row.Cdr x)) → get s.rows.charged.cdrs (key x.id) ≡ None
   pub consistent : IsConsistent t
-  pub site : t.site ≡ s.site
+  pub under : IsUnder s e.input t
   pub party : t.party ≡ s.party
 
 asked_may : (s : State) (i : Input) (work : Work) → IsConsistent s → Asks s i work → AreInRange s work.acts → MayFollowFull s (step_of_work s work)
@@ -64,6 +65,7 @@ asked_may s (Reports at report) work fine line range = reports at report s work 
 asked_may s (Credits at session) work fine line range = credits at session s work fine line range
 asked_may s (Ticks at) work fine line range = ticks at s work fine line range
 asked_may s Restarts work fine line range = absurd line
+asked_may s (Reopens other) work fine line range = absurd line
 
 does_step : (s : State) (e : Event) (t : State) → IsConsistent s → StepBy (Asks s e.input) s (event_out e t) → Does s e t
 does_step s e t fine by =
@@ -88,12 +90,12 @@ does_step s e t fine by =
       sessions = λ v i. may.step.sessions v (subst (λ l. Contains l (Put (row.Session v))) is i);
       cdrs = λ y i. may.step.cdrs y (subst (λ l. Contains l (Put (row.Cdr y))) is i);
       consistent = subst IsConsistent (sym now) (follow_full_consistent s (step_of_work s by.work) may fine);
-      site = ap (λ (z : State). z.site) now;
+      under = Same (ap (λ (z : State). z.site) now) (ap (λ (z : State). z.providers) now);
       party = ap (λ (z : State). z.party) now;
     }
 
-does_nothing : (s : State) (e : Event) (t u : State) → IsConsistent s → IsConsistent u → u.rows ≡ s.rows → u.site ≡ s.site → u.party ≡ s.party → event_out e t ≡ idle u → Does s e t
-does_nothing s e t u fine still same site party out =
+does_nothing : (s : State) (e : Event) (t u : State) → IsConsistent s → IsConsistent u → u.rows ≡ s.rows → u.party ≡ s.party → event_out e t ≡ idle u → IsUnder s e.input t → Does s e t
+does_nothing s e t u fine still same party out under =
     let is : e.changes ≡ [] = ap (λ (o : Out). o.changes) out in
     let now : t ≡ u = ap (λ (o : Out). o.state) out in
     let rows : t.rows ≡ s.rows = ap (λ (z : State). z.rows) now ∙ same in
@@ -109,11 +111,13 @@ does_nothing s e t u fine still same site party out =
       sessions = λ v i. absurd (in_none (Put (row.Session v)) (subst (λ l. Contains l (Put (row.Session v))) is i));
       cdrs = λ x i. absurd (in_none (Put (row.Cdr x)) (subst (λ l. Contains l (Put (row.Cdr x))) is i));
       consistent = subst IsConsistent (sym now) still;
-      site = ap (λ (z : State). z.site) now ∙ site;
+      under = under;
       party = ap (λ (z : State). z.party) now ∙ party;
     }
 
 pub does : (s t : State) (e : Event) → IsConsistent s → Happens s e t → Does s e t
 does s t e fine (Done by) = does_step s e t fine by
-does s t e fine (Restarted now is) = does_nothing s e t (restarted s) fine (restarted_consistent s fine) refl refl refl is
-does s t e fine (Refused is) = does_nothing s e t s fine fine refl refl refl is
+does s t e fine (Restarted now is) = does_nothing s e t (restarted s) fine (restarted_consistent s fine) refl refl is (Same (ap (λ (o : Out). o.state.site) is) (ap (λ (o : Out). o.state.providers) is))
+does s t e fine (Reopened line now may is) =
+    does_nothing s e t (reopened line s) fine (reopened_consistent line s may.sound fine) refl refl is (Other line now (ap (λ (o : Out). o.state.site) is) (ap (λ (o : Out). o.state.providers) is))
+does s t e fine (Refused same_setup is) = does_nothing s e t s fine fine refl refl is (Same (ap (λ (o : Out). o.state.site) is) (ap (λ (o : Out). o.state.providers) is))

@@ -1,5 +1,5 @@
 -- The charge detail records of an operator (OCPI 2.2.1, CDRs: CDR object).
-use Rattle.std.specs.Prelude.{◌≡◌, ◌<◌, ◌+◌, ℕ, List, Some, None}
+use Rattle.std.specs.Prelude.{◌≡◌, ◌<◌, ◌+◌, ℕ, List, Some, None, Contains}
 use Rattle.std.specs.FinMap.{get}
 use Rattle.ocpi_text.specs.OwnIds.{own_id_text}
 use Rattle.ocpi_text.specs.Text.{key}
@@ -18,7 +18,7 @@ use Rattle.session_tables.specs.Places.{IsConnectorAt, cdr_location_of}
 use Rattle.operator_rows.specs.State.{State, opening}
 use Rattle.operator_rows.specs.Sound.{IsConsistent}
 use Rattle.operator_steps.specs.Events.{Credits, Event, Happens}
-use Rattle.operator_laws.specs.Laws.{IsOfParty, Run}
+use Rattle.operator_laws.specs.Laws.{IsOfParty, Run, setups_in}
 use Rattle.operator_laws.specs.Sessions.{Puts}
 use Rattle.session_laws.specs.Pasts.{stored}
 
@@ -88,5 +88,7 @@ pub record AreInCurrency (t : State) : Type 0 where
   pub sessions : (id : List ℕ) (v : Session) → stored t id ≡ Some v → v.currency ≡ t.site.currency
   pub cdrs : (id : List ℕ) (x : Cdr) → get t.rows.charged.cdrs id ≡ Some x → x.currency ≡ t.site.currency
 
+-- where each setup has the currency of the first
 abbrev pub CurrenciesAreOfSite : Type 0
-CurrenciesAreOfSite = (line : SiteLine) (es : List Event) (t : State) → IsOfParty line → Run (opening line) es t → AreInCurrency t
+CurrenciesAreOfSite = (line : SiteLine) (es : List Event) (t : State) → IsOfParty line → Run (opening line) es t →
+    ((other : SiteLine) → Contains (setups_in es) other → other.site.currency ≡ line.site.currency) → AreInCurrency t

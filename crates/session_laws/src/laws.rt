@@ -13,9 +13,10 @@ ghost use Rattle.session_laws.specs.Sent.{SentVersionsArePast};
 ghost use Rattle.session_laws.specs.Pasts.{FinalVersionsAreLast, PastsAreOrderly, PastsGoOn};
 
 /// The past of each session is orderly: it begins PENDING, its statuses follow one another, each version is later than
-/// the one before it, its energy never falls, its cost is that of its energy at the site's price at its start, and what
-/// it is of stays. What is stored of a session is its last version. A first version that is ACTIVE, two versions of one
-/// moment, or a reading below the last would break this.
+/// the one before it, its energy never falls, its cost is that of its energy at a price that the site had for its start,
+/// under one of its setups, and what it is of stays. Any two that follow one another have their costs at one such price.
+/// What is stored of a session is its last version. A first version that is ACTIVE, two versions of one moment, or a
+/// reading below the last would break this.
 pub fn pasts_are_orderly()
     ensures { PastsAreOrderly }
 {}
@@ -50,8 +51,8 @@ pub fn sessions_are_billed_once()
     ensures { SessionsAreBilledOnce }
 {}
 
-/// From the opening on, each session and each charge detail record is in the currency of the site. A bill in a
-/// currency of its token's provider would break this.
+/// From the opening on, each session and each charge detail record is in the currency of the site, where all setups
+/// have one. A bill in a currency of its token's provider would break this.
 pub fn currencies_are_of_site()
     ensures { CurrenciesAreOfSite }
 {}

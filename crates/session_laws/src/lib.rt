@@ -14,8 +14,9 @@
 //!
 //! - The versions that events put of a session are orderly. The first is PENDING, statuses follow one another, each is
 //!   later than the one before, and energy never falls. By `pasts_are_orderly`.
-//! - Cost is that of the energy at the site's price at the start, what a session is of stays, and what is stored is the last
-//!   version. By `pasts_are_orderly`.
+//! - Cost is that of the energy at a price that the site had for the start, under one of its setups. Any two versions
+//!   that follow one another have their costs at one such price. By `pasts_are_orderly`.
+//! - What a session is of stays, and what is stored is the last version. By `pasts_are_orderly`.
 //! - The same from any state to a later one. By `pasts_go_on`.
 //! - Nothing follows a COMPLETED or INVALID version. By `final_versions_are_last`.
 //! - An event puts a bill exactly where it puts a COMPLETED version, and it is the record of that version. A credit
@@ -26,7 +27,8 @@
 //!   `sessions_are_billed_once`, `records_stay`.
 //! - Each version of a session that was sent, or is to be sent again, is of the session's past. By
 //!   `sent_versions_are_past`.
-//! - Each session and each record is in the currency of the site. By `currencies_are_of_site`.
+//! - Each session and each record is in the currency of the site, where all setups have one. By
+//!   `currencies_are_of_site`.
 //! - Each session begins PENDING by one of four ways. These are an open start that a charge point carried out, and a
 //!   valid token that needs no question. By `sessions_begin_as_asked`, `sessions_began`.
 //! - The others are an answer of its provider that allows it by a reference that was not used before, and the deadline

@@ -18,7 +18,7 @@ use Rattle.provider_rows.specs.Stored as provider_stored
 use Rattle.provider_rows.proofs.KeepingTimes as provider_times
 use Rattle.provider_steps.specs.Events as provider_events
 use Rattle.provider_steps.specs.Moves as provider_moves
-use Rattle.stored_laws.specs.Nodes.{CanStartAgain, IsOfOpening, NodesKeepOpenings, RestartsCanStartAgain, restarted}
+use Rattle.stored_laws.specs.Nodes.{CanStartAgain, IsOfOpening, NodesKeepOpenings, ReopeningsCanStartAgain, RestartsCanStartAgain, restarted}
 use Rattle.world_steps.specs.Steps as steps
 use Rattle.world_steps.specs.Steps.{AtOperator, AtProvider, NodeEvent, NodeStep, OperatorDoes, ProviderDoes}
 use Rattle.world_steps.specs.World.{NodeState, Operates, Provides, opening_of}
@@ -56,6 +56,19 @@ restarts_can_start_again (Operates s) h = record {
 restarts_can_start_again (Provides s) h = record {
   sound = (provider_times.restarted_consistent s h.sound.0, h.sound.1);
   whole = record { references = h.whole.references; tokens = h.whole.tokens; sessions = h.whole.sessions; cdrs = h.whole.cdrs; once = h.whole.once };
+}
+
+-- what it stored is the same under another setup
+pub reopenings_can_start_again : ReopeningsCanStartAgain
+reopenings_can_start_again = record {
+  operators = λ s line h may. record {
+    sound = operator_times.reopened_consistent line s may.sound h.sound;
+    whole = record { sessions = h.whole.sessions; resumable = may.resumable; cdrs = h.whole.cdrs; billed = h.whole.billed };
+  };
+  providers = λ s p h may. record {
+    sound = (provider_times.reopened_consistent p s may, h.sound.1);
+    whole = record { references = h.whole.references; tokens = h.whole.tokens; sessions = h.whole.sessions; cdrs = h.whole.cdrs; once = h.whole.once };
+  };
 }
 
 -- ---- openings

@@ -31,10 +31,11 @@ use Rattle.stored_rows.specs.Records.{IsCreditOfBill, IsRecordId, record_id_text
 use Rattle.stored_rows.proofs.RecordNumbers.{bill_made}
 use Rattle.operator_rows.specs.State.{State, opening}
 use Rattle.operator_rows.specs.Sound.{IsConsistent}
-use Rattle.operator_rows.specs.Steps.{IsNextOf}
+use Rattle.operator_rows.specs.Steps.{IsNextOf, MayReopen, reopened}
 use Rattle.operator_rows.proofs.KeepingTimes.{opening_consistent}
 use Rattle.operator_steps.specs.Events as events
 use Rattle.operator_steps.specs.Events.{Event, Happens}
+use Rattle.operator_steps.specs.Moves.{Out}
 use Rattle.operator_stored.specs.Whole.{AreBilled, IsWhole}
 use Rattle.operator_stored.proofs.BadRows.{bill_or_credit}
 use Rattle.session_laws.specs.Bills.{IsFirstCredit}
@@ -42,6 +43,8 @@ use Rattle.session_laws.proofs.Billing.{puts_records, record_from, records_stay,
 use Rattle.session_laws.proofs.Caused.{cdr_cause, session_cause}
 use Rattle.session_laws.proofs.Causes.{Begun, Billed, CdrCause, Credited, Moved, SessionCause}
 use Rattle.session_laws.proofs.Doing.{does}
+use Rattle.operator_laws.specs.Laws.{setup_of}
+use Rattle.world_laws.proofs.Steady.{asks_none, does_none, event_keeps}
 use Rattle.session_laws.proofs.Versions.{stands, stays}
 use Rattle.stored_laws.specs.Nodes.{CanStartAgain}
 use Rattle.world_laws.specs.Laws.{IsSetup}
@@ -91,7 +94,8 @@ made_of price at (event.Refuses provider number) v w made = absurd made
 made_of price at (event.Unlocked provider number) v w made = absurd made
 made_of price at (event.Swipe evse connector uid type) v w made = absurd made
 
-module _ (s t : State) (e : Event) (fine : IsConsistent s) (whole : IsWhole s) (happens : Happens s e t) where
+-- an event that is no start under another setup
+module _ (s t : State) (e : Event) (steady : setup_of e.input ≡ []) (fine : IsConsistent s) (whole : IsWhole s) (happens : Happens s e t) where
   -- the ids of what the event puts are the operator's own
   own_session : (v : Session) → SessionCause s e.input (does s t e fine happens).acts v → (n : ℕ) × IsOwnId own.Session s.party v.id n
   own_session v (Begun at n b how above within is reference) = (n, record { is_number = within; made = ap (λ (z : Session). z.id) is })
@@ -136,7 +140,7 @@ module _ (s t : State) (e : Event) (fine : IsConsistent s) (whole : IsWhole s) (
   resumable_stay : (id : List ℕ) (v : Session) → get t.rows.charged.sessions id ≡ Some v → ¬ CannotResume (price_at t.site v.start_date_time) v
   resumable_stay id v has =
       let d = does s t e fine happens in
-      subst (λ (z : Site). ¬ CannotResume (price_at z v.start_date_time) v) (sym d.site) (elim (session_from s t e fine d id v has) [
+      subst (λ (z : Site). ¬ CannotResume (price_at z v.start_date_time) v) (sym (event_keeps s t e steady d.under).0) (elim (session_from s t e fine d id v has) [
         | inl old ↦ whole.resumable id v old
         | inr i ↦ next_resumes (price_at s.site) (get s.rows.charged.sessions (key v.id)) v (d.sessions v i)
       ])
@@ -262,8 +266,20 @@ module _ (s t : State) (e : Event) (fine : IsConsistent s) (whole : IsWhole s) (
 
 -- so it is after all that an operator of a world does
 pub operators_stay : (s t : State) (e : Event) → IsConsistent s → IsWhole s → OperatorDoes s e t → IsConsistent t × IsWhole t
-operators_stay s t e fine whole (steps.Done by) = happens_stays s t e fine whole (events.Done by)
-operators_stay s t e fine whole (steps.Restarted restarts is) = happens_stays s t e fine whole (events.Restarted restarts is)
+operators_stay s t e fine whole (steps.Done by) = happens_stays s t e (does_none s e t (steps.Done by)) fine whole (events.Done by)
+operators_stay s t e fine whole (steps.Restarted restarts is) = happens_stays s t e (does_none s e t (steps.Restarted restarts is)) fine whole (events.Restarted restarts is)
+
+-- and where it starts again under another setup
+pub reopened_is_whole : (s : State) (line : SiteLine) → MayReopen s line → IsWhole s → IsWhole (reopened line s)
+reopened_is_whole s line may whole = record { sessions = whole.sessions; resumable = may.resumable; cdrs = whole.cdrs; billed = whole.billed }
+
+-- so it is after whatever happens to an operator
+pub all_stay : (s t : State) (e : Event) → IsConsistent s → IsWhole s → Happens s e t → IsConsistent t × IsWhole t
+all_stay s t e fine whole (events.Done by) = happens_stays s t e (asks_none s e.input by.work by.line) fine whole (events.Done by)
+all_stay s t e fine whole (events.Restarted now is) = happens_stays s t e (ap setup_of now) fine whole (events.Restarted now is)
+all_stay s t e fine whole (events.Reopened line now may is) =
+    ((does s t e fine (events.Reopened line now may is)).consistent, subst (λ (o : Out). IsWhole o.state) (sym is) (reopened_is_whole s line may whole))
+all_stay s t e fine whole (events.Refused same_setup is) = (subst (λ (o : Out). IsConsistent o.state) (sym is) fine, subst (λ (o : Out). IsWhole o.state) (sym is) whole)
 
 -- and at the opening
 pub opening_is_whole : (line : SiteLine) → party_at line.parties.operator ≡ Ok line.parties.operator → IsConsistent (opening line) × IsWhole (opening line)

@@ -39,11 +39,11 @@ use Rattle.provider_rows.specs.Sound.{IsConsistent}
 use Rattle.provider_rows.specs.State.{ArePeers, Peering, Rows, State, opening}
 use Rattle.provider_rows.specs.Steps.{MayFollow, after}
 use Rattle.provider_rows.specs.Stored.{changed, changed_all}
-use Rattle.provider_rows.proofs.KeepingTimes.{follow_consistent, opening_consistent, restarted_consistent}
+use Rattle.provider_rows.proofs.KeepingTimes.{follow_consistent, opening_consistent, reopened_consistent, restarted_consistent}
 use Rattle.provider_rows.proofs.RowChanges.{row_changes}
 use Rattle.provider_steps.specs.declared.pushing.Pushing.{Pushing}
 use Rattle.provider_steps.specs.Acts.{replaced, token_acts}
-use Rattle.provider_steps.specs.Events.{Arrives, Asks, Done, Event, Gives, Happens, Input, Refused, Restarted, Restarts, Submits, Ticks}
+use Rattle.provider_steps.specs.Events.{Arrives, Asks, Done, Event, Gives, Happens, Input, Refused, Reopened, Reopens, Restarted, Restarts, Submits, Ticks}
 use Rattle.provider_steps.specs.Moves.{AreInRange, Out, counters_of, step_of_acts}
 use Rattle.provider_steps.specs.Orders.{Makes, next_reference, next_request}
 use Rattle.provider_steps.specs.Orders as orders
@@ -181,16 +181,16 @@ module _ (party : List ℕ) where
       let rest : List Act = in_turn (token_acts at v) (last + all_requests first) ps in
       acts_append first rest (pushed_own at (last + 1) p.to (push.PutToken v) p.replaced) (tokens_own at v (last + all_requests first) ps)
 
-  again_own : (at n : ℕ) (o : Option Outgoing) (c : Option SentCommand) → OwnActs (resent_acts at n o c)
-  again_own at n (Some o) c = tt
-  again_own at n None (Some c) = tt
-  again_own at n None None = tt
+  again_own : (operators : List (List ℕ)) (at n : ℕ) (o : Option Outgoing) (c : Option SentCommand) → OwnActs (resent_acts operators at n o c)
+  again_own operators at n (Some o) c = tt
+  again_own operators at n None (Some c) = tt
+  again_own operators at n None None = tt
 
-  resent_own : (at : ℕ) (from : OutboxRows) (numbers : List ℕ) → OwnActs (all_resent at from numbers)
-  resent_own at from [] = tt
-  resent_own at from (n ∷ ns) =
-      let first : List Act = resent_acts at n (get from.pushes n) (get from.commands n) in
-      acts_append first (all_resent at from ns) (again_own at n (get from.pushes n) (get from.commands n)) (resent_own at from ns)
+  resent_own : (operators : List (List ℕ)) (at : ℕ) (from : OutboxRows) (numbers : List ℕ) → OwnActs (all_resent operators at from numbers)
+  resent_own operators at from [] = tt
+  resent_own operators at from (n ∷ ns) =
+      let first : List Act = resent_acts operators at n (get from.pushes n) (get from.commands n) in
+      acts_append first (all_resent operators at from ns) (again_own operators at n (get from.pushes n) (get from.commands n)) (resent_own operators at from ns)
 
   order_own : (s : State) (at : ℕ) (to : List ℕ) (o : Order) (c : Command) (b : List Act) → Makes s o c b → OwnActs (b ++ (commanded at (next_request s) to c ∷ []))
   order_own s at to o c b (orders.Start uid type location evse connector t has) = (tt, (tt, tt))
@@ -228,8 +228,9 @@ asked_own s (Submits at operator o) acts line = subst (OwnActs s.party) (sym lin
 asked_own s (Gives at t) acts line =
     subst (OwnActs s.party) (sym line.acts_are)
     (ap (λ (v : Token). key v.party) line.version_is ∙ line.own, tokens_own s.party at line.version s.rows.outbox.last line.pushes)
-asked_own s (Ticks at) acts line = subst (OwnActs s.party) (sym line.acts_are) (resent_own s.party at s.rows.outbox line.due)
+asked_own s (Ticks at) acts line = subst (OwnActs s.party) (sym line.acts_are) (resent_own s.party s.operators at s.rows.outbox line.due)
 asked_own s Restarts acts line = absurd line
+asked_own s (Reopens p) acts line = absurd line
 
 step_own : (s : State) (acts : List Act) → OwnActs s.party acts → AreOwnPuts s.party (step_of_acts s acts).changes
 step_own s acts h =
@@ -244,18 +245,21 @@ asked_may s (Submits at operator order) acts fine line range = order_steps.order
 asked_may s (Gives at t) acts fine line range = token_steps.tokens at t s acts fine line range
 asked_may s (Ticks at) acts fine line range = tick_steps.ticks at s acts fine line range
 asked_may s Restarts acts fine line range = absurd line
+asked_may s (Reopens p) acts fine line range = absurd line
 
 consistent_stays : (s t : State) (e : Event) → IsConsistent s → Happens s e t → IsConsistent t
 consistent_stays s t e fine (Done by) =
     subst (λ (o : Out). IsConsistent o.state) (sym by.out_is) (follow_consistent s (step_of_acts s by.acts) (asked_may s e.input by.acts fine by.line by.in_range) fine)
 consistent_stays s t e fine (Restarted now is) = subst (λ (o : Out). IsConsistent o.state) (sym is) (restarted_consistent s fine)
-consistent_stays s t e fine (Refused is) = subst (λ (o : Out). IsConsistent o.state) (sym is) fine
+consistent_stays s t e fine (Reopened p now may is) = subst (λ (o : Out). IsConsistent o.state) (sym is) (reopened_consistent p s may)
+consistent_stays s t e fine (Refused same_setup is) = subst (λ (o : Out). IsConsistent o.state) (sym is) fine
 
 keyed_stays : (s t : State) (e : Event) → AreKeyed s.rows → Happens s e t → AreKeyed t.rows
 keyed_stays s t e keyed (Done by) =
     subst (λ (o : Out). AreKeyed o.state.rows) (sym by.out_is) (keyed_changes (step_of_acts s by.acts).changes s.rows keyed)
 keyed_stays s t e keyed (Restarted now is) = subst (λ (o : Out). AreKeyed o.state.rows) (sym is) keyed
-keyed_stays s t e keyed (Refused is) = subst (λ (o : Out). AreKeyed o.state.rows) (sym is) keyed
+keyed_stays s t e keyed (Reopened p now may is) = subst (λ (o : Out). AreKeyed o.state.rows) (sym is) keyed
+keyed_stays s t e keyed (Refused same_setup is) = subst (λ (o : Out). AreKeyed o.state.rows) (sym is) keyed
 
 abbrev OwnTokens : State → Type 0
 OwnTokens s = (u : Token) → HasRow s.rows (row.Token u) → key u.party ≡ key s.party
@@ -272,7 +276,8 @@ tokens_after s i acts fine own line range u has =
 tokens_stay : (s t : State) (e : Event) → IsConsistent s → OwnTokens s → Happens s e t → OwnTokens t
 tokens_stay s t e fine own (Done by) = subst (λ (o : Out). OwnTokens o.state) (sym by.out_is) (tokens_after s e.input by.acts fine own by.line by.in_range)
 tokens_stay s t e fine own (Restarted now is) = subst (λ (o : Out). OwnTokens o.state) (sym is) own
-tokens_stay s t e fine own (Refused is) = subst (λ (o : Out). OwnTokens o.state) (sym is) own
+tokens_stay s t e fine own (Reopened p now may is) = subst (λ (o : Out). OwnTokens o.state) (sym is) own
+tokens_stay s t e fine own (Refused same_setup is) = subst (λ (o : Out). OwnTokens o.state) (sym is) own
 
 module _ (s t : State) (e : Event) (keyed : AreKeyed s.rows) (w : IsWhole s) (happens : Happens s e t) where
   party_is : t.party ≡ s.party

@@ -6,6 +6,7 @@ use Rattle.ocpi_types.specs.declared.cdrs.Cdr.{Cdr}
 use Rattle.ocpi_types.specs.declared.rows.Row.{Row}
 use Rattle.ocpi_types.specs.declared.sessions.Session.{Session}
 use Rattle.ocpi_types.specs.declared.setup.Node.{Node}
+use Rattle.ocpi_types.specs.declared.site.SiteLine.{SiteLine}
 use Rattle.ocpi_types.specs.declared.words.SessionStatus.TheVariants.{Completed}
 use Rattle.session_book.specs.Records.{HasCredit}
 use Rattle.operator_rows.specs.Rows as operator_rows
@@ -17,6 +18,7 @@ use Rattle.operator_stored.specs.Whole as operator_whole
 use Rattle.provider_rows.specs.Rows as provider_rows
 use Rattle.provider_rows.specs.Rows.{AreKeyed}
 use Rattle.provider_rows.specs.Sound as provider_sound
+use Rattle.provider_rows.specs.State as provider
 use Rattle.provider_rows.specs.Steps as provider_steps
 use Rattle.provider_stored.specs.Whole as provider_whole
 use Rattle.world_laws.specs.Laws.{IsSetup}
@@ -71,6 +73,11 @@ NodesCanStartAgain = (n m : NodeState) (x : NodeEvent) → CanStartAgain n → N
 -- a node that can start again still can once it has
 abbrev pub RestartsCanStartAgain : Type 0
 RestartsCanStartAgain = (n : NodeState) → CanStartAgain n → CanStartAgain (restarted n)
+
+-- and so can one that starts again under another setup, where it may
+pub record ReopeningsCanStartAgain : Type 0 where
+  pub operators : (s : operator.State) (line : SiteLine) → CanStartAgain (Operates s) → operator_steps.MayReopen s line → CanStartAgain (Operates (operator_steps.reopened line s))
+  pub providers : (s : provider.State) (p : provider.Peering) → CanStartAgain (Provides s) → provider_steps.MayReopen s p → CanStartAgain (Provides (provider_steps.reopened p s))
 
 -- a node is of its opening from there on
 pub record NodesKeepOpenings : Type 0 where

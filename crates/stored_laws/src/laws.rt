@@ -6,6 +6,7 @@ ghost use Rattle.stored_laws.specs.Nodes.{
   NodesCanStartAgain,
   NodesKeepOpenings,
   OpeningsCanStartAgain,
+  ReopeningsCanStartAgain,
   RestartsCanStartAgain,
 };
 
@@ -36,6 +37,11 @@ pub fn nodes_can_start_again()
 /// A node that can start again still can once it has.
 pub fn restarts_can_start_again()
     ensures { RestartsCanStartAgain }
+{}
+
+/// And so can one that starts again under another setup, under which no row that it stored is bad.
+pub fn reopenings_can_start_again()
+    ensures { ReopeningsCanStartAgain }
 {}
 
 /// A node is of its opening from there on.

@@ -1,6 +1,6 @@
 -- Events whose changes are committed together: what holds of the node meanwhile and once they are, and what a refused
 -- commit leaves.
-use Rattle.std.proofs.Common.{◌≡◌, ◌∙◌, ◌++◌, ℕ, List, [], ◌∷◌, Option, inl, inr, refl, sym, ap, subst, append-nil}
+use Rattle.std.proofs.Common.{◌≡◌, ◌∙◌, ◌++◌, ℕ, List, [], ◌∷◌, Option, Some, None, inl, inr, refl, sym, ap, subst, append-nil}
 use Rattle.std.specs.List.{AllByRecursion}
 use Rattle.std.specs.Prelude.{All}
 use Rattle.std.proofs.lemmas.List.Concat.{flat_map-append}
@@ -8,16 +8,17 @@ use Rattle.std.proofs.lemmas.List.Elements.{All-from_recursion, recursion_from_A
 use Rattle.ocpi_types.specs.declared.rows.Change.{Change}
 use Rattle.node_laws.specs.Runs.{Run}
 use Rattle.node_laws.proofs.Runs.{kept_runs, run_join}
-use Rattle.node_store.specs.Contents.{Content, IsReadAgain, changed, changed_all}
+use Rattle.node_store.specs.Contents.{Content, IsReadAgain, changed, changed_all, line_of, marked, number_kept}
+use Rattle.node_store.proofs.Numbered.{line_marked, line_stays}
 use Rattle.node_rows.specs.Holds.{HoldsRows, StoresAlike}
 use Rattle.node_rows.specs.Laws.{AreClasses, ChangesAreHeld, RestartsAreHeld}
 use Rattle.stored_laws.specs.Nodes.{CanStartAgain, NodesCanStartAgain}
 use Rattle.world_steps.specs.Steps.{NodeEvent, NodeStep, changes_of}
 use Rattle.world_steps.specs.World.{NodeState}
-use Rattle.stored_nodes.specs.Keepers.{Commits, Keeper, Nothing, Taken}
+use Rattle.stored_nodes.specs.Keepers.{Commits, Declines, IsLine, Keeper, Nothing, Taken}
 use Rattle.stored_nodes.specs.Stored.{IsStored, Stored}
 use Rattle.stored_nodes.specs.Transactions as transactions
-use Rattle.stored_nodes.specs.Transactions.{IsAllOrNothing, IsPending, LeavesAllOrNothing, Pending, changes_of_each}
+use Rattle.stored_nodes.specs.Transactions.{HoldsAll, IsAllOrNothing, IsPending, LeavesAllOrNothing, LeavesTheseEvents, Pending, changes_of_each, number_behind}
 use Rattle.stored_nodes.proofs.Staying.{marked_holds, taken, unasked}
 
 -- ---- lists in two parts
@@ -64,6 +65,11 @@ alike_by_events alike classes n m (x ∷ events) (u, step, rest) none =
     let parts = none_of (changes_of x) (changes_of_each events) none in
     classes.through n u m (alike.by_steps n u x step parts.0) (alike_by_events alike classes u m events rest parts.1)
 
+-- the number that is kept behind a line
+number_is : (line : Option ℕ) (c kept : Content) (changes : List Change) → IsLine line → kept ≡ c → line_of (marked line (changed_all c changes)) ≡ number_behind line kept
+number_is None c kept changes is same = ap number_kept (line_stays c changes) ∙ ap line_of (sym same)
+number_is (Some n) c kept changes is same = line_marked (changed_all c changes) n is.0 is.1
+
 module _ {K : Type 0} (keeper : Keeper K) where
   -- ---- meanwhile
 
@@ -96,6 +102,19 @@ module _ {K : Type 0} (keeper : Keeper K) where
 
     -- ---- what a refused commit leaves
 
+    -- what its changes make of what is kept
+    holds_all : (line : Option ℕ) (old : Stored K) (events : List NodeEvent) (after : NodeState) (rise : ℕ → ℕ) (k : K) → IsStored keeper old → Run NodeStep old.state events after
+        → Declines keeper line (changes_of_each events) rise old.keep k → keeper.is_honest k → (c : Content)
+        → c ≡ marked line (changed_all (keeper.content old.keep) (changes_of_each events)) → All IsReadAgain (changes_of_each events) → HoldsAll line (keeper.content k) after c
+    holds_all line old events after rise k h run d honest c made again = record {
+      rows =
+          subst (λ (b : Content). HoldsRows b after) (sym made)
+          (marked_holds line (changed_all (keeper.content old.keep) (changes_of_each events)) after
+          (held_by_events held start (keeper.content old.keep) old.state after events h.starts (h.holds (d.earlier honest)) run again));
+      starts = starts_by_events start old.state after events run h.starts;
+      number = ap line_of made ∙ number_is line (keeper.content old.keep) (keeper.content k) (changes_of_each events) d.is_line (d.same honest);
+    }
+
     pub all_or_nothing : LeavesAllOrNothing keeper
     all_or_nothing line old events after rise k h run d = record {
       starts = h.starts;
@@ -106,10 +125,13 @@ module _ {K : Type 0} (keeper : Keeper K) where
               | inl is ↦ transactions.IsAllOrNothing.Nothing (is ∙ sym (d.same honest))
               | inr more ↦ transactions.IsAllOrNothing.Earlier more
             ]
-            | inr made ↦ transactions.IsAllOrNothing.All
-                (subst (λ (b : Content). HoldsRows b after) (sym made.0)
-                (marked_holds line (changed_all (keeper.content old.keep) (changes_of_each events)) after
-                (held_by_events held start (keeper.content old.keep) old.state after events h.starts (h.holds (d.earlier honest)) run made.1)))
-                (starts_by_events start old.state after events run h.starts)
+            | inr made ↦ transactions.IsAllOrNothing.All (holds_all line old events after rise k h run d honest c made.0 made.1)
           ];
     }
+
+    pub these_events : LeavesTheseEvents keeper
+    these_events line old events after rise k h settled run d honest c may =
+        elim (d.stops honest c may) [
+          | inl before ↦ inl (settled (d.earlier honest) c before ∙ sym (d.same honest))
+          | inr made ↦ inr (holds_all line old events after rise k h run d honest c made.0 made.1)
+        ]

@@ -1,6 +1,6 @@
 -- Several events that a node does in memory, and whose changes are committed together: what holds meanwhile, what each
 -- event makes of it, and what is left where the commit is refused.
-use Rattle.std.specs.Prelude.{◌≡◌, ◌≢◌, ◌⊎◌, ◌↔◌, ◌++◌, ℕ, List, [], Bool, false, Option, IsTrue}
+use Rattle.std.specs.Prelude.{◌≡◌, ◌≢◌, ◌⊎◌, ◌↔◌, ◌++◌, ℕ, List, [], Bool, false, Option, None, Some, IsTrue}
 use Rattle.std.specs.List.{flat_map}
 use Rattle.ocpi_types.specs.declared.node_events.NodeEventKind.{NodeEventKind}
 use Rattle.ocpi_types.specs.declared.node_events.NodeEventKind.TheVariants as event
@@ -14,11 +14,11 @@ use Rattle.world_steps.specs.Steps.{NodeEvent, NodeRefuses, NodeStep, changes_of
 use Rattle.world_steps.specs.World.{NodeState}
 use Rattle.history_laws.specs.Replays.{Brings}
 use Rattle.stored_laws.specs.Nodes.{CanStartAgain}
-use Rattle.node_store.specs.Contents.{Content}
+use Rattle.node_store.specs.Contents.{Content, line_of}
 use Rattle.node_rows.specs.Holds.{HoldsRows}
 use Rattle.node_core.specs.Works.{changes_by, packets_by}
 use Rattle.node_core.specs.declared.work.NodeWork.{NodeWork}
-use Rattle.stored_nodes.specs.Keepers.{Declines, Keeper}
+use Rattle.stored_nodes.specs.Keepers.{Declines, IsSettled, Keeper}
 use Rattle.stored_nodes.specs.Stored.{HoldsOneMore, IsStored, Stored}
 use Rattle.stored_nodes.specs.declared.fault.StepFault.{StepFault}
 use Rattle.stored_nodes.specs.declared.fault.StepFault.TheVariants.{Core, Memory}
@@ -96,21 +96,40 @@ IsCarriedOutInMemory x before (Stepped packets changed) after = CarriesOutInMemo
 
 -- ---- what a refused commit leaves
 
+-- the number that is kept behind a line: its own, where one is told
+abbrev pub number_behind : Option ℕ → Content → Option ℕ
+number_behind None kept = line_of kept
+number_behind (Some number) kept = Some number
+
+-- the rows of the node after the events, with the number of their line
+pub record HoldsAll (line : Option ℕ) (kept : Content) (after : NodeState) (c : Content) : Type 0 where
+  pub rows : HoldsRows c after
+  pub starts : CanStartAgain after
+  pub number : line_of c ≡ number_behind line kept
+
 -- What a stop may leave of a keeper that did not take the changes of events: what it keeps; what one event that was
 -- refused before them would have made of that; or the rows of the node after all of them. None of them is left alone.
-pub data IsAllOrNothing (kept : Content) (before after : NodeState) (c : Content) : Type 0 where
-  Nothing : c ≡ kept → IsAllOrNothing kept before after c
-  Earlier : HoldsOneMore c before → IsAllOrNothing kept before after c
-  All : HoldsRows c after → CanStartAgain after → IsAllOrNothing kept before after c
+pub data IsAllOrNothing (line : Option ℕ) (kept : Content) (before after : NodeState) (c : Content) : Type 0 where
+  Nothing : c ≡ kept → IsAllOrNothing line kept before after c
+  Earlier : HoldsOneMore c before → IsAllOrNothing line kept before after c
+  All : HoldsAll line kept after c → IsAllOrNothing line kept before after c
 
 -- such a keeper keeps the rows of the node before the events
-pub record KeepsAllOrNothing {K : Type 0} (keeper : Keeper K) (before after : NodeState) (k : K) : Type 0 where
+pub record KeepsAllOrNothing {K : Type 0} (keeper : Keeper K) (line : Option ℕ) (before after : NodeState) (k : K) : Type 0 where
   pub starts : CanStartAgain before
   pub holds : keeper.is_honest k → HoldsRows (keeper.content k) before
-  pub stops : keeper.is_honest k → (c : Content) → keeper.may_leave k c → IsAllOrNothing (keeper.content k) before after c
+  pub stops : keeper.is_honest k → (c : Content) → keeper.may_leave k c → IsAllOrNothing line (keeper.content k) before after c
 
 -- so it is of each node whose rows were kept, and of any events, however many of them changed rows
 abbrev pub LeavesAllOrNothing : {K : Type 0} → Keeper K → Type 0
 LeavesAllOrNothing {K} keeper =
     (line : Option ℕ) (old : Stored K) (events : List NodeEvent) (after : NodeState) (rise : ℕ → ℕ) (k : K) → IsStored keeper old → Run NodeStep old.state events after →
-    Declines keeper line (changes_of_each events) rise old.keep k → KeepsAllOrNothing keeper old.state after k
+    Declines keeper line (changes_of_each events) rise old.keep k → KeepsAllOrNothing keeper line old.state after k
+
+-- Where the commit before was taken, or the keeper was just opened, no event that was refused earlier is left: just what
+-- is kept, or the rows of the node after these very events, with the number of their line.
+abbrev pub LeavesTheseEvents : {K : Type 0} → Keeper K → Type 0
+LeavesTheseEvents {K} keeper =
+    (line : Option ℕ) (old : Stored K) (events : List NodeEvent) (after : NodeState) (rise : ℕ → ℕ) (k : K) → IsStored keeper old → IsSettled keeper old.keep → Run NodeStep old.state events after →
+    Declines keeper line (changes_of_each events) rise old.keep k → keeper.is_honest k → (c : Content) → keeper.may_leave k c
+    → (c ≡ keeper.content k) ⊎ HoldsAll line (keeper.content k) after c

@@ -52,8 +52,10 @@
 //!   there are none the keeper is not asked. A commit that is refused ends the node and hands the keeper back. By
 //!   `Transaction::commit`: `ok`, `err`.
 //! - Of such a keeper a stop leaves what it keeps, what one event that was refused earlier would have made of that, or
-//!   the rows of the node after all of the events. It never leaves those after a part of them. By law
-//!   `refused_commits_leave_all_or_nothing` (`LeavesAllOrNothing` of `specs/Transactions`).
+//!   the rows of the node after all of the events, with the number of their line. It never leaves those after a part of
+//!   them. By law `refused_commits_leave_all_or_nothing` (`LeavesAllOrNothing` of `specs/Transactions`).
+//! - Where the commit before was taken, or the keeper was just opened, it leaves what it keeps, or what these very events
+//!   make of it. By law `refused_commits_leave_their_events` (`LeavesTheseEvents`).
 //! - A transaction that is let go leaves its keeper as it was. By `Transaction::abandon`.
 //!
 //! # How it is built

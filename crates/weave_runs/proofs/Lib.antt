@@ -5,6 +5,7 @@ mod NumberLemmas
 mod WorldLemmas
 mod SourceLemmas
 mod ToldLemmas
+mod NetworkLemmas
 mod RunLemmas
 mod StepLemmas
 mod OutputLemmas

@@ -25,7 +25,9 @@ use Rattle.replays.specs.LineTurns.{AreOf, Held, Kept, LineGives, Lists, Running
 use Rattle.replays.specs.Openings.{Opens, begun, opened_by}
 use Rattle.replays.specs.Printed as printed
 use Rattle.replays.specs.Printed.{ArePrinted, GoesOn, Prints}
+use Rattle.replays.proofs.ReadSetups.{is_setup}
 use Rattle.stored_laws.specs.Nodes.{AreNodeRows, CanStartAgain, last_serial}
+use Rattle.world_laws.specs.Laws.{IsSetup}
 use Rattle.world_steps.specs.Steps.{NodeEvent as Deed}
 use Rattle.world_steps.specs.World.{NodeState}
 use Rattle.weave_runs.specs.Steps.{IsEventLine}
@@ -38,6 +40,7 @@ IsReadSo party text x = (element : List ℕ) → IsTextAt text x.place element �
 
 -- the node of a run is made of the rows that there were, by a setup that has the party which was asked for
 pub record OpensSo (wanted : List ℕ) (Had : List Row → Type 0) (o : OpenedRun) (s : NodeState) : Type 0 where
+  pub is_setup : IsSetup o.setup
   pub within : Contains o.setup o.member
   pub same : key (party_of o.member) ≡ key wanted
   pub rows : List Row
@@ -170,7 +173,8 @@ data RunTells (w : List ℕ) (found : Held) (told : List Happening) (left : Held
       → RunTells w found told left
 
 opens_so : {w : List ℕ} {held : Held} {text : List ℕ} → (o : Opens w held text) → OpensSo w (Lists held.kept) (opened_by o) o.state
-opens_so {w = w} o = record {
+opens_so {w = w} {text = text} o = record {
+  is_setup = is_setup text o.setup o.base o.reads;
   within = o.asked.within;
   same = o.asked.same ∙ ap key (sym (some_same w o.asked.party o.asked.asked));
   rows = o.rows;
@@ -203,6 +207,7 @@ rows_of (line.OfNode m) rows n lists of = subst (AreNodeRows rows) of lists
 
 opens_over : (w : List ℕ) (k : Kept) (n : NodeState) (o : OpenedRun) (s : NodeState) → AreOf k n → OpensSo w (Lists k) o s → OpensSo w (λ rows. AreNodeRows rows n) o s
 opens_over w k n o s of opens = record {
+  is_setup = opens.is_setup;
   within = opens.within;
   same = opens.same;
   rows = opens.rows;

@@ -51,10 +51,10 @@ provider_happens s e t (steps.Restarted now is) = provider_events.Restarted now 
 
 follow : (n m : NodeState) (x : NodeEvent) → CanStartAgain n → NodeStep n x m → Follows n m (packets_of x)
 follow (Operates s) (Operates t) (AtOperator e) can step =
-    let counts = operator_counts s t e (operator_does s t e (operator_happens s e t step)) in
+    let counts = operator_counts s t e (operator_does s t e (operator_happens s e t step)) s.providers in
     record { party = counts.party; last = counts.serial; each = λ k q at. let is = counts.each k q at in (is.from, is.serial) }
 follow (Provides s) (Provides t) (AtProvider e) can step =
-    let counts = (steps_are_node_steps s t e can.sound.0 (provider_happens s e t step)).counts in
+    let counts = (steps_are_node_steps s.operators s t e (λ x i. i) can.sound.0 (provider_happens s e t step)).counts in
     record { party = counts.party; last = counts.serial; each = λ k q at. let is = counts.each k q at in (is.from, is.serial) }
 follow (Operates s) (Operates t) (AtProvider e) can step = absurd step
 follow (Operates s) (Provides t) (AtOperator e) can step = absurd step

@@ -12,10 +12,12 @@ use Rattle.histories.specs.declared.history.NodeHistory.{NodeHistory}
 use Rattle.histories.specs.Entries.{Delivers, packets_of}
 use Rattle.histories.specs.Weaving.{Woven, event_of}
 use Rattle.histories.proofs.Lists.{is_in, some_same, stands, take_one}
+use Rattle.given_laws.specs.Laws.{OwnInterleavingsAreNetworkRuns}
 use Rattle.history_laws.specs.Laws.{InterleavingsAreRuns}
 use Rattle.line_runs.specs.declared.outcome.Ran.{Ran}
 use Rattle.line_runs.specs.declared.outcome.RunFault.TheVariants.{WriteFailed}
 use Rattle.node_replay.specs.Replayed.{restart_entry}
+use Rattle.reopening_laws.specs.Nodes.{NodesReopen, NodesStay}
 use Rattle.replays.specs.Transcripts.{Transcript}
 use Rattle.replays.specs.declared.transcript.Opening.{Opening}
 use Rattle.replays.specs.declared.transcript.Source.{Source}
@@ -36,8 +38,10 @@ use Rattle.weave_runs.specs.declared.weaving.Written.{Written}
 use Rattle.weave_runs.specs.declared.weaving.Written.TheVariants as written
 use Rattle.weave_runs.specs.Histories.{AreHistories, AreTold, AreTranscripts}
 use Rattle.weave_runs.specs.Outputs.{EndsBefore, AreOpeningLines, AsPlayed, HasNone, IsOfOneWorld, IsOtherText, IsPlayedText, IsSetupLine, IsTextOf, IsWoven, IsWritten, IsWrittenWith, OfHistories, OfMemory, Otherwise, Read, Weaves}
+use Rattle.weave_runs.specs.Parties.{HaveNoFile}
 use Rattle.weave_runs.specs.Refusals.{CameAsLine, CanTell, ComesBy, TellsFault, memory_line, number_of}
 use Rattle.weave_runs.specs.Steps.{AddsLine, AddsSetups, AddsTurn, AreNamed, AreSourced, HasSteps, HasStepsAndSetups, IsSourceIn, Names, ended, entry_of, lines_text}
+use Rattle.weave_runs.proofs.NetworkLemmas.{of_network}
 use Rattle.weave_runs.proofs.RefusalLemmas.{drop_one}
 use Rattle.weave_runs.proofs.RunLemmas.{run_as_told}
 use Rattle.weave_runs.proofs.SourceLemmas.{all_sourced}
@@ -119,9 +123,9 @@ module _ (files : List TranscriptFile) (told : List Transcript) (hs : List NodeH
   can_tell given weave.Memory cause = tt
 
   module _ (given : List (List ℕ)) where
-    pub woven : ((setup : List Node) → IsOfOneWorld setup told → IsSetup setup) → InterleavingsAreRuns → NoneGiven → (turns : List Turn) → IsOrderWith given hs turns
-        → (text : List ℕ) → IsTextOf given hs told turns text → IsWoven given told text
-    woven is_setup law none turns order text (steps, of, lines) =
+    pub woven : ((setup : List Node) → IsOfOneWorld setup told → IsSetup setup) → InterleavingsAreRuns → NoneGiven → OwnInterleavingsAreNetworkRuns → NodesReopen → NodesStay → HaveNoFile told given
+        → (turns : List Turn) → IsOrderWith given hs turns → (text : List ℕ) → IsTextOf given hs told turns text → IsWoven given told text
+    woven is_setup law none network_law reopen stay alone turns order text (steps, of, lines) =
         let interleaves = steps_interleave told hs same given hs turns steps order of in
         record {
           histories = hs;
@@ -138,6 +142,7 @@ module _ (files : List TranscriptFile) (told : List Transcript) (hs : List NodeH
                     (law setup hs states (map event_of (map entry_of steps)) replays
                     (map entry_of steps, none given hs (map entry_of steps) nobody interleaves, refl)),
               );
+          network = λ empty alike. of_network reopen stay told empty alike files of_files hs same are network_law given alone (map entry_of steps) interleaves;
           lines = lines;
         }
 

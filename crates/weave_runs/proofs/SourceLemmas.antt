@@ -96,15 +96,15 @@ parties_wanted w (Opened o ∷ hs) p s t (y ∷ ys) (is, runs) (u, opens, rest) 
 -- ---- where the entries come from
 
 -- an opening that stands behind so many
-record StandsBehind (openings : List Opening) (n : ℕ) (x : Opening) (later : List Opening) : Type 0 where
-  before : List Opening
-  size : length before ≡ n
-  are : openings ≡ before ++ x ∷ later
+pub record StandsBehind (openings : List Opening) (n : ℕ) (x : Opening) (later : List Opening) : Type 0 where
+  pub before : List Opening
+  pub size : length before ≡ n
+  pub are : openings ≡ before ++ x ∷ later
 
-stands_there : (openings : List Opening) (n : ℕ) (x : Opening) (later : List Opening) → StandsBehind openings n x later → slice_get openings n ≡ Some x
+pub stands_there : (openings : List Opening) (n : ℕ) (x : Opening) (later : List Opening) → StandsBehind openings n x later → slice_get openings n ≡ Some x
 stands_there openings n x later at = ap (λ (l : List Opening). slice_get l n) at.are ∙ got_between at.before x later n (sym at.size)
 
-next_behind : (openings : List Opening) (n : ℕ) (x y : Opening) (later : List Opening) → StandsBehind openings n x (y ∷ later) → StandsBehind openings (suc n) y later
+pub next_behind : (openings : List Opening) (n : ℕ) (x y : Opening) (later : List Opening) → StandsBehind openings n x (y ∷ later) → StandsBehind openings (suc n) y later
 next_behind openings n x y later at = record {
   before = at.before ++ x ∷ [];
   size = let one = length-append at.before (x ∷ []) in let size = at.size in omega (arith, one, size);

@@ -3,4 +3,5 @@ pub mod Parties
 pub mod Steps
 pub mod Refusals
 pub mod Accusations
+pub mod Networks
 pub mod Outputs

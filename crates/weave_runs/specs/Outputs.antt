@@ -18,6 +18,7 @@ use Rattle.weave.specs.declared.turn_fault.TurnFault.{TurnFault}
 use Rattle.world_steps.specs.World.{NodeState}
 use Rattle.weave_runs.specs.Accusations.{RefusesFile}
 use Rattle.weave_runs.specs.Histories.{AreHistories, AreTold, AreTranscripts}
+use Rattle.weave_runs.specs.Networks.{AreOfNetwork, AreSpelledAlike, BeginWithoutRows}
 use Rattle.weave_runs.specs.Parties.{AreGiven, IsWrongAmong}
 use Rattle.weave_runs.specs.Refusals.{TellsFault, memory_line, transcript_line}
 use Rattle.weave_runs.specs.Steps.{AreStepsOf, HasSteps, HasStepsAndSetups, Step, ended, entry_of, event_told, lines_text, steps_text, steps_with_setups}
@@ -79,7 +80,8 @@ pub data HasLines (told : List Transcript) (steps : List Step) (text : List ℕ)
 -- The entries are an interleaving of the histories, in which what the given parties sent is taken as it came, and so is
 -- what a sender had sent before its transcript. Where all is of one world, and nothing came from a given party, the events
 -- that the lines tell are a legal run of the setup's world from its opening, which ends with each node as its history left
--- it.
+-- it. Whatever came, and whatever the setups are, the entries are a run of the network of these nodes, where each was first
+-- opened without rows and its runs spell its party alike.
 pub record IsWoven (given : List (List ℕ)) (told : List Transcript) (text : List ℕ) : Type 0 where
   pub histories : List NodeHistory
   pub turns : List Turn
@@ -89,6 +91,7 @@ pub record IsWoven (given : List (List ℕ)) (told : List Transcript) (text : Li
   pub interleaves : InterleavesWith given histories (map entry_of steps)
   pub run : (setup : List Node) → IsOfOneWorld setup told → CameFromNone given histories
       → (states : List NodeState) × AreReplayed setup histories states × IsRunOf setup histories states (map event_told steps)
+  pub network : BeginWithoutRows told → AreSpelledAlike told → AreOfNetwork told histories (map entry_of steps)
   pub lines : HasLines told steps text
 
 -- the line says why the histories that are told have no interleaving; and it is so

@@ -76,6 +76,10 @@ AreGiven told [] (p ∷ ps) = ⊥
 AreGiven told (w ∷ ws) [] = ⊥
 AreGiven told (w ∷ ws) (p ∷ ps) = IsGiven told w.now p × AreGiven told ws ps
 
+-- nothing that is told is of a given party
+abbrev pub HaveNoFile : List Transcript → List (List ℕ) → Type 0
+HaveNoFile told given = (party : List ℕ) → Contains given party → HasFile told party → ⊥
+
 -- the fault says so of one of the words
 abbrev pub IsWrongAmong : List Transcript → List (Bor (List ℕ)) → GivenFault → Type 0
 IsWrongAmong told words f = (w : Bor (List ℕ)) × Contains words w × IsWrong told w.now f

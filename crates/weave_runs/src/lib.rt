@@ -16,6 +16,11 @@
 //!   Else each file's opening does, and each setup line before the entries of its node. By the same (`HasLines`).
 //! - Where that is so, and nothing came from a given party, the events of the lines are a legal run of the setup's
 //!   world. It ends with each node as its history left it, and with all that this sent. By the same (`IsWoven`).
+//! - Whatever came from given parties, and whatever the setups are, the entries are a run of the network of the files'
+//!   nodes, with one event for each line, in this order. Each node begins with the setup of its first run, and each later
+//!   run is a start under its own. So each operator keeps its part of what is promised, and each operator and provider
+//!   keep the promise between them. It is asked that no file begins with rows, and that the later runs of each spell
+//!   their party as its first does, in the same role. By the same (`IsWoven`; `AreOfNetwork` of `specs/Networks`).
 //! - Each file's history is what runs of its node printed, over no rows or over those of its store. By the same
 //!   (`AreTranscripts`).
 //! - A line that came is read as its entry's event. Deliveries and restarts between runs are written as defined, and
@@ -102,8 +107,10 @@ fn write_refusal<'a, W: Write>(
 /// The run is an interleaving of the histories of the files. Where all runs have one setup and no file begins with
 /// rows, it is input of `play`; and where nothing came from a given party it is a legal run of the setup's world from
 /// its opening, which ends with each node as its history left it. So the nodes are safe, what is acknowledged is held,
-/// and answers agree. Where packets came that were never sent, or were sent otherwise, or there is no order, the line
-/// says so, and these histories have no interleaving.
+/// and answers agree. Whatever came, and whatever the setups are, the files that begin without rows are a run of the
+/// network of their nodes, where each is spelled alike in all its runs: so their operators keep what is promised at each
+/// operator, and their pairs what is promised of each pair. Where packets came that were never sent, or were sent
+/// otherwise, or there is no order, the line says so, and these histories have no interleaving.
 ///
 /// All of it is made before anything is written. Where writing fails, a beginning of it is written. What is said beside
 /// a refusal, if anything, is added to `words`.

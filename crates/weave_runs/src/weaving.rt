@@ -5,6 +5,7 @@ ghost use Rattle.ocpi_types.specs.declared.setup.Node.{Node as NodeOf};
 ghost use Rattle.replays.specs.declared.transcript.Opening.{Opening as OpeningOf};
 ghost use Rattle.weave_runs.specs.Histories.{AreHistories, AreTold, AreTranscripts, lived, lived_told};
 ghost use Rattle.weave_runs.specs.Outputs.{IsOfOneWorld, IsTextOf, IsWritten, IsWrittenWith};
+ghost use Rattle.weave_runs.specs.Parties.{HaveNoFile};
 ghost use Rattle.weave_runs.specs.Steps.{AreNamed, AreSourced};
 
 use crate::fault::GivenFault;
@@ -13,10 +14,12 @@ use crate::refusal::{file_refusal, weave_refusal};
 use crate::told::{TranscriptFile, read_files};
 use crate::words::{words_for, words_for_file};
 use crate::written::{other_text, played_text};
+use given_laws::laws::own_interleavings_are_network_runs;
 use histories::NodeHistory;
 use history_laws::laws::interleavings_are_runs;
 use node_core::nodes_of;
 use ocpi_text::Party;
+use reopening_laws::laws::{nodes_reopen, nodes_stay};
 use replays::{Opening, Transcript};
 use setup_equality::are_equal;
 use std::alloc::{AllocError, Global};
@@ -130,10 +133,14 @@ fn weave_given<'a>(
     requires some { 0 < length transcripts.now }
     requires told { AreTold transcripts.now }
     requires transcripts { AreTranscripts files.now transcripts.now }
+    requires alone { HaveNoFile transcripts.now given.now }
     ensures { IfOk result (IsWrittenWith given.now files.now transcripts.now) }
 {
     interleavings_are_runs();
     none_given();
+    own_interleavings_are_network_runs();
+    nodes_reopen();
+    nodes_stay();
     nodes_of(&transcripts[0].first().setup);
     let histories = histories_of(alloc, transcripts)?;
     match weave_turns_with(alloc, &histories, given) {

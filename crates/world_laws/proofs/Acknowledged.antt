@@ -40,7 +40,7 @@ use Rattle.provider_laws.proofs.replies.Answering.{replies_answer}
 use Rattle.provider_rows.specs.State as provider
 use Rattle.provider_steps.specs.Events as provider_events
 use Rattle.session_laws.specs.Pasts.{past}
-use Rattle.session_laws.proofs.Growing.{pasts_are_orderly}
+use Rattle.world_laws.proofs.Steady.{pasts_are_orderly}
 use Rattle.session_laws.proofs.Sending.{sent_versions_are_past}
 use Rattle.session_state.specs.Pasts.{IsFinal}
 use Rattle.world_laws.specs.Agree.{AcknowledgedIsHeld, HasNoPushOfCdr, HasNoPushOfSession}
@@ -107,7 +107,7 @@ module _ (setup : List Node) (is_setup : IsSetup setup) (w : World) (hs : Histor
     party_is : key s.party ≡ o
     party_is =
         let line = line_of setup at.trace.party at.trace.site in
-        let whole = node_runs.runs_are_steps (operator_node.node (operator.opening line)) (operator_node.node s) (map operator_node.exchange at.trace.events)
+        let whole = node_runs.runs_are_steps (operator_proofs.before line at.trace.events s at.trace.by_form run) (operator_proofs.after line at.trace.events s at.trace.by_form run) (map operator_node.exchange at.trace.events)
         (operator_proofs.as_run line at.trace.events s at.trace.by_form run) in
         ap key (whole.counts.party ∙ sym at.trace.party_is) ∙ at.party
 
@@ -160,7 +160,7 @@ module _ (setup : List Node) (is_setup : IsSetup setup) (w : World) (hs : Histor
           let (y, has, at_least) = acknowledged_sessions_are_held t.before t.after t.state t.event t.later t.packet v t.reply t.happens t.answers t.taken t.carries t.left in
           let its_key : session_key v ≡ (o, id) = λ i. (((consistent.sound.sessions id v stands).own ∙ party_is) i, sym (consistent.sound.charged_keyed.sessions id v stands) i) in
           let held : get t.state.rows.inbox.sessions (o, id) ≡ Some y = ap (get t.state.rows.inbox.sessions) (sym its_key) ∙ has in
-          let (ordered, is_last) = pasts_are_orderly (line_of setup at.trace.party at.trace.site) at.trace.events s at.trace.by_form run id in
+          let (ordered, is_last) = pasts_are_orderly (line_of setup at.trace.party at.trace.site) at.trace.events s at.trace.by_form run at.trace.steady id in
           let among =
           last_or_earlier (price_at at.trace.site) (past id at.trace.events) v y ordered (sym is_last ∙ stands)
           (of_past (key v.cdr_token.party) id t.place t.state (provider_at setup is_setup w hs traces (key v.cdr_token.party) t.place t.state t.of) y held) in

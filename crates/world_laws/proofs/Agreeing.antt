@@ -44,7 +44,7 @@ use Rattle.provider_laws.proofs.nodes.NodeLaws as provider_proofs
 use Rattle.provider_rows.specs.State as provider
 use Rattle.provider_rows.proofs.KeepingTimes.{opening_consistent}
 use Rattle.session_laws.specs.Pasts.{past}
-use Rattle.session_laws.proofs.Growing.{pasts_are_orderly}
+use Rattle.world_laws.proofs.Steady.{pasts_are_orderly}
 use Rattle.world_laws.specs.Agree.{AnswersAgree, HasBegun, KeepsResponse, KeepsResult}
 use Rattle.world_laws.specs.Laws.{IsSetup}
 use Rattle.world_laws.specs.Nodes.{OperatorOf, ProviderOf}
@@ -181,7 +181,7 @@ module _ (setup : List Node) (is_setup : IsSetup setup) (w : World) (hs : Histor
         -- the session that it began stands, in a later version
         has_begun : (x : Packet) → key x.from ≡ p → BeganIn es (key x.from) x.request c → HasBegun w p (key d.to) c
         has_begun x from b =
-            let (ordered, is_last) = pasts_are_orderly its_line es h.state h.there.trace.by_form ran (key b.session.id) in
+            let (ordered, is_last) = pasts_are_orderly its_line es h.state h.there.trace.by_form ran h.there.trace.steady (key b.session.id) in
             let of_past = in_past es b.event b.session b.happened b.begins in
             let (v, last) = has_last (past (key b.session.id) es) b.session of_past in
             let (token, reference) = with_last v b.session (last_or_earlier (price_at its_line.site) (past (key b.session.id) es) v b.session ordered last of_past) in

@@ -1,6 +1,6 @@
 -- What an operator bills, and what charge detail records a provider holds, in a traced world.
 use Rattle.std.proofs.Common.{◌≡◌, ◌⊎◌, ℕ, List, inl, inr, sym, ap, subst, ◌∙◌}
-use Rattle.std.specs.Prelude.{Some, None}
+use Rattle.std.specs.Prelude.{Some, None, Contains}
 use Rattle.std.specs.List.{last_or}
 use Rattle.std.specs.FinMap.{get, get-empty}
 use Rattle.tables.specs.Keys.{text_pair_cmp}
@@ -22,7 +22,8 @@ use Rattle.provider_rows.specs.State as provider
 use Rattle.session_laws.specs.Bills as bills
 use Rattle.session_laws.proofs.Billing.{sessions_are_billed_once}
 use Rattle.session_laws.proofs.Currencies.{currencies_are_of_site}
-use Rattle.session_laws.proofs.Growing.{pasts_are_orderly}
+use Rattle.world_laws.proofs.Steady.{pasts_are_orderly}
+use Rattle.tables.proofs.Elements.{in_none}
 use Rattle.world_laws.specs.Laws.{IsSetup}
 use Rattle.world_laws.specs.Nodes.{HasCdr, HoldsCdr, OperatorOf}
 use Rattle.world_laws.specs.Safe.{Bills, BillsOnce}
@@ -41,14 +42,15 @@ module _ (setup : List Node) (is_setup : IsSetup setup) (w : World) (hs : Histor
     stored_last : (id : List ℕ) → last_or None (past_of id p.versions) ≡ get s.rows.charged.sessions id
     stored_last id =
         ap (last_or None) (past_is setup is_setup w hs traces o p s at id)
-        ∙ sym (pasts_are_orderly (line_of setup at.trace.party at.trace.site) at.trace.events at.trace.state at.trace.by_form at.trace.run id).1
+        ∙ sym (pasts_are_orderly (line_of setup at.trace.party at.trace.site) at.trace.events at.trace.state at.trace.by_form at.trace.run at.trace.steady id).1
         ∙ ap (λ (z : operator.State). get z.rows.charged.sessions id) at.state_is
 
     billed_state : bills.AreBilledOnce s
     billed_state = subst bills.AreBilledOnce at.state_is (sessions_are_billed_once (line_of setup at.trace.party at.trace.site) at.trace.events at.trace.state at.trace.by_form at.trace.run)
 
     in_currency : (id : List ℕ) (x : Cdr) → get s.rows.charged.cdrs id ≡ Some x → x.currency ≡ s.site.currency
-    in_currency = (subst bills.AreInCurrency at.state_is (currencies_are_of_site (line_of setup at.trace.party at.trace.site) at.trace.events at.trace.state at.trace.by_form at.trace.run)).cdrs
+    in_currency = (subst bills.AreInCurrency at.state_is (currencies_are_of_site (line_of setup at.trace.party at.trace.site) at.trace.events at.trace.state at.trace.by_form at.trace.run
+        (λ other i. absurd (in_none other (subst (λ l. Contains l other) at.trace.steady i))))).cdrs
 
     bills_once : BillsOnce p s
     bills_once = record {

@@ -8,7 +8,6 @@ use Rattle.std.specs.List.{last_or}
 use Rattle.std.proofs.lemmas.List.Elements.{filter-append}
 use Rattle.tables.specs.Keys.{text_pair_cmp}
 use Rattle.tables.proofs.Options.{not_both}
-use Rattle.node_laws.proofs.Runs.{kept_runs}
 use Rattle.ocpi_text.specs.Text.{key}
 use Rattle.ocpi_types.specs.Prices.{price_at}
 use Rattle.ocpi_types.specs.declared.rows.Change.{Change}
@@ -21,11 +20,9 @@ use Rattle.session_state.specs.Pasts.{IsFinal, IsOrderly}
 use Rattle.handover.specs.Inbox.{session_key}
 use Rattle.operator_rows.specs.State as operator
 use Rattle.operator_steps.specs.Events as operator_events
-use Rattle.operator_steps.specs.Events.{Happens}
-use Rattle.operator_laws.proofs.events.Doing.{does}
 use Rattle.operator_laws.proofs.standing.AtAllTimes.{always_consistent}
 use Rattle.session_laws.specs.Pasts as pasts
-use Rattle.session_laws.proofs.Growing.{pasts_are_orderly}
+use Rattle.world_laws.proofs.Steady.{pasts_are_orderly, setup_kept}
 use Rattle.session_laws.proofs.Sending.{sent_versions_are_past}
 use Rattle.provider_rows.specs.State as provider
 use Rattle.provider_laws.specs.Held.{SessionCame}
@@ -61,9 +58,7 @@ trace_past setup i p es t id = ap (past_of id) t.versions_is ∙ past_in id t.ev
 
 -- the operator's site is that of its setup
 pub trace_site : (setup : List Node) (i : ℕ) (p : Place) (es : List NodeEvent) (t : OperatorTrace setup i p es) → t.state.site ≡ t.site
-trace_site setup i p es t =
-    kept_runs Happens (λ (z : operator.State). z.site ≡ t.site) (λ a b e h before. (does a b e h).site ∙ before)
-    (operator.opening (line_of setup t.party t.site)) t.state t.events t.run refl
+trace_site setup i p es t = (setup_kept t.events (operator.opening (line_of setup t.party t.site)) t.state t.run t.steady).0
 
 module _ (setup : List Node) (is_setup : IsSetup setup) (w : World) (hs : Histories) (traces : Traces setup w hs) where
   -- the past of a session of an operator is that of its run
@@ -85,7 +80,7 @@ module _ (setup : List Node) (is_setup : IsSetup setup) (w : World) (hs : Histor
   pub orderly : (o : List ℕ) (p : Place) (s : operator.State) → OperatorOf w o p s → (id : List ℕ) → GoesInOrder p s id
   orderly o p s of id =
       let at = operator_at setup is_setup w hs traces o p s of in
-      let law = pasts_are_orderly (line_of setup at.trace.party at.trace.site) at.trace.events at.trace.state at.trace.by_form at.trace.run id in
+      let law = pasts_are_orderly (line_of setup at.trace.party at.trace.site) at.trace.events at.trace.state at.trace.by_form at.trace.run at.trace.steady id in
       let same = past_is o p s at id in
       record {
         orderly = subst (λ l. IsOrderly (price_at s.site) l) (sym same)

@@ -13,6 +13,7 @@ use Rattle.ocpi_types.specs.declared.site.SiteLine.{SiteLine}
 use Rattle.ocpi_types.specs.declared.stored.SentCommand.{SentCommand}
 use Rattle.node_laws.proofs.Runs.{run_join}
 use Rattle.operator_laws.specs.Laws as operator_laws
+use Rattle.operator_laws.specs.Laws.{setup_of}
 use Rattle.operator_laws.proofs.standing.AtAllTimes as operators
 use Rattle.operator_rows.specs.Sound as operator_sound
 use Rattle.operator_rows.specs.State as operator
@@ -125,6 +126,7 @@ module _ (setup : List Node) (is_setup : IsSetup setup) (w : World) (hs : Histor
       history = (λ i. h.first.trace.history i ++ h.more.history i) ∙ sym (map-append AtOperator events h.more.events);
       sent_is = h.more.sent_is ∙ ap (λ l. l ++ operator_laws.sent h.more.events) h.first.trace.sent_is ∙ sym (flat_map-append (λ (e : operator_events.Event). e.packets) events h.more.events);
       versions_is = h.more.versions_is ∙ ap (λ l. l ++ versions_in h.more.events) h.first.trace.versions_is ∙ sym (flat_map-append (λ (e : operator_events.Event). all_put e.changes) events h.more.events);
+      steady = flat_map-append (λ (e : operator_events.Event). setup_of e.input) events h.more.events ∙ (λ i. h.first.trace.steady i ++ h.more.steady i);
     }
 
     abbrev at_on : OperatorAt setup is_setup v (joined hs ms) on o h.place h.more.state

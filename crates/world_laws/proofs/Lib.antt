@@ -1,3 +1,4 @@
+pub mod Steady
 pub mod Setups
 pub mod NodeRuns
 pub mod Newest

@@ -2,7 +2,7 @@
 use Rattle.std.proofs.Common.{zero, suc, ◌≡◌, ◌⊎◌, ℕ, ◌+◌, List, [], ◌∷◌, map, inl, inr, sym, ap, subst, ◌∙◌}
 use Rattle.std.specs.Prelude.{Some, Contains, slice_get}
 use Rattle.std.proofs.lemmas.List.Elements.{Contains-append_right}
-use Rattle.node_laws.proofs.NodeRuns.{runs_are_steps}
+use Rattle.world_laws.proofs.Steady.{peers_kept, setup_kept}
 use Rattle.ocpi_text.specs.Text.{key}
 use Rattle.ocpi_types.specs.declared.packet.Packet.{Packet}
 use Rattle.ocpi_types.specs.declared.setup.Node.{Node}
@@ -47,14 +47,12 @@ module _ (setup : List Node) (is_setup : IsSetup setup) (w : World) (hs : Histor
   operator_deals : (o : List ℕ) (p : Place) (s : operator.State) → OperatorAt setup is_setup w hs traces o p s → s.providers ≡ providers_of setup
   operator_deals o p s at =
       let line = line_of setup at.trace.party at.trace.site in
-      let run = operator_proofs.runs_are_node_runs (operator.opening line) s at.trace.events (operator_opening line at.trace.by_form) (run_of_operator setup is_setup w hs traces o p s at) in
-      (runs_are_steps (operator_node.node (operator.opening line)) (operator_node.node s) (map operator_node.exchange at.trace.events) run).counts.peers
+      (setup_kept at.trace.events (operator.opening line) s (run_of_operator setup is_setup w hs traces o p s at) at.trace.steady).1
 
   provider_deals : (o : List ℕ) (p : Place) (s : provider.State) → ProviderAt setup is_setup w hs traces o p s → s.operators ≡ operators_of setup
   provider_deals o p s at =
       let peering = peering_of setup at.trace.party in
-      let run = provider_proofs.runs_are_node_runs (provider.opening peering) s at.trace.events (provider_opening peering at.trace.are_peers) (run_of_provider setup is_setup w hs traces o p s at) in
-      (runs_are_steps (provider_node.node (provider.opening peering)) (provider_node.node s) (map provider_node.exchange at.trace.events) run).counts.peers
+      peers_kept at.trace.events (provider.opening peering) s (run_of_provider setup is_setup w hs traces o p s at) at.trace.steady
 
   module _ (o p : List ℕ) (here there : Place) (s : operator.State) (t : provider.State) (of_operator : OperatorOf w o here s) (of_provider : ProviderOf w p there t) where
     abbrev first : OperatorAt setup is_setup w hs traces o here s

@@ -27,6 +27,9 @@ use Rattle.world_steps.proofs.Places.{got_within, of_mapped, some_same, stands}
 use Rattle.operator_laws.proofs.nodes.NodeLaws.{packets_are_addressed as operator_addressed}
 use Rattle.provider_laws.proofs.nodes.NodeLaws.{packets_are_addressed as provider_addressed}
 use Rattle.tables.proofs.Elements.{in_map}
+use Rattle.operator_laws.specs.Laws.{setups_in}
+use Rattle.provider_laws.specs.Laws.{peerings_in}
+use Rattle.world_laws.proofs.Steady.{does_none, of_first, of_first_peers, provider_does_none}
 use Rattle.world_laws.proofs.Setups.{are_peers_of, by_form_of, of_operators, of_providers, one_node, one_role}
 
 abbrev pub line_of : List Node → List ℕ → Site → SiteLine
@@ -53,6 +56,8 @@ pub record OperatorTrace (setup : List Node) (i : ℕ) (p : Place) (es : List No
   pub history : es ≡ map AtOperator events
   pub sent_is : p.sent ≡ operator_laws.sent events
   pub versions_is : p.versions ≡ versions_in events
+  -- it started again under no other setup
+  pub steady : setups_in events ≡ []
 
 pub record ProviderTrace (setup : List Node) (i : ℕ) (p : Place) (es : List NodeEvent) : Type 0 where
   pub party : List ℕ
@@ -65,6 +70,7 @@ pub record ProviderTrace (setup : List Node) (i : ℕ) (p : Place) (es : List No
   pub run : provider_laws.Run (provider.opening (peering_of setup party)) events state
   pub history : es ≡ map AtProvider events
   pub sent_is : p.sent ≡ provider_laws.sent events
+  pub steady : peerings_in events ≡ []
 
 -- a place goes on as an operator, or as a provider, from the state that it had
 pub record OperatorGoes (p q : Place) (es : List NodeEvent) (s : operator.State) : Type 0 where
@@ -75,6 +81,7 @@ pub record OperatorGoes (p q : Place) (es : List NodeEvent) (s : operator.State)
   pub history : es ≡ map AtOperator events
   pub sent_is : q.sent ≡ p.sent ++ operator_laws.sent events
   pub versions_is : q.versions ≡ p.versions ++ versions_in events
+  pub steady : setups_in events ≡ []
 
 pub record ProviderGoes (p q : Place) (es : List NodeEvent) (s : provider.State) : Type 0 where
   pub state : provider.State
@@ -83,6 +90,7 @@ pub record ProviderGoes (p q : Place) (es : List NodeEvent) (s : provider.State)
   pub run : provider_laws.Run s events state
   pub history : es ≡ map AtProvider events
   pub sent_is : q.sent ≡ p.sent ++ provider_laws.sent events
+  pub steady : peerings_in events ≡ []
 
 -- what an operator of a world does, happens at an operator
 operator_happens : (s : operator.State) (e : operator_events.Event) (t : operator.State) → OperatorDoes s e t → operator_events.Happens s e t
@@ -100,12 +108,13 @@ record OperatorRuns (s : operator.State) (es : List NodeEvent) (t : NodeState) :
   events : List operator_events.Event
   history : es ≡ map AtOperator events
   run : operator_laws.Run s events state
+  steady : setups_in events ≡ []
 
 operator_runs : (es : List NodeEvent) (s : operator.State) (t : NodeState) → Run NodeStep (Operates s) es t → OperatorRuns s es t
-operator_runs [] s t run = record { state = s; is = run; events = []; history = refl; run = refl }
+operator_runs [] s t run = record { state = s; is = run; events = []; history = refl; run = refl; steady = refl }
 operator_runs (AtOperator e ∷ es) s t (Operates m, step, rest) =
     let r = operator_runs es m t rest in
-    record { state = r.state; is = r.is; events = e ∷ r.events; history = ap (λ l. AtOperator e ∷ l) r.history; run = (m, operator_happens s e m step, r.run) }
+    record { state = r.state; is = r.is; events = e ∷ r.events; history = ap (λ l. AtOperator e ∷ l) r.history; run = (m, operator_happens s e m step, r.run); steady = (λ i. does_none s e m step i ++ r.steady i) }
 operator_runs (AtOperator e ∷ es) s t (Provides m, step, rest) = absurd step
 operator_runs (AtProvider e ∷ es) s t (m, step, rest) = absurd step
 
@@ -115,12 +124,13 @@ record ProviderRuns (s : provider.State) (es : List NodeEvent) (t : NodeState) :
   events : List provider_events.Event
   history : es ≡ map AtProvider events
   run : provider_laws.Run s events state
+  steady : peerings_in events ≡ []
 
 provider_runs : (es : List NodeEvent) (s : provider.State) (t : NodeState) → Run NodeStep (Provides s) es t → ProviderRuns s es t
-provider_runs [] s t run = record { state = s; is = run; events = []; history = refl; run = refl }
+provider_runs [] s t run = record { state = s; is = run; events = []; history = refl; run = refl; steady = refl }
 provider_runs (AtProvider e ∷ es) s t (Provides m, step, rest) =
     let r = provider_runs es m t rest in
-    record { state = r.state; is = r.is; events = e ∷ r.events; history = ap (λ l. AtProvider e ∷ l) r.history; run = (m, provider_happens s e m step, r.run) }
+    record { state = r.state; is = r.is; events = e ∷ r.events; history = ap (λ l. AtProvider e ∷ l) r.history; run = (m, provider_happens s e m step, r.run); steady = (λ i. provider_does_none s e m step i ++ r.steady i) }
 provider_runs (AtProvider e ∷ es) s t (Operates m, step, rest) = absurd step
 provider_runs (AtOperator e ∷ es) s t (m, step, rest) = absurd step
 
@@ -154,6 +164,7 @@ operator_goes p q es s went is =
       history = r.history;
       sent_is = went.sent_is ∙ ap (λ l. p.sent ++ sent l) r.history ∙ ap (λ l. p.sent ++ l) (operator_sent r.events);
       versions_is = went.versions_is ∙ ap (λ l. p.versions ++ stored l) r.history ∙ ap (λ l. p.versions ++ l) (operator_stored r.events);
+      steady = r.steady;
     }
 
 pub provider_goes : (p q : Place) (es : List NodeEvent) (s : provider.State) → Went p es q → p.node ≡ Provides s → ProviderGoes p q es s
@@ -166,6 +177,7 @@ provider_goes p q es s went is =
       run = r.run;
       history = r.history;
       sent_is = went.sent_is ∙ ap (λ l. p.sent ++ sent l) r.history ∙ ap (λ l. p.sent ++ l) (provider_sent r.events);
+      steady = r.steady;
     }
 
 -- the trace of a place, by the node with which it began
@@ -185,6 +197,7 @@ trace_of setup is_setup i (node.Operator party site) at p es went =
       history = g.history;
       sent_is = g.sent_is;
       versions_is = g.versions_is;
+      steady = g.steady;
     })
 trace_of setup is_setup i (node.Provider party) at p es went =
     let g = provider_goes (place_of setup (node.Provider party)) p es (provider.opening (peering_of setup party)) went refl in
@@ -199,6 +212,7 @@ trace_of setup is_setup i (node.Provider party) at p es went =
       run = g.run;
       history = g.history;
       sent_is = g.sent_is;
+      steady = g.steady;
     })
 
 module _ (setup : List Node) (is_setup : IsSetup setup) (w : World) (hs : Histories) (traces : Traces setup w hs) where
@@ -358,12 +372,12 @@ module _ (setup : List Node) (is_setup : IsSetup setup) (w : World) (hs : Histor
 
     not_to_operator : OperatorTrace setup r.number r.place (hs r.number) → (i : ℕ) (party : List ℕ) (site : Site) → slice_get setup i ≡ Some (node.Operator party site) → key q.to ≡ key party → ⊥
     not_to_operator t i party site there to =
-        let (j, is) = of_providers setup q.to (operator_addressed (line_of setup t.party t.site) t.events t.state t.by_form t.run q (operator_sends t)).1 in
+        let (j, is) = of_providers setup q.to (of_first (line_of setup t.party t.site) t.events t.steady q.to (operator_addressed (line_of setup t.party t.site) t.events t.state t.by_form t.run q (operator_sends t)).1) in
         one_role setup is_setup i j party q.to site there is (sym to)
 
     not_to_provider : ProviderTrace setup r.number r.place (hs r.number) → (i : ℕ) (party : List ℕ) → slice_get setup i ≡ Some (node.Provider party) → key q.to ≡ key party → ⊥
     not_to_provider t i party there to =
-        let (j, site, is) = of_operators setup q.to (provider_addressed (peering_of setup t.party) t.events t.state t.run q (provider_sends t)).1 in
+        let (j, site, is) = of_operators setup q.to (of_first_peers (peering_of setup t.party) t.events t.steady q.to (provider_addressed (peering_of setup t.party) t.events t.state t.run q (provider_sends t)).1) in
         one_role setup is_setup j i q.to party site is there to
 
   -- what came to an operator was sent to it by a provider, and the other way

@@ -32,10 +32,10 @@ use Rattle.world_steps.specs.Traces.{Histories, Traces}
 use Rattle.world_steps.specs.World.{Place, World, past_of}
 
 -- an amount as its own account sees it, and as another does
-seen_same : (a b : Account) (z : ℤ) → a ≡ b → seen_by a b z ≡ z
+pub seen_same : (a b : Account) (z : ℤ) → a ≡ b → seen_by a b z ≡ z
 seen_same a b z is = ap (λ (c : Bool). cond c z (pos 0)) (subst (λ (k : Account). eq_by_cmp text_pair_cmp a k ≡ true) is ((eq_by_cmp_equiv text_pair_total).refl a))
 
-seen_other : (a b : Account) (z : ℤ) → a ≢ b → seen_by a b z ≡ pos 0
+pub seen_other : (a b : Account) (z : ℤ) → a ≢ b → seen_by a b z ≡ pos 0
 seen_other a b z apart = elim (eq_by_cmp text_pair_cmp a b) as (λ c. eq_by_cmp text_pair_cmp a b ≡ c → cond c z (pos 0) ≡ pos 0) [
   | true ↦ λ e. absurd (apart (text_pair_exact a b (equal_of_is_eq (text_pair_cmp a b) e)))
   | false ↦ λ e. refl
@@ -46,10 +46,10 @@ pub chosen : {V : Type 0} (b : Bool) (x : Option V) (v : V) → cond b x None �
 chosen true x v is = (refl, is)
 chosen false x v is = none_some v is
 
-same_some : {V : Type 0} (v w : V) (x : Option V) → x ≡ Some v → x ≡ Some w → v ≡ w
+pub same_some : {V : Type 0} (v w : V) (x : Option V) → x ≡ Some v → x ≡ Some w → v ≡ w
 same_some v w x is also = let both : Some v ≡ Some w = sym is ∙ also in cc
 
-abbrev Entry : Type 0
+abbrev pub Entry : Type 0
 Entry = (List ℕ × List ℕ) × Cdr
 
 -- what there is of a record that is a credit, or of one that is a bill, where just one kind is asked for
@@ -68,7 +68,7 @@ own_kind false x = refl
 own_kind true x = refl
 
 -- the last version of the session of a record
-abbrev last_of : Place → Cdr → Option Session
+abbrev pub last_of : Place → Cdr → Option Session
 last_of r x = last_or None (past_of (key x.session_id) r.versions)
 
 -- the same, if the record is of that operator, and a credit or a bill as is asked for
@@ -86,11 +86,11 @@ counted_is false x v is = subst (λ (y : Option Session). cost_of v ≡ term_at 
 counted_is true x v is = subst (λ (y : Option Session). neg_ℤ (cost_of v) ≡ pos 0 -ℤ term_at cost_of y) (sym is) (omega (arith, ints))
 
 -- the record is of the session of that version, and costs what it counts of that session's cost
-record Counts (v : Session) (x : Cdr) : Type 0 where
-  session : x.session_id ≡ v.id
-  cost : x.total_cost.excl_vat ≡ counted (is_credit x) (cost_of v)
+pub record Counts (v : Session) (x : Cdr) : Type 0 where
+  pub session : x.session_id ≡ v.id
+  pub cost : x.total_cost.excl_vat ≡ counted (is_credit x) (cost_of v)
 
-abbrev CountsLast : Place → Cdr → Type 0
+abbrev pub CountsLast : Place → Cdr → Type 0
 CountsLast r x = (v : Session) × EndsAs r (key x.session_id) v × Counts v x
 
 -- a bill has the cost of the version in which its session ended
@@ -98,7 +98,7 @@ pub bill_costs : (v : Session) (x : Cdr) → Bills v x → x.total_cost.excl_vat
 bill_costs v x b = sym (ap (λ z. elim z [ None ↦ pos 0 | Some cost ↦ cost.excl_vat ]) b.cost)
 
 -- and a credit that negated
-counts_last : (r : Place) (s : operator.State) → BillsOnce r s → (id : List ℕ) (x : Cdr) → get s.rows.charged.cdrs id ≡ Some x → CountsLast r x
+pub counts_last : (r : Place) (s : operator.State) → BillsOnce r s → (id : List ℕ) (x : Cdr) → get s.rows.charged.cdrs id ≡ Some x → CountsLast r x
 counts_last r s once id x stands = by (is_credit x) refl
   where
     by : (credit : Bool) → is_credit x ≡ credit → CountsLast r x

@@ -65,7 +65,7 @@ module _ (setup : List Node) (is_setup : IsSetup setup) (w : World) (hs : Histor
             spelled = spelled;
             same = same;
             carries = (d, has, ap reference_of command_is ∙ named);
-            goes = (d, has, ap key to_is ∙ to);
+            goes = (d, has, to_is ∙ to);
           }
       by (inr (moment, info, is, named)) = record {
         carrier = InReply (key q.to) q.request;

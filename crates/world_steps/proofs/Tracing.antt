@@ -20,16 +20,16 @@ use Rattle.world_steps.proofs.Histories.{came_cases, came_one, only_elsewhere, o
 use Rattle.world_steps.proofs.Places.{got_within, is_in, of_mapped, set_other, set_same, some_same, stands}
 
 -- some node of the world sent the packet
-record SentIn (w : World) (q : Packet) : Type 0 where
-  number : ℕ
-  place : Place
-  here : slice_get w number ≡ Some place
-  within : Contains place.sent q
+pub record SentIn (w : World) (q : Packet) : Type 0 where
+  pub number : ℕ
+  pub place : Place
+  pub here : slice_get w number ≡ Some place
+  pub within : Contains place.sent q
 
 -- and it was sent to the party
-record ComesTo (w : World) (party : List ℕ) (q : Packet) : Type 0 where
-  to : key q.to ≡ key party
-  from : SentIn w q
+pub record ComesTo (w : World) (party : List ℕ) (q : Packet) : Type 0 where
+  pub to : key q.to ≡ key party
+  pub from : SentIn w q
 
 arrived : (w : World) (party from : List ℕ) (serial : ℕ) (q : Packet) → MayArrive w party from serial q → ComesTo w party q
 arrived w party from serial q h = record {
@@ -67,7 +67,7 @@ comes_to_provider w party (kind.Tick moment) x at q reaches is = let bad : provi
 comes_to_provider w party kind.Restart x at q reaches is = let bad : provider.Restarts ≡ provider.Arrives at q = sym reaches ∙ is in absurd (cc)
 comes_to_provider w party kind.Refused x at q reaches is = absurd reaches
 
-comes_to : (w : World) (party : List ℕ) (s : NodeState) (k : EventKind) (x : NodeEvent) (q : Packet) → Reaches w party s k (input_of x) → Brings x q → ComesTo w party q
+pub comes_to : (w : World) (party : List ℕ) (s : NodeState) (k : EventKind) (x : NodeEvent) (q : Packet) → Reaches w party s k (input_of x) → Brings x q → ComesTo w party q
 comes_to w party (Operates s) k (AtOperator e) q reaches (at, is) = comes_to_operator w party k e.input at q reaches is
 comes_to w party (Operates s) k (AtProvider e) q reaches brings = absurd reaches
 comes_to w party (Provides s) k (AtOperator e) q reaches brings = absurd reaches

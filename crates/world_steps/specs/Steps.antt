@@ -89,6 +89,7 @@ OperatorRefuses s (operator.Reports at report) fault = operator_faults.IsReportF
 OperatorRefuses s (operator.Credits at session) fault = operator_faults.IsCreditFault s at session fault
 OperatorRefuses s (operator.Ticks at) fault = operator_faults.IsOwnFault (TickLine s at) s fault
 OperatorRefuses s operator.Restarts fault = ⊥
+OperatorRefuses s (operator.Reopens line) fault = ⊥
 
 -- and a provider
 abbrev pub ProviderRefuses : provider_state.State → provider.Input → NodeFault → Type 0
@@ -97,6 +98,7 @@ ProviderRefuses s (provider.Submits at to order) fault = provider_faults.IsOrder
 ProviderRefuses s (provider.Gives at token) fault = provider_faults.IsTokenFault s at token fault
 ProviderRefuses s (provider.Ticks at) fault = provider_faults.IsTickFault s at fault
 ProviderRefuses s provider.Restarts fault = ⊥
+ProviderRefuses s (provider.Reopens p) fault = ⊥
 
 abbrev pub NodeRefuses : NodeState → Input → NodeFault → Type 0
 NodeRefuses (Operates s) (OfOperator x) fault = OperatorRefuses s x fault

@@ -39,7 +39,7 @@ use Rattle.operator_steps.specs.Charger.{ChargerLine}
 use Rattle.operator_steps.specs.Credits as credits
 use Rattle.operator_steps.specs.Credits.{CreditLine, next_credit}
 use Rattle.operator_steps.specs.Ends.{IsOfSite, IsOpen, end_acts, ends_acts, expired_acts}
-use Rattle.operator_steps.specs.Events.{Input, Arrives, Serves, Reports, Credits, Ticks, Restarts, Asks}
+use Rattle.operator_steps.specs.Events.{Input, Arrives, Serves, Reports, Credits, Ticks, Restarts, Reopens, Asks}
 use Rattle.operator_steps.specs.Moves.{Work}
 use Rattle.operator_steps.specs.Service as service
 use Rattle.operator_steps.specs.Service.{ServiceLine}
@@ -277,7 +277,7 @@ module _ (s : State) (i : Input) (acts : List Act) where
       c (subst (λ l. Contains (all_changes l) c) (ap acts_in h.work_is) j)
 
   resends_caused : (last at : ℕ) (t : State) (part : List Act) → Resends last at t part → AreCaused part
-  resends_caused last at t part h c j = resent_leave at t.rows.pushes h.due Why c (subst (λ l. Contains (all_changes l) c) h.acts_are j)
+  resends_caused last at t part h c j = resent_leave t.providers at t.rows.pushes h.due Why c (subst (λ l. Contains (all_changes l) c) h.acts_are j)
 
   tick_caused : (at : ℕ) (work : Work) → acts ≡ work.acts → TickLine s at work → AreCaused acts
   tick_caused at work same (one, more, (ends, timeouts, one_is), (two, more_two, (expired, expiries, two_is), (three, more_three, deadlines, (four, rest, (again, resends, four_is), rest_is, more_three_is), more_two_is), more_is), work_is) c j =
@@ -320,3 +320,4 @@ asked_caused s (Reports at report) work line = report_caused s (Reports at repor
 asked_caused s (Credits at session) work (part, line, is) = credit_caused s (Credits at session) work.acts at session (subst (λ (w : Work). CreditLine s at session w.acts) (sym is) line)
 asked_caused s (Ticks at) work line = tick_caused s (Ticks at) work.acts at work refl line
 asked_caused s Restarts work line = absurd line
+asked_caused s (Reopens other) work line = absurd line

@@ -16,6 +16,7 @@ use Rattle.ocpi_types.specs.declared.rows.Change.TheVariants.{Put, Drop}
 use Rattle.ocpi_types.specs.declared.rows.Counter.{Counter}
 use Rattle.ocpi_types.specs.declared.rows.Counter.TheVariants as counter
 use Rattle.ocpi_types.specs.declared.sessions.Session.{Session}
+use Rattle.ocpi_types.specs.declared.site.SiteLine.{SiteLine}
 use Rattle.node_steps.specs.Acts.{Act, all_changes, all_messages, all_requests}
 use Rattle.node_steps.specs.Drafts.{Counters, Step, count_changes, counted}
 use Rattle.node_steps.specs.Messages.{Message, numbered}
@@ -23,9 +24,9 @@ use Rattle.operator_rows.specs.State.{Rows, State}
 use Rattle.operator_rows.specs.Stored.{AreApart, changed_all, change_key}
 use Rattle.operator_rows.specs.Rows.{AreChanges, HasRow}
 use Rattle.operator_rows.specs.Sound.{IsConsistent, MayChangeAll}
-use Rattle.operator_rows.specs.Steps.{IsNext, MayFollow, MayFollowFull, restarted}
+use Rattle.operator_rows.specs.Steps.{IsNext, MayFollow, MayFollowFull, reopened, restarted}
 use Rattle.operator_rows.proofs.RowChanges.{row_changes}
-use Rattle.operator_steps.specs.Events.{Event, Happens, Done, Restarted, Refused, Input, Arrives, Serves, Reports, Credits, Ticks, Restarts, Asks, event_out}
+use Rattle.operator_steps.specs.Events.{Event, Happens, Done, Restarted, Reopened, Refused, Input, Arrives, Serves, Reports, Credits, Ticks, Restarts, Reopens, Asks, event_out}
 use Rattle.operator_steps.specs.Moves.{AreInRange, Out, StepBy, Work, counters_of, idle, step_of_acts, step_of_work}
 use Rattle.operator_steps.proofs.Counts.{counters_in, counters_stay}
 use Rattle.operator_steps.proofs.Fitting.{numbered_for, rows_after}
@@ -51,6 +52,11 @@ pub record Follows (s : State) (changes : List Change) (t : State) : Type 0 wher
   pub sessions : (v : Session) → Contains changes (Put (row.Session v)) → IsNext s v
   pub cdrs : (x : Cdr) → Contains changes (Put (row.Cdr x)) → get s.rows.charged.cdrs (key x.id) ≡ None
 
+-- the setup is as it was, or that under which the operator starts again
+pub data IsUnder (s : State) (i : Input) (t : State) : Type 0 where
+  Same : t.site ≡ s.site → t.providers ≡ s.providers → IsUnder s i t
+  Other : (line : SiteLine) → i ≡ Reopens line → t.site ≡ line.site → t.providers ≡ line.parties.providers → IsUnder s i t
+
 pub record Does (s : State) (e : Event) (t : State) : Type 0 where
   pub acts : List Act
   pub caused : (c : Change) → Contains (all_changes acts) c → Cause s e.input acts c
@@ -71,9 +77,8 @@ pub record Does (s : State) (e : Event) (t : State) : Type 0 where
   pub apart : AreOrderly acts → AreApart e.changes
   -- and where what holds at all times holds, the step may be carried out
   pub follows : IsConsistent s → Follows s e.changes t
-  pub site : t.site ≡ s.site
   pub party : t.party ≡ s.party
-  pub providers : t.providers ≡ s.providers
+  pub under : IsUnder s e.input t
 
 -- where what holds at all times holds, what an input asks for may be carried out
 pub asked_may : (s : State) (i : Input) (work : Work) → IsConsistent s → Asks s i work → AreInRange s work.acts → MayFollowFull s (step_of_work s work)
@@ -83,6 +88,7 @@ asked_may s (Reports at report) work fine line range = reports at report s work 
 asked_may s (Credits at session) work fine line range = credits at session s work fine line range
 asked_may s (Ticks at) work fine line range = ticks at s work fine line range
 asked_may s Restarts work fine line range = absurd line
+asked_may s (Reopens other) work fine line range = absurd line
 
 -- a step that may be carried out, and the rows that it leaves
 step_follows : (s t : State) (changes : List Change) (x : Step) → IsConsistent s → MayFollow s x → changes ≡ x.changes → t.rows ≡ changed_all x.changes s.rows → Follows s changes t
@@ -132,13 +138,12 @@ does_step s e t by =
       to_acts = λ c i. subst (λ l. Contains l c) (sym is) (Contains-append_right counts (all_changes acts) c i);
       apart = λ orderly. subst AreApart (sym is) (orderly_apart s.party (counters_of s) acts orderly);
       follows = λ fine. step_follows s t e.changes (step_of_acts s acts) fine (asked_may s e.input by.work fine by.line by.in_range).step is rows;
-      site = ap (λ (o : Out). o.state.site) by.out_is;
       party = ap (λ (o : Out). o.state.party) by.out_is;
-      providers = ap (λ (o : Out). o.state.providers) by.out_is;
+      under = Same (ap (λ (o : Out). o.state.site) by.out_is) (ap (λ (o : Out). o.state.providers) by.out_is);
     }
 
-does_nothing : (s : State) (e : Event) (t u : State) → u.rows ≡ s.rows → u.site ≡ s.site → u.party ≡ s.party → u.providers ≡ s.providers → event_out e t ≡ idle u → Does s e t
-does_nothing s e t u same site party providers out =
+does_nothing : (s : State) (e : Event) (t u : State) → u.rows ≡ s.rows → u.party ≡ s.party → event_out e t ≡ idle u → IsUnder s e.input t → Does s e t
+does_nothing s e t u same party out under =
     let is : e.changes ≡ [] = ap (λ (o : Out). o.changes) out in
     let rows : t.rows ≡ s.rows = ap (λ (o : Out). o.state.rows) out ∙ same in
     record {
@@ -161,15 +166,15 @@ does_nothing s e t u same site party providers out =
         sessions = λ v i. absurd (in_none (Put (row.Session v)) i);
         cdrs = λ x i. absurd (in_none (Put (row.Cdr x)) i);
       });
-      site = ap (λ (o : Out). o.state.site) out ∙ site;
       party = ap (λ (o : Out). o.state.party) out ∙ party;
-      providers = ap (λ (o : Out). o.state.providers) out ∙ providers;
+      under = under;
     }
 
 pub does : (s t : State) (e : Event) → Happens s e t → Does s e t
 does s t e (Done by) = does_step s e t by
-does s t e (Restarted now is) = does_nothing s e t (restarted s) refl refl refl refl is
-does s t e (Refused is) = does_nothing s e t s refl refl refl refl is
+does s t e (Restarted now is) = does_nothing s e t (restarted s) refl refl is (Same (ap (λ (o : Out). o.state.site) is) (ap (λ (o : Out). o.state.providers) is))
+does s t e (Reopened line now may is) = does_nothing s e t (reopened line s) refl refl is (Other line now (ap (λ (o : Out). o.state.site) is) (ap (λ (o : Out). o.state.providers) is))
+does s t e (Refused same_setup is) = does_nothing s e t s refl refl is (Same (ap (λ (o : Out). o.state.site) is) (ap (λ (o : Out). o.state.providers) is))
 
 -- the key of a row of its own is no counter's
 no_count : (r : Row) (c : Counter) → IsOwn r → key_of r ≢ keys.Count c

@@ -60,7 +60,7 @@ use Rattle.operator_steps.specs.Charger.{ChargerLine, IsStarted, Shows, outcome}
 use Rattle.operator_steps.specs.Credits as credits
 use Rattle.operator_steps.specs.Credits.{CreditLine, next_credit}
 use Rattle.operator_steps.specs.Ends.{all_resent, ends_acts, expired_acts}
-use Rattle.operator_steps.specs.Events.{Input, Arrives, Serves, Reports, Credits, Ticks, Restarts, Asks}
+use Rattle.operator_steps.specs.Events.{Input, Arrives, Serves, Reports, Credits, Ticks, Restarts, Reopens, Asks}
 use Rattle.operator_steps.specs.Moves.{Work}
 use Rattle.operator_steps.specs.Service as service
 use Rattle.operator_steps.specs.Service.{ServiceLine}
@@ -384,15 +384,15 @@ module _ (s : State) (i : Input) (acts : List Act) where
   counted_reason : (now : ℕ) → s.rows.charged.last_session ≤ now → AllOf Why (all_changes (counting s.rows.charged.last_session now))
   counted_reason now above = elim (nat_eq s.rows.charged.last_session now) as (λ b. AllOf Why (all_changes (map changed (cond b [] (Put (row.Count counter.Session now) ∷ []))))) [ true ↦ tt | false ↦ (above, tt) ]
 
-  none_resent : (at : ℕ) (due : List ℕ) (c : Change) → Contains (all_changes (all_resent at s.rows.pushes due)) c → Why c
-  none_resent at due c j = resent_leave at s.rows.pushes due Why c j
+  none_resent : (at : ℕ) (due : List ℕ) (c : Change) → Contains (all_changes (all_resent s.providers at s.rows.pushes due)) c → Why c
+  none_resent at due c j = resent_leave s.providers at s.rows.pushes due Why c j
 
   tick_reason : (at : ℕ) (work : Work) → acts ≡ work.acts → IsTickOf s at work → AreReasoned
   tick_reason at work same h c j =
       let ends : List Act = ends_acts at s.rows.commands.pending s.rows.request h.ends in
       let expiring : List Act = expired_acts h.expired in
       let counts : List Act = counting s.rows.charged.last_session h.now in
-      let again : List Act = all_resent at s.rows.pushes h.due in
+      let again : List Act = all_resent s.providers at s.rows.pushes h.due in
       let all : List Act = (ends ++ expiring) ++ ((counts ++ h.begun) ++ again) in
       let is : acts ≡ all = same ∙ ap acts_in h.work_is in
       let whole : IsPart s i acts all = record { changes = λ d k. subst (λ l. Contains (all_changes l) d) (sym is) k; messages = λ m k. subst (λ l. Contains (all_messages l) m) (sym is) k } in
@@ -428,3 +428,4 @@ asked_reason s (Credits at session) work fine (part, line, is) =
     credit_reason s (Credits at session) work.acts at session refl (subst (λ (w : Work). CreditLine s at session w.acts) (sym is) line)
 asked_reason s (Ticks at) work fine line = tick_reason s (Ticks at) work.acts at work refl ((stages_see s at work fine).0 line)
 asked_reason s Restarts work fine line = absurd line
+asked_reason s (Reopens other) work fine line = absurd line

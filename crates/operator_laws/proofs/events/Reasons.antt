@@ -40,6 +40,7 @@ use Rattle.outbox.specs.Pushes.{subject, subject_of}
 use Rattle.outbox.specs.declared.push_book.Outgoing.{Outgoing}
 use Rattle.node_steps.specs.Acts.{Act, all_changes, all_messages, asked, push_message}
 use Rattle.node_steps.specs.Messages.{Message}
+use Rattle.node_steps.specs.Peers.{spelled}
 use Rattle.operator_rows.specs.State.{State, IsSpent}
 use Rattle.operator_steps.specs.Acts.{told}
 use Rattle.operator_steps.specs.Events.{Input, Arrives}
@@ -191,6 +192,6 @@ module _ (s : State) (i : Input) (acts : List Act) where
     Replies : (r : Reply) → m.body ≡ body_of_reply r → Contains s.providers m.to →
         Makes (Put (row.Reply (key m.to) m.request r)) ⊎ (get s.rows.commands.replies (key m.to, m.request) ≡ Some r) → Saying m
     Pushes : (p : Push) → m.body ≡ body_of_push p → Makes (Put (row.Push m.request m.to p)) → Saying m
-    Again : (p : Push) → m.body ≡ body_of_push p → get s.rows.pushes m.request ≡ Some (record { to = m.to; push = p }) → Saying m
+    Again : (to : List ℕ) (p : Push) → m.body ≡ body_of_push p → m.to ≡ spelled s.providers to → get s.rows.pushes m.request ≡ Some (record { to = to; push = p }) → Saying m
     Asks : (a : Authorize) → m.body ≡ body.Authorize a → Contains s.providers m.to → m.request ≡ s.rows.request + 1 →
         acts ≡ asked (s.rows.request + 1) m.to (body.Authorize a) ∷ [] → Saying m

@@ -28,7 +28,7 @@ use Rattle.reservation_book.specs.declared.standing.Standing.{Standing}
 use Rattle.node_steps.specs.Acts.{Act, acknowledged, all_changes, all_messages, answered, asked, changed, pushed}
 use Rattle.node_steps.specs.Drafts.{count_change}
 use Rattle.node_steps.specs.Messages.{Message}
-use Rattle.node_steps.specs.Peers.{IsPeer}
+use Rattle.node_steps.specs.Peers.{IsPeer, spelled}
 use Rattle.node_steps.proofs.Gathering.{messages_append}
 use Rattle.operator_rows.specs.State.{State}
 use Rattle.operator_rows.specs.Sound.{IsConsistent}
@@ -44,7 +44,7 @@ use Rattle.operator_steps.specs.Charger.{ChargerLine}
 use Rattle.operator_steps.specs.Credits as credits
 use Rattle.operator_steps.specs.Credits.{CreditLine, next_credit}
 use Rattle.operator_steps.specs.Ends.{all_resent, end_acts, ends_acts, expired_acts, resent_acts, url_in}
-use Rattle.operator_steps.specs.Events.{Input, Arrives, Serves, Reports, Credits, Ticks, Restarts, Asks}
+use Rattle.operator_steps.specs.Events.{Input, Arrives, Serves, Reports, Credits, Ticks, Restarts, Reopens, Asks}
 use Rattle.operator_steps.specs.Moves.{Work}
 use Rattle.operator_steps.specs.Service as service
 use Rattle.operator_steps.specs.Service.{ServiceLine}
@@ -242,26 +242,26 @@ module _ (s : State) (i : Input) (acts : List Act) where
   credit_said at session (credits.NothingToCredit none is) = all_plain [] is tt
 
   -- what is sent again stood
-  again_said : (at : ℕ) (due : List ℕ) (m : Message) → Contains (all_messages (all_resent at s.rows.pushes due)) m → Saying s i acts m
+  again_said : (at : ℕ) (due : List ℕ) (m : Message) → Contains (all_messages (all_resent s.providers at s.rows.pushes due)) m → Saying s i acts m
   again_said at [] m j = absurd (in_none m j)
-  again_said at (n ∷ ns) m j = elim (Contains-append_cases (all_messages (resent_acts at n (get s.rows.pushes n))) (all_messages (all_resent at s.rows.pushes ns)) m
-      (subst (λ l. Contains l m) (messages_append (resent_acts at n (get s.rows.pushes n)) (all_resent at s.rows.pushes ns)) j)) [
+  again_said at (n ∷ ns) m j = elim (Contains-append_cases (all_messages (resent_acts s.providers at n (get s.rows.pushes n))) (all_messages (all_resent s.providers at s.rows.pushes ns)) m
+      (subst (λ l. Contains l m) (messages_append (resent_acts s.providers at n (get s.rows.pushes n)) (all_resent s.providers at s.rows.pushes ns)) j)) [
         | inl here ↦ by (get s.rows.pushes n) refl here
         | inr there ↦ again_said at ns m there
       ]
     where
-      by : (o : Option Outgoing) → get s.rows.pushes n ≡ o → Contains (all_messages (resent_acts at n o)) m → Saying s i acts m
+      by : (o : Option Outgoing) → get s.rows.pushes n ≡ o → Contains (all_messages (resent_acts s.providers at n o)) m → Saying s i acts m
       by None stands k = absurd (in_none m k)
       by (Some o) stands k =
-          let it : record { to = o.to; request = n; body = body_of_push o.push } ≡ m = in_single _ m k in
-          reasons.Again o.push (ap (λ (z : Message). z.body) (sym it)) (subst (λ (z : Message). get s.rows.pushes z.request ≡ Some (record { to = z.to; push = o.push })) it stands)
+          let it : record { to = spelled s.providers o.to; request = n; body = body_of_push o.push } ≡ m = in_single _ m k in
+          reasons.Again o.to o.push (ap (λ (z : Message). z.body) (sym it)) (ap (λ (z : Message). z.to) (sym it)) (subst (λ (z : Message). get s.rows.pushes z.request ≡ Some o) it stands)
 
   tick_said : (at : ℕ) (work : Work) → acts ≡ work.acts → IsTickOf s at work → AreSaid
   tick_said at work same h m j =
       let ends : List Act = ends_acts at s.rows.commands.pending s.rows.request h.ends in
       let expiring : List Act = expired_acts h.expired in
       let counts : List Act = map changed (count_change counter.Session s.rows.charged.last_session h.now) in
-      let again : List Act = all_resent at s.rows.pushes h.due in
+      let again : List Act = all_resent s.providers at s.rows.pushes h.due in
       let front : List Act = ends ++ expiring in
       let middle : List Act = counts ++ h.begun in
       let is : acts ≡ front ++ (middle ++ again) = same ∙ ap acts_in h.work_is in
@@ -289,3 +289,4 @@ asked_said s (Reports at report) work fine line = report_said s (Reports at repo
 asked_said s (Credits at session) work fine (part, line, is) = credit_said s (Credits at session) work.acts at session (subst (λ (w : Work). CreditLine s at session w.acts) (sym is) line)
 asked_said s (Ticks at) work fine line = tick_said s (Ticks at) work.acts at work refl ((stages_see s at work fine).0 line)
 asked_said s Restarts work fine line = absurd line
+asked_said s (Reopens other) work fine line = absurd line

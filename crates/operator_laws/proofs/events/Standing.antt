@@ -12,8 +12,8 @@ use Rattle.ocpi_types.specs.declared.stored.OpenCommand.{OpenCommand}
 use Rattle.node_steps.specs.Acts.{Act}
 use Rattle.operator_rows.specs.State.{State, opening}
 use Rattle.operator_rows.specs.Sound.{IsConsistent}
-use Rattle.operator_rows.proofs.KeepingTimes.{follow_full_consistent, opening_consistent, restarted_consistent}
-use Rattle.operator_steps.specs.Events.{Arrives, Event, Happens, Done, Restarted, Refused, Input}
+use Rattle.operator_rows.proofs.KeepingTimes.{follow_full_consistent, opening_consistent, reopened_consistent, restarted_consistent}
+use Rattle.operator_steps.specs.Events.{Arrives, Event, Happens, Done, Restarted, Reopened, Refused, Input}
 use Rattle.operator_steps.specs.Moves.{Out, step_of_work}
 use Rattle.operator_laws.specs.Laws.{HoldsAlways, IsOfParty}
 use Rattle.operator_laws.specs.References.{AreSpent, Carries, HaveOneCarrier, Uses}
@@ -25,7 +25,8 @@ pub consistent_stays : (s t : State) (e : Event) → Happens s e t → IsConsist
 consistent_stays s t e (Done by) fine =
     subst (λ (o : Out). IsConsistent o.state) (sym by.out_is) (follow_full_consistent s (step_of_work s by.work) (asked_may s e.input by.work fine by.line by.in_range) fine)
 consistent_stays s t e (Restarted now is) fine = subst (λ (o : Out). IsConsistent o.state) (sym is) (restarted_consistent s fine)
-consistent_stays s t e (Refused is) fine = subst (λ (o : Out). IsConsistent o.state) (sym is) fine
+consistent_stays s t e (Reopened line now may is) fine = subst (λ (o : Out). IsConsistent o.state) (sym is) (reopened_consistent line s may.sound fine)
+consistent_stays s t e (Refused same_setup is) fine = subst (λ (o : Out). IsConsistent o.state) (sym is) fine
 
 -- two decisions of one event are on one packet
 pub one_packet : (s : State) (i : Input) (acts : List Act) (g h : DecidesIt s i acts) → g.packet ≡ h.packet

@@ -4,9 +4,11 @@ use Rattle.std.specs.Prelude.{Some, Contains, slice_get}
 use Rattle.std.specs.Option.{option_map}
 use Rattle.std.specs.FinMap.{get, get-empty}
 use Rattle.std.specs.Ordering.{nat_cmp}
-use Rattle.std.proofs.lemmas.List.Elements.{Contains-append_cases}
+use Rattle.std.specs.List.{flat_map}
+use Rattle.std.proofs.lemmas.List.Elements.{Contains-append_cases, Contains-append_left, Contains-append_right}
 use Rattle.tables.proofs.Elements.{in_none, in_front, in_single}
 use Rattle.tables.proofs.Options.{not_both}
+use Rattle.ocpi_text.specs.Text.{key}
 use Rattle.ocpi_types.specs.Stored.{body_of_push}
 use Rattle.ocpi_types.specs.declared.packet.Packet.{Packet}
 use Rattle.ocpi_types.specs.declared.packet.Body.{Body}
@@ -14,7 +16,7 @@ use Rattle.ocpi_types.specs.declared.packet.Body.TheVariants as body
 use Rattle.ocpi_types.specs.declared.site.SiteLine.{SiteLine}
 use Rattle.ocpi_types.specs.declared.stored.Push.{Push}
 use Rattle.ocpi_types.specs.declared.stored.Push.TheVariants as push
-use Rattle.node_laws.specs.Nodes.{Request, AreAboutSame, AreGiven, IsSettled, Acknowledged, Replaced, Responded, Resulted, Sessions, Tokens, exchanged, request_of}
+use Rattle.node_laws.specs.Nodes.{Node, Request, AreAboutSame, AreGiven, IsSettled, Acknowledged, Replaced, Responded, Resulted, Sessions, Tokens, exchanged, request_of}
 use Rattle.node_laws.specs.Laws as nodes
 use Rattle.node_laws.proofs.BodyKinds.{command_or_push}
 use Rattle.node_laws.proofs.NodeRuns as laws
@@ -22,17 +24,28 @@ use Rattle.node_laws.proofs.Lists.{in_joined}
 use Rattle.operator_rows.specs.State.{State, opening}
 use Rattle.operator_rows.proofs.KeepingTimes.{opening_consistent}
 use Rattle.operator_rows.proofs.RowChanges.{in_later, of_cons}
-use Rattle.operator_steps.specs.Events.{Arrives, Credits, Event, Input, Reports, Restarts, Serves, Ticks}
-use Rattle.operator_laws.specs.AsNode.{node, came_in, exchange, pushed_request, RunsAreNodeRuns, PacketsAreAddressed, PushesWereSent}
-use Rattle.operator_laws.specs.Laws.{Acknowledged as WasAcknowledged, Came, IsOfParty, IsPushed, IsResultOrRecord, Numbered, PushesStand, RequestsAgree, Run, SentRepliesAreKept, sent}
-use Rattle.operator_laws.proofs.events.Doing.{does}
+use Rattle.operator_steps.specs.Events.{Arrives, Credits, Event, Input, Reopens, Reports, Restarts, Serves, Ticks}
+use Rattle.operator_laws.specs.AsNode.{AreAmong, node, wide, came_in, exchange, pushed_request, RunsAreNodeRuns, PacketsAreAddressed, PushesWereSent}
+use Rattle.operator_laws.specs.Laws.{Acknowledged as WasAcknowledged, Came, IsOfParty, IsPushed, IsResultOrRecord, Numbered, PushesStand, RequestsAgree, Run, SentRepliesAreKept, providers_in, sent, setup_of, setups_in}
+use Rattle.operator_laws.proofs.events.Doing.{IsUnder, Same, Other, does}
 use Rattle.operator_laws.proofs.events.Standing.{consistent_stays}
 pub use Rattle.operator_laws.proofs.nodes.NodeSteps.{shown}
 use Rattle.operator_laws.proofs.nodes.NodeSteps.{counts, steps_are_node_steps}
 
+-- whatever setup an event leaves, its providers are among them
+still_among : (ps : List (List ℕ)) (s u : State) (e : Event) → AreAmong s.providers ps → ((line : SiteLine) → Contains (setup_of e.input) line → AreAmong line.parties.providers ps) → IsUnder s e.input u → AreAmong u.providers ps
+still_among ps s u e among setups (Same site is) = subst (λ l. AreAmong l ps) (sym is) among
+still_among ps s u e among setups (Other line now site is) =
+    subst (λ l. AreAmong l ps) (sym is) (setups line (subst (λ i. Contains (setup_of i) line) (sym now) (in_front line [])))
+
 pub runs_are_node_runs : RunsAreNodeRuns
-runs_are_node_runs s t [] fine run = ap node run
-runs_are_node_runs s t (e ∷ es) fine (u, first, rest) = (node u, steps_are_node_steps s u e fine first, runs_are_node_runs u t es (consistent_stays s u e first fine) rest)
+runs_are_node_runs ps s t [] among setups fine run = ap (λ (z : State). node (wide ps z)) run
+runs_are_node_runs ps s t (e ∷ es) among setups fine (u, first, rest) = (
+  node (wide ps u),
+  steps_are_node_steps ps s u e among fine first,
+  runs_are_node_runs ps u t es (still_among ps s u e among (λ line i. setups line (Contains-append_left (setup_of e.input) (setups_in es) line i)) (does s u e first).under)
+      (λ line i. setups line (Contains-append_right (setup_of e.input) (setups_in es) line i)) (consistent_stays s u e first fine) rest,
+)
 
 same_sent : (es : List Event) → nodes.sent (map exchange es) ≡ sent es
 same_sent [] = refl
@@ -41,11 +54,19 @@ same_sent (e ∷ es) = ap (λ l. e.packets ++ l) (same_sent es)
 pub is_sent : (es : List Event) (x : Packet) → Contains (sent es) x → Contains (nodes.sent (map exchange es)) x
 is_sent es x h = subst (λ l. Contains l x) (sym (same_sent es)) h
 
-none_stand : (line : SiteLine) (n : ℕ) (r : Request) → (node (opening line)).standing n ≡ Some r → ⊥
-none_stand line n r has = let (o, stands, is) = shown _ r has in not_both o _ (get-empty nat_cmp n) stands
+none_stand : (ps : List (List ℕ)) (line : SiteLine) (n : ℕ) (r : Request) → (node (wide ps (opening line))).standing n ≡ Some r → ⊥
+none_stand ps line n r has = let (o, stands, is) = shown _ r has in not_both o _ (get-empty nat_cmp n) stands
 
-pub all_given : (line : SiteLine) → AreGiven (node (opening line))
-all_given line n r has = absurd (none_stand line n r has)
+pub all_given : (ps : List (List ℕ)) (line : SiteLine) → AreGiven (node (wide ps (opening line)))
+all_given ps line n r has = absurd (none_stand ps line n r has)
+
+-- the providers of one setup are among those of all
+pub in_flat : (ls : List SiteLine) (l : SiteLine) (x : List ℕ) → Contains ls l → Contains l.parties.providers x → Contains (flat_map (λ (l : SiteLine). l.parties.providers) ls) x
+in_flat [] l x i j = absurd (in_none l i)
+in_flat (k ∷ ls) l x i j = elim (of_cons k ls l i) [
+  | inl same ↦ Contains-append_left k.parties.providers (flat_map (λ (l : SiteLine). l.parties.providers) ls) x (subst (λ (z : SiteLine). Contains z.parties.providers x) (sym same) j)
+  | inr later ↦ Contains-append_right k.parties.providers (flat_map (λ (l : SiteLine). l.parties.providers) ls) x (in_flat ls l x later j)
+]
 
 pub placed : {X : Type 0} (xs : List X) (x : X) → Contains xs x → (k : ℕ) × (slice_get xs k ≡ Some x)
 placed [] x h = absurd (in_none x h)
@@ -62,6 +83,7 @@ of_input (Reports at report) q h = absurd (in_none q h)
 of_input (Credits at session) q h = absurd (in_none q h)
 of_input (Ticks at) q h = absurd (in_none q h)
 of_input Restarts q h = absurd (in_none q h)
+of_input (Reopens line) q h = absurd (in_none q h)
 
 pub came_of : (es : List Event) (q : Packet) → Contains (exchanged (map exchange es)).came q → Came es q
 came_of [] q h = absurd (in_none q h)
@@ -82,18 +104,29 @@ unreplaced r q (inr (c, is)) (Sessions x y e f g h) = let bad : body.PostCdr c �
 unreplaced r q (inr (c, is)) (Tokens x y e f g h i j) = let bad : body.PostCdr c ≡ body.PutToken x = sym is ∙ e in cc
 
 module _ (line : SiteLine) (es : List Event) (t : State) (own : IsOfParty line) (run : Run (opening line) es t) where
-  abbrev pub as_run : nodes.NodeRun (node (opening line)) (map exchange es) (node t)
-  as_run = runs_are_node_runs (opening line) t es (opening_consistent line own) run
+  -- all providers that it was ever set up with
+  abbrev pub ps : List (List ℕ)
+  ps = providers_in line es
 
-  addressed : (x : Packet) → Contains (sent es) x → (x.from ≡ line.parties.operator) × Contains line.parties.providers x.to
+  abbrev pub before : Node
+  before = node (wide ps (opening line))
+
+  abbrev pub after : Node
+  after = node (wide ps t)
+
+  abbrev pub as_run : nodes.NodeRun before (map exchange es) after
+  as_run = runs_are_node_runs ps (opening line) t es (λ x i. Contains-append_left line.parties.providers (flat_map (λ (l : SiteLine). l.parties.providers) (setups_in es)) x i)
+      (λ l i x j. Contains-append_right line.parties.providers (flat_map (λ (l : SiteLine). l.parties.providers) (setups_in es)) x (in_flat (setups_in es) l x i j)) (opening_consistent line own) run
+
+  addressed : (x : Packet) → Contains (sent es) x → (x.from ≡ line.parties.operator) × Contains (providers_in line es) x.to
   addressed x h =
-      let step = laws.runs_are_steps (node (opening line)) (node t) (map exchange es) as_run in
+      let step = laws.runs_are_steps before after (map exchange es) as_run in
       let place = placed (nodes.sent (map exchange es)) x (is_sent es x h) in
-      ((step.counts.each place.0 x place.1).from, (step.asks (all_given line)).to_peer x (is_sent es x h))
+      ((step.counts.each place.0 x place.1).from, (step.asks (all_given ps line)).to_peer x (is_sent es x h))
 
   standing_or_settled : (x : Packet) → Contains (sent es) x → IsResultOrRecord x.body → IsPushed t x.request x.to x.body ⊎ WasAcknowledged es x.to x.request
-  standing_or_settled x h is = elim (laws.requests_stand (node (opening line)) (node t) (map exchange es) as_run (all_given line) x (is_sent es x h) (inr (plain_push x.body is))) [
-    | inl stands ↦ let (o, has, same) = shown (get t.rows.pushes x.request) (request_of x) stands in inl (o, has, ap (λ (r : Request). r.to) same, ap (λ (r : Request). r.body) same)
+  standing_or_settled x h is = elim (laws.requests_stand before after (map exchange es) as_run (all_given ps line) x (is_sent es x h) (inr (plain_push x.body is))) [
+    | inl (r, stands, carries) ↦ let (o, has, same) = shown (get t.rows.pushes x.request) r stands in inl (o, has, ap (λ (r : Request). key r.to) same ∙ sym carries.to, ap (λ (r : Request). r.body) same ∙ sym carries.body)
     | inr settled ↦ inr (by settled)
   ]
     where
@@ -111,8 +144,8 @@ packets_are_addressed line es t own run x h = addressed line es t own run x h
 
 pub pushes_were_sent : PushesWereSent
 pushes_were_sent line es t own run n o has =
-    elim (laws.requests_were_sent (node (opening line)) (node t) (map exchange es) (as_run line es t own run) (all_given line) n (pushed_request o) (ap (option_map pushed_request) has)) [
-      | inl old ↦ absurd (none_stand line n (pushed_request o) old)
+    elim (laws.requests_were_sent (before line es t own run) (after line es t own run) (map exchange es) (as_run line es t own run) (all_given (providers_in line es) line) n (pushed_request o) (ap (option_map pushed_request) has)) [
+      | inl old ↦ absurd (none_stand (providers_in line es) line n (pushed_request o) old)
       | inr m ↦ (m.packet, subst (λ l. Contains l m.packet) (same_sent es) m.was_sent, m.number, ap (λ (r : Request). r.to) m.request, ap (λ (r : Request). r.body) m.request)
     ]
 
@@ -121,7 +154,7 @@ numbered_on : (es : List Event) (s t : State) → Run s es t → (i : ℕ) (x : 
 numbered_on [] s t run i x at = cc
 numbered_on (e ∷ es) s t (u, first, rest) i x at =
     let d = does s u e first in
-    let counts = counts s u e d in
+    let counts = counts s u e d [] in
     elim (in_joined e.packets (sent es) i x at) [
       | inl here ↦ (counts.each i x here).serial
       | inr (j, is, there) ↦ let later = numbered_on es u t rest j x there in let more = counts.serial in omega (arith, later, is, more)
@@ -131,12 +164,12 @@ pub numbered : Numbered
 numbered line es t run i x at = let is = numbered_on es (opening line) t run i x at in omega (arith, is)
 
 pub sent_replies_are_kept : SentRepliesAreKept
-sent_replies_are_kept line es t own run x r h is = laws.sent_replies_are_kept (node (opening line)) (node t) (map exchange es) (as_run line es t own run) x r (is_sent es x h) is
+sent_replies_are_kept line es t own run x r h is = laws.sent_replies_are_kept (before line es t own run) (after line es t own run) (map exchange es) (as_run line es t own run) x r (is_sent es x h) is
 
 pub requests_agree : RequestsAgree
 requests_agree line es t own run x y i j x_apart y_apart same =
-    let one = laws.requests_agree (node (opening line)) (node t) (map exchange es) (as_run line es t own run) (all_given line) x y (is_sent es x i) (is_sent es y j) x_apart y_apart same in
-    (ap (λ (r : Request). r.body) one, ap (λ (r : Request). r.to) one)
+    let one = laws.requests_agree (before line es t own run) (after line es t own run) (map exchange es) (as_run line es t own run) (all_given (providers_in line es) line) x y (is_sent es x i) (is_sent es y j) x_apart y_apart same in
+    (one.body, one.to)
 
 pub pushes_stand : PushesStand
 pushes_stand line es t own run x h is = standing_or_settled line es t own run x h is

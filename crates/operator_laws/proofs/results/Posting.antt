@@ -20,6 +20,7 @@ use Rattle.ocpi_types.specs.declared.stored.OpenCommand.{OpenCommand}
 use Rattle.ocpi_types.specs.declared.stored.Push.{Push}
 use Rattle.ocpi_types.specs.declared.stored.Push.TheVariants as push
 use Rattle.outbox.specs.declared.push_book.Outgoing.{Outgoing}
+use Rattle.node_steps.proofs.Spelling.{spelled_same}
 use Rattle.node_laws.proofs.BodyKinds.{asked_once, no_push}
 use Rattle.operator_rows.specs.State.{State, opening}
 use Rattle.operator_rows.specs.Sound.{IsConsistent}
@@ -61,6 +62,16 @@ module _ (W : Packet → Type 0) where
 
   abbrev ArePosted : State → Type 0
   ArePosted s = (m : ℕ) (o : Outgoing) (a : CommandResult) → get s.rows.pushes m ≡ Some o → o.push ≡ push.CommandResult a → IsPosted s o.to a
+
+  -- it is posted to its party however that is spelled
+  respelled : (s : State) (to other : List ℕ) (a : CommandResult) → key other ≡ key to → IsPosted s to a → IsPosted s other a
+  respelled s to other a same h = record {
+    number = h.number;
+    command = h.command;
+    asked = subst (λ k. Asked W k h.number h.command) (sym same) h.asked;
+    url_is = h.url_is;
+    kept_is = subst (λ k. get s.rows.commands.results (k, h.number) ≡ Some a.result) (sym same) h.kept_is;
+  }
 
   -- what the event brings is among these
   abbrev Brings : Event → Type 0
@@ -146,7 +157,9 @@ module _ (W : Packet → Type 0) where
       by : Saying s e.input d.acts (message_of x) → IsPosted t x.to a
       by (reasons.Replies q body_is listed how) = absurd (no_push q (push.CommandResult a) (sym body_is ∙ is))
       by (reasons.Pushes p body_is puts) = after.posted x.request (record { to = x.to; push = p }) a (made_stands s t e d before.fine after.fine x.request x.to p puts) (result_push p a (sym body_is ∙ is))
-      by (reasons.Again p body_is stood) = posted_stays s t e d brings before.fine x.to a (before.posted x.request (record { to = x.to; push = p }) a stood (result_push p a (sym body_is ∙ is)))
+      by (reasons.Again to p body_is to_is stood) =
+          respelled t to x.to a (ap key to_is ∙ spelled_same s.providers to)
+          (posted_stays s t e d brings before.fine to a (before.posted x.request (record { to = to; push = p }) a stood (result_push p a (sym body_is ∙ is))))
       by (reasons.Asks q body_is listed number acts_are) = absurd ((asked_once x.body q body_is).1 (inr (push.CommandResult a, is)))
 
   sent_posted : (es : List Event) (s t : State) → Run s es t → ((e : Event) → Contains es e → Brings e) → Keeps s → (x : Packet) (a : CommandResult) → Contains (sent es) x → x.body ≡ body.CommandResult a → IsPosted t x.to a

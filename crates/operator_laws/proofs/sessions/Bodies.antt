@@ -16,6 +16,7 @@ use Rattle.ocpi_types.specs.declared.rows.Row.TheVariants as row
 use Rattle.ocpi_types.specs.declared.stored.Push.{Push}
 use Rattle.ocpi_types.specs.declared.stored.Push.TheVariants as push
 use Rattle.outbox.specs.declared.push_book.Outgoing.{Outgoing}
+use Rattle.node_steps.proofs.Spelling.{spelled_same}
 use Rattle.node_laws.proofs.BodyKinds.{asked_once, no_push}
 use Rattle.operator_rows.specs.State.{State, opening}
 use Rattle.operator_rows.specs.Sound.{IsConsistent}
@@ -76,6 +77,13 @@ module _ (V : Row → Type 0) where
   stays_of s t to (push.CommandResult r) stay h = tt
   stays_of s t to (push.PutToken x) stay h = h
 
+  -- and to its party however that is spelled
+  respelled_of : (t : State) (to other : List ℕ) (p : Push) → key other ≡ key to → IsOf t to p → IsOf t other p
+  respelled_of t to other (push.PutSession v) same h = (h.0, same ∙ h.1)
+  respelled_of t to other (push.PostCdr x) same h = (h.0, same ∙ h.1)
+  respelled_of t to other (push.CommandResult r) same h = tt
+  respelled_of t to other (push.PutToken x) same h = h
+
   module _ (s t : State) (e : Event) (d : Does s e t) (fine : IsConsistent s) (all : AllPut e) where
     carried_of : (to : List ℕ) (p : Push) → Carrying s e.input d.acts to p → IsOf t to p
     carried_of to p (reasons.OfResult h) = subst (IsOf t to) (sym h.push_is) tt
@@ -102,8 +110,9 @@ module _ (V : Row → Type 0) where
       by : Saying s e.input d.acts (message_of x) → IsOf t x.to p
       by (reasons.Replies q body_is listed how) = absurd (no_push q p (sym body_is ∙ is))
       by (reasons.Pushes q body_is puts) = subst (IsOf t x.to) (one_push q p (sym body_is ∙ is)) (carried_of s t e d before.fine all x.to q (d.reasons before.fine (Put (row.Push x.request x.to q)) puts).carries)
-      by (reasons.Again q body_is stood) =
-          subst (IsOf t x.to) (one_push q p (sym body_is ∙ is)) (stays_of s t x.to q (cdr_stays s t e d before.fine) (before.of x.request (record { to = x.to; push = q }) stood))
+      by (reasons.Again to q body_is to_is stood) =
+          subst (IsOf t x.to) (one_push q p (sym body_is ∙ is)) (respelled_of t to x.to q (ap key to_is ∙ spelled_same s.providers to)
+          (stays_of s t to q (cdr_stays s t e d before.fine) (before.of x.request (record { to = to; push = q }) stood)))
       by (reasons.Asks a body_is listed number acts_are) = absurd ((asked_once x.body a body_is).1 (inr (p, is)))
 
   sent_of : (es : List Event) (s t : State) → Run s es t → ((e : Event) → Contains es e → AllPut e) → Keeps s → (x : Packet) (p : Push) → Contains (sent es) x → x.body ≡ body_of_push p → IsOf t x.to p

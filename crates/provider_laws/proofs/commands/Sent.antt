@@ -6,6 +6,7 @@ use Rattle.std.specs.FinMap.{get, insert, nat_cmp-IsAntisymmetric}
 use Rattle.std.proofs.lemmas.List.Elements.{Contains-append_cases, Contains-append_right}
 use Rattle.tables.proofs.Elements.{in_front, in_none, in_single}
 use Rattle.tables.proofs.Maps.{get-insert_same}
+use Rattle.ocpi_text.specs.Text.{key}
 use Rattle.ocpi_types.specs.Stored.{body_of_push, body_of_reply}
 use Rattle.ocpi_types.specs.declared.events.Order.{Order}
 use Rattle.ocpi_types.specs.declared.packet.Body.TheVariants as body
@@ -21,12 +22,14 @@ use Rattle.outbox.specs.Commands.{Commands}
 use Rattle.outbox.specs.Outbox.{OutboxRows}
 use Rattle.node_steps.specs.Acts.{Act, all_messages, all_requests, command_message, commanded, in_turn, push_message, pushed, unanswered}
 use Rattle.node_steps.specs.Messages.{Message, numbered}
+use Rattle.node_steps.specs.Peers.{spelled}
 use Rattle.node_steps.proofs.Gathering.{messages_append}
+use Rattle.node_steps.proofs.Spelling.{spelled_same}
 use Rattle.node_laws.proofs.BodyKinds.{command_or_push, no_command}
 use Rattle.provider_rows.specs.State.{Rows, State}
 use Rattle.provider_steps.specs.declared.pushing.Pushing.{Pushing}
 use Rattle.provider_steps.specs.Acts.{referenced, replaced, token_acts}
-use Rattle.provider_steps.specs.Events.{Arrives, Asks, Done, Event, Gives, Happens, Input, Refused, Restarted, Restarts, Submits, Ticks}
+use Rattle.provider_steps.specs.Events.{Arrives, Asks, Done, Event, Gives, Happens, Input, Refused, Reopened, Reopens, Restarted, Restarts, Submits, Ticks}
 use Rattle.provider_steps.specs.Moves.{Out}
 use Rattle.provider_steps.specs.Orders as orders
 use Rattle.provider_steps.specs.Orders.{Makes, next_reference, next_request}
@@ -43,14 +46,14 @@ same_command : (c d : Command) → body.Command c ≡ body.Command d → c ≡ d
 same_command c d e = cc
 
 -- a packet carries one of the messages
-record Carried (ms : List Message) (x : Packet) : Type 0 where
-  message : Message
-  listed : Contains ms message
-  to : message.to ≡ x.to
-  request : message.request ≡ x.request
-  body : message.body ≡ x.body
+pub record Carried (ms : List Message) (x : Packet) : Type 0 where
+  pub message : Message
+  pub listed : Contains ms message
+  pub to : message.to ≡ x.to
+  pub request : message.request ≡ x.request
+  pub body : message.body ≡ x.body
 
-of_numbered : (party : List ℕ) (serial : ℕ) (ms : List Message) (x : Packet) → Contains (numbered party serial ms) x → Carried ms x
+pub of_numbered : (party : List ℕ) (serial : ℕ) (ms : List Message) (x : Packet) → Contains (numbered party serial ms) x → Carried ms x
 of_numbered party serial [] x h = absurd (in_none x h)
 of_numbered party serial (m ∷ ms) x h =
     let first : Packet = record { from = party; to = m.to; serial = serial + 1; request = m.request; body = m.body } in
@@ -67,8 +70,8 @@ of_numbered party serial (m ∷ ms) x h =
 data Says (before after : Commands) (m : Message) : Type 0 where
   WithReply : (r : Reply) → m.body ≡ body_of_reply r → Says before after m
   WithPush : (p : Push) → m.body ≡ body_of_push p → Says before after m
-  WithOldCommand : (c : SentCommand) → get before m.request ≡ Some c → m.to ≡ c.to → m.body ≡ body.Command c.command → Says before after m
-  WithNewCommand : (c : SentCommand) → get after m.request ≡ Some c → m.to ≡ c.to → m.body ≡ body.Command c.command → Says before after m
+  WithOldCommand : (c : SentCommand) → get before m.request ≡ Some c → key m.to ≡ key c.to → m.body ≡ body.Command c.command → Says before after m
+  WithNewCommand : (c : SentCommand) → get after m.request ≡ Some c → key m.to ≡ key c.to → m.body ≡ body.Command c.command → Says before after m
 
 abbrev AreSaid : Commands → Commands → List Message → Type 0
 AreSaid before after ms = (m : Message) → Contains ms m → Says before after m
@@ -96,18 +99,19 @@ module _ (before after : Commands) where
       acts_said (token_acts at v last p) (in_turn (token_acts at v) (last + all_requests (token_acts at v last p)) ps)
       (token_said at (last + 1) p.to (push.PutToken v) p.replaced) (tokens_said at v (last + all_requests (token_acts at v last p)) ps)
 
-again_said : (r : OutboxRows) (after : Commands) (at n : ℕ) (o : Option Outgoing) (c : Option SentCommand) → get r.commands n ≡ c → AreSaid r.commands after (all_messages (resent_acts at n o c))
-again_said r after at n (Some o) c is = said_one r.commands after (push_message n o.to o.push) (WithPush o.push refl)
-again_said r after at n None (Some c) is = said_one r.commands after (command_message n c.to c.command) (WithOldCommand c is refl refl)
-again_said r after at n None None is = said_none r.commands after
+module _ (operators : List (List ℕ)) (r : OutboxRows) (after : Commands) (at : ℕ) where
+  again_said : (n : ℕ) (o : Option Outgoing) (c : Option SentCommand) → get r.commands n ≡ c → AreSaid r.commands after (all_messages (resent_acts operators at n o c))
+  again_said n (Some o) c is = said_one r.commands after (push_message n (spelled operators o.to) o.push) (WithPush o.push refl)
+  again_said n None (Some c) is = said_one r.commands after (command_message n (spelled operators c.to) c.command) (WithOldCommand c is (spelled_same operators c.to) refl)
+  again_said n None None is = said_none r.commands after
 
-resent_said : (r : OutboxRows) (after : Commands) (at : ℕ) (due : List ℕ) → AreSaid r.commands after (all_messages (all_resent at r due))
-resent_said r after at [] = said_none r.commands after
-resent_said r after at (n ∷ ns) =
-    acts_said r.commands after (resent_acts at n (get r.pushes n) (get r.commands n)) (all_resent at r ns) (again_said r after at n (get r.pushes n) (get r.commands n) refl) (resent_said r after at ns)
+  resent_said : (due : List ℕ) → AreSaid r.commands after (all_messages (all_resent operators at r due))
+  resent_said [] = said_none r.commands after
+  resent_said (n ∷ ns) =
+      acts_said r.commands after (resent_acts operators at n (get r.pushes n) (get r.commands n)) (all_resent operators at r ns) (again_said n (get r.pushes n) (get r.commands n) refl) (resent_said ns)
 
 -- what is done beside an answer says nothing
-own_silent : (s : State) (at : ℕ) (q : Packet) (w : Reply) (own : List Act) → Answers s at q w own → all_messages own ≡ []
+pub own_silent : (s : State) (at : ℕ) (q : Packet) (w : Reply) (own : List Act) → Answers s at q w own → all_messages own ≡ []
 own_silent s at q w own (lines.ResultTaken r carries n c fits none w_is is) = ap all_messages is
 own_silent s at q w own (lines.ResultKnown r carries n c fits x had w_is is) = ap all_messages is
 own_silent s at q w own (lines.ResultOfNone r carries none w_is is) = ap all_messages is
@@ -162,11 +166,12 @@ asked_said s (Gives at t) acts line =
     subst (AreSaid s.rows.outbox.commands (through acts s.rows).outbox.commands) (sym (ap all_messages line.acts_are))
     (tokens_said s.rows.outbox.commands (through acts s.rows).outbox.commands at line.version s.rows.outbox.last line.pushes)
 asked_said s (Ticks at) acts line =
-    subst (AreSaid s.rows.outbox.commands (through acts s.rows).outbox.commands) (sym (ap all_messages line.acts_are)) (resent_said s.rows.outbox (through acts s.rows).outbox.commands at line.due)
+    subst (AreSaid s.rows.outbox.commands (through acts s.rows).outbox.commands) (sym (ap all_messages line.acts_are)) (resent_said s.operators s.rows.outbox (through acts s.rows).outbox.commands at line.due)
 asked_said s Restarts acts line = absurd line
+asked_said s (Reopens p) acts line = absurd line
 
 abbrev Stands : State → Packet → Command → Type 0
-Stands t x c = (d : SentCommand) × (get t.rows.outbox.commands x.request ≡ Some d) × (d.to ≡ x.to) × (d.command ≡ c)
+Stands t x c = (d : SentCommand) × (get t.rows.outbox.commands x.request ≡ Some d) × (key d.to ≡ key x.to) × (d.command ≡ c)
 
 module _ (s t : State) (e : Event) (happens : Happens s e t) (counted : AreCounted s) (x : Packet) (c : Command) (is : x.body ≡ body.Command c) where
   by_says : (ms : List Message) (f : Carried ms x) → Says s.rows.outbox.commands t.rows.outbox.commands f.message → Stands t x c
@@ -174,8 +179,8 @@ module _ (s t : State) (e : Event) (happens : Happens s e t) (counted : AreCount
   by_says ms f (WithPush p carries) = absurd (command_or_push c p (sym is ∙ sym f.body ∙ carries))
   by_says ms f (WithOldCommand d has to carries) =
       let now = stands_later s t e happens counted f.message.request d has in
-      (now.0, ap (get t.rows.outbox.commands) (sym f.request) ∙ now.1, now.2.to ∙ sym to ∙ f.to, now.2.command ∙ same_command d.command c (sym carries ∙ f.body ∙ is))
-  by_says ms f (WithNewCommand d has to carries) = (d, ap (get t.rows.outbox.commands) (sym f.request) ∙ has, sym to ∙ f.to, same_command d.command c (sym carries ∙ f.body ∙ is))
+      (now.0, ap (get t.rows.outbox.commands) (sym f.request) ∙ now.1, ap key now.2.to ∙ sym to ∙ ap key f.to, now.2.command ∙ same_command d.command c (sym carries ∙ f.body ∙ is))
+  by_says ms f (WithNewCommand d has to carries) = (d, ap (get t.rows.outbox.commands) (sym f.request) ∙ has, sym to ∙ ap key f.to, same_command d.command c (sym carries ∙ f.body ∙ is))
 
   sent_now : Contains e.packets x → Stands t x c
   sent_now h = in_event happens
@@ -186,7 +191,8 @@ module _ (s t : State) (e : Event) (happens : Happens s e t) (counted : AreCount
           let f = of_numbered s.party s.rows.serial (all_messages by.acts) x (subst (λ l. Contains l x) (ap (λ (o : Out). o.packets) by.out_is) h) in
           by_says (all_messages by.acts) f (subst (λ (r : Rows). Says s.rows.outbox.commands r.outbox.commands f.message) (sym rows) (asked_said s e.input by.acts by.line f.message f.listed))
       in_event (Restarted now out_is) = absurd (in_none x (subst (λ l. Contains l x) (ap (λ (o : Out). o.packets) out_is) h))
-      in_event (Refused out_is) = absurd (in_none x (subst (λ l. Contains l x) (ap (λ (o : Out). o.packets) out_is) h))
+      in_event (Reopened p now may out_is) = absurd (in_none x (subst (λ l. Contains l x) (ap (λ (o : Out). o.packets) out_is) h))
+      in_event (Refused same_setup out_is) = absurd (in_none x (subst (λ l. Contains l x) (ap (λ (o : Out). o.packets) out_is) h))
 
 stand_from : (s t : State) (es : List Event) → AreCounted s → Run s es t → (x : Packet) (c : Command) → Contains (sent es) x → x.body ≡ body.Command c → Stands t x c
 stand_from s t [] counted run x c h is = absurd (in_none x h)
@@ -196,7 +202,7 @@ stand_from s t (e ∷ es) counted (u, first, rest) x c h is =
       | inl here ↦
           let (d, has, to, same) = sent_now s u e first counted x c is here in
           let later = (commands_stay_from u t es between rest x.request d has).1 in
-          (later.0, later.1, later.2.to ∙ to, later.2.command ∙ same)
+          (later.0, later.1, ap key later.2.to ∙ to, later.2.command ∙ same)
       | inr there ↦ stand_from u t es between rest x c there is
     ]
 

@@ -31,10 +31,10 @@ use Rattle.token_desk.specs.References.{reference_of}
 use Rattle.node_steps.specs.Acts.{Act, all_changes, all_requests, answered, commanded, in_turn, pushed, unanswered}
 use Rattle.node_steps.specs.Drafts.{Counters, count_change, count_changes, counted}
 use Rattle.node_steps.proofs.Gathering.{changes_append}
-use Rattle.provider_rows.specs.State.{Rows, State}
+use Rattle.provider_rows.specs.State.{Peering, Rows, State}
 use Rattle.provider_steps.specs.declared.pushing.Pushing.{Pushing}
 use Rattle.provider_steps.specs.Acts.{billed, held, kept, referenced, replaced, stored, token_acts, with_answer, with_result}
-use Rattle.provider_steps.specs.Events.{Arrives, Asks, Done, Event, Gives, Happens, Input, Refused, Restarted, Restarts, Submits, Ticks}
+use Rattle.provider_steps.specs.Events.{Arrives, Asks, Done, Event, Gives, Happens, Input, Refused, Reopened, Reopens, Restarted, Restarts, Submits, Ticks}
 use Rattle.provider_steps.specs.Moves.{Out, counters_of, step_of_acts}
 use Rattle.provider_steps.specs.Orders.{Makes, next_reference, next_request}
 use Rattle.provider_steps.specs.Orders as orders
@@ -255,29 +255,29 @@ tokens_plain at v last (p ∷ ps) =
     (plain_append (all_changes first) (all_changes rest) (pushed_plain at (last + 1) p.to (push.PutToken v) p.replaced) (tokens_plain at v (last + all_requests first) ps))
 
 -- what is sent again
-again_untouched : (at n : ℕ) (o : Option Outgoing) (c : Option SentCommand) (r : Rows) → Untouched r (through (resent_acts at n o c) r)
-again_untouched at n (Some o) c r = record { replies = refl; commands = refl; inbox = refl; references = refl; last = omega arith; pushes = λ n o h. inl h }
-again_untouched at n None (Some c) r = record { replies = refl; commands = refl; inbox = refl; references = refl; last = omega arith; pushes = λ n o h. inl h }
-again_untouched at n None None r = same_rows r
+again_untouched : (operators : List (List ℕ)) (at n : ℕ) (o : Option Outgoing) (c : Option SentCommand) (r : Rows) → Untouched r (through (resent_acts operators at n o c) r)
+again_untouched operators at n (Some o) c r = record { replies = refl; commands = refl; inbox = refl; references = refl; last = omega arith; pushes = λ n o h. inl h }
+again_untouched operators at n None (Some c) r = record { replies = refl; commands = refl; inbox = refl; references = refl; last = omega arith; pushes = λ n o h. inl h }
+again_untouched operators at n None None r = same_rows r
 
-again_plain : (at n : ℕ) (o : Option Outgoing) (c : Option SentCommand) → ArePlain (all_changes (resent_acts at n o c))
-again_plain at n (Some o) c = tt
-again_plain at n None (Some c) = tt
-again_plain at n None None = tt
+again_plain : (operators : List (List ℕ)) (at n : ℕ) (o : Option Outgoing) (c : Option SentCommand) → ArePlain (all_changes (resent_acts operators at n o c))
+again_plain operators at n (Some o) c = tt
+again_plain operators at n None (Some c) = tt
+again_plain operators at n None None = tt
 
-resent_untouched : (at : ℕ) (from : OutboxRows) (numbers : List ℕ) (r : Rows) → Untouched r (through (all_resent at from numbers) r)
-resent_untouched at from [] r = same_rows r
-resent_untouched at from (n ∷ ns) r =
-    let first : List Act = resent_acts at n (get from.pushes n) (get from.commands n) in
-    subst (Untouched r) (sym (through_append first (all_resent at from ns) r))
-    (untouched_twice r (through first r) (through (all_resent at from ns) (through first r)) (again_untouched at n (get from.pushes n) (get from.commands n) r) (resent_untouched at from ns (through first r)))
+resent_untouched : (operators : List (List ℕ)) (at : ℕ) (from : OutboxRows) (numbers : List ℕ) (r : Rows) → Untouched r (through (all_resent operators at from numbers) r)
+resent_untouched operators at from [] r = same_rows r
+resent_untouched operators at from (n ∷ ns) r =
+    let first : List Act = resent_acts operators at n (get from.pushes n) (get from.commands n) in
+    subst (Untouched r) (sym (through_append first (all_resent operators at from ns) r))
+    (untouched_twice r (through first r) (through (all_resent operators at from ns) (through first r)) (again_untouched operators at n (get from.pushes n) (get from.commands n) r) (resent_untouched operators at from ns (through first r)))
 
-resent_plain : (at : ℕ) (from : OutboxRows) (numbers : List ℕ) → ArePlain (all_changes (all_resent at from numbers))
-resent_plain at from [] = tt
-resent_plain at from (n ∷ ns) =
-    let first : List Act = resent_acts at n (get from.pushes n) (get from.commands n) in
-    subst ArePlain (sym (changes_append first (all_resent at from ns)))
-    (plain_append (all_changes first) (all_changes (all_resent at from ns)) (again_plain at n (get from.pushes n) (get from.commands n)) (resent_plain at from ns))
+resent_plain : (operators : List (List ℕ)) (at : ℕ) (from : OutboxRows) (numbers : List ℕ) → ArePlain (all_changes (all_resent operators at from numbers))
+resent_plain operators at from [] = tt
+resent_plain operators at from (n ∷ ns) =
+    let first : List Act = resent_acts operators at n (get from.pushes n) (get from.commands n) in
+    subst ArePlain (sym (changes_append first (all_resent operators at from ns)))
+    (plain_append (all_changes first) (all_changes (all_resent operators at from ns)) (again_plain operators at n (get from.pushes n) (get from.commands n)) (resent_plain operators at from ns))
 
 -- no charge detail record is put by them
 cdrs_append : (xs ys : List Change) → cdrs_put (xs ++ ys) ≡ cdrs_put xs ++ cdrs_put ys
@@ -302,17 +302,17 @@ tokens_put_none at v last (p ∷ ps) =
     let more = tokens_put_none at v (last + all_requests first) ps in
     acts_put first (in_turn (token_acts at v) (last + all_requests first) ps) ∙ (λ i. one i ++ more i)
 
-again_put_none : (at n : ℕ) (o : Option Outgoing) (c : Option SentCommand) → cdrs_put (all_changes (resent_acts at n o c)) ≡ []
-again_put_none at n (Some o) c = refl
-again_put_none at n None (Some c) = refl
-again_put_none at n None None = refl
+again_put_none : (operators : List (List ℕ)) (at n : ℕ) (o : Option Outgoing) (c : Option SentCommand) → cdrs_put (all_changes (resent_acts operators at n o c)) ≡ []
+again_put_none operators at n (Some o) c = refl
+again_put_none operators at n None (Some c) = refl
+again_put_none operators at n None None = refl
 
-resent_put_none : (at : ℕ) (from : OutboxRows) (numbers : List ℕ) → cdrs_put (all_changes (all_resent at from numbers)) ≡ []
-resent_put_none at from [] = refl
-resent_put_none at from (n ∷ ns) =
-    let one = again_put_none at n (get from.pushes n) (get from.commands n) in
-    let more = resent_put_none at from ns in
-    acts_put (resent_acts at n (get from.pushes n) (get from.commands n)) (all_resent at from ns) ∙ (λ i. one i ++ more i)
+resent_put_none : (operators : List (List ℕ)) (at : ℕ) (from : OutboxRows) (numbers : List ℕ) → cdrs_put (all_changes (all_resent operators at from numbers)) ≡ []
+resent_put_none operators at from [] = refl
+resent_put_none operators at from (n ∷ ns) =
+    let one = again_put_none operators at n (get from.pushes n) (get from.commands n) in
+    let more = resent_put_none operators at from ns in
+    acts_put (resent_acts operators at n (get from.pushes n) (get from.commands n)) (all_resent operators at from ns) ∙ (λ i. one i ++ more i)
 
 -- an order
 module _ (s : State) (at : ℕ) (operator to : List ℕ) where
@@ -441,8 +441,9 @@ pub asked_plain : (s : State) (i : Input) (acts : List Act) → Asks s i acts �
 asked_plain s (Arrives at q) acts comes = line_plain s at q comes.operator acts comes.line
 asked_plain s (Submits at operator o) acts line = subst (λ l. ArePlain (all_changes l)) (sym line.acts_are) (order_plain s at operator line.to line.makes)
 asked_plain s (Gives at t) acts line = subst (λ l. ArePlain (all_changes l)) (sym line.acts_are) (tt, tokens_plain at line.version s.rows.outbox.last line.pushes)
-asked_plain s (Ticks at) acts line = subst (λ l. ArePlain (all_changes l)) (sym line.acts_are) (resent_plain at s.rows.outbox line.due)
+asked_plain s (Ticks at) acts line = subst (λ l. ArePlain (all_changes l)) (sym line.acts_are) (resent_plain s.operators at s.rows.outbox line.due)
 asked_plain s Restarts acts line = absurd line
+asked_plain s (Reopens p) acts line = absurd line
 
 asked_does : (s : State) (i : Input) (acts : List Act) → Asks s i acts → ((n : ℕ) → Contains (all_changes acts) (Put (row.Count Reference n)) → n ≤ max_whole) → s.rows.outbox.last + all_requests acts ≤ max_whole → DoesAll s i acts
 asked_does s (Arrives at q) acts comes range most = line_does s at q comes.operator acts comes.line range
@@ -452,8 +453,9 @@ asked_does s (Submits at operator o) acts line range most = subst (DoesAll s (Su
 asked_does s (Gives at t) acts line range most = subst (DoesAll s (Gives at t)) (sym line.acts_are)
     (untouched_does s (Gives at t) _ _ (tokens_put_none at line.version s.rows.outbox.last line.pushes) (untouched_twice s.rows (one_act (stored line.version) s.rows) _ (record { replies = refl; commands = refl; inbox = refl; references = refl; last = omega arith; pushes = λ n o h. inl h })
     (tokens_untouched at line.version s.rows.outbox.last line.pushes (one_act (stored line.version) s.rows) (omega arith))))
-asked_does s (Ticks at) acts line range most = subst (DoesAll s (Ticks at)) (sym line.acts_are) (untouched_does s (Ticks at) _ _ (resent_put_none at s.rows.outbox line.due) (resent_untouched at s.rows.outbox line.due s.rows))
+asked_does s (Ticks at) acts line range most = subst (DoesAll s (Ticks at)) (sym line.acts_are) (untouched_does s (Ticks at) _ _ (resent_put_none s.operators at s.rows.outbox line.due) (resent_untouched s.operators at s.rows.outbox line.due s.rows))
 asked_does s Restarts acts line range most = absurd line
+asked_does s (Reopens p) acts line range most = absurd line
 
 -- the rows of counters are no records
 counts_put_none : (s : State) (acts : List Act) → cdrs_put (step_of_acts s acts).changes ≡ cdrs_put (all_changes acts)
@@ -482,10 +484,23 @@ does s t e (Done by) = of_step s e.input (all_changes by.acts) (through by.acts 
     (ap (λ (o : Out). o.state.rows) by.out_is ∙ acted_through s by.acts (asked_plain s e.input by.acts by.line))
     (asked_does s e.input by.acts by.line by.in_range.references by.in_range.counters.request)
 does s t e (Restarted now is) = untouched_does s e.input e.changes t.rows (ap (λ (o : Out). cdrs_put o.changes) is) (subst (Untouched s.rows) (sym (ap (λ (o : Out). o.state.rows) is)) (same_rows s.rows))
-does s t e (Refused is) = untouched_does s e.input e.changes t.rows (ap (λ (o : Out). cdrs_put o.changes) is) (subst (Untouched s.rows) (sym (ap (λ (o : Out). o.state.rows) is)) (same_rows s.rows))
+does s t e (Reopened p now may is) = untouched_does s e.input e.changes t.rows (ap (λ (o : Out). cdrs_put o.changes) is) (subst (Untouched s.rows) (sym (ap (λ (o : Out). o.state.rows) is)) (same_rows s.rows))
+does s t e (Refused same_setup is) = untouched_does s e.input e.changes t.rows (ap (λ (o : Out). cdrs_put o.changes) is) (subst (Untouched s.rows) (sym (ap (λ (o : Out). o.state.rows) is)) (same_rows s.rows))
+
+-- whom the provider deals with is as it was, or as it starts again
+pub data IsAmong (s : State) (i : Input) (t : State) : Type 0 where
+  Same : t.operators ≡ s.operators → IsAmong s i t
+  Other : (p : Peering) → i ≡ Reopens p → t.operators ≡ p.operators → IsAmong s i t
+
+pub is_among : (s t : State) (e : Event) → Happens s e t → IsAmong s e.input t
+is_among s t e (Done by) = Same (ap (λ (o : Out). o.state.operators) by.out_is)
+is_among s t e (Restarted now is) = Same (ap (λ (o : Out). o.state.operators) is)
+is_among s t e (Reopened p now may is) = Other p now (ap (λ (o : Out). o.state.operators) is)
+is_among s t e (Refused same_setup is) = Same (ap (λ (o : Out). o.state.operators) is)
 
 -- the party stays
 pub same_party : (s t : State) (e : Event) → Happens s e t → t.party ≡ s.party
 same_party s t e (Done by) = ap (λ (o : Out). o.state.party) by.out_is
 same_party s t e (Restarted now is) = ap (λ (o : Out). o.state.party) is
-same_party s t e (Refused is) = ap (λ (o : Out). o.state.party) is
+same_party s t e (Reopened p now may is) = ap (λ (o : Out). o.state.party) is
+same_party s t e (Refused same_setup is) = ap (λ (o : Out). o.state.party) is

@@ -28,7 +28,7 @@ use Rattle.node_steps.specs.Acts.{Act, acknowledged, all_messages, answered, com
 use Rattle.node_steps.specs.Acts as act
 use Rattle.node_steps.specs.Messages.{Message, numbered}
 use Rattle.node_steps.proofs.Gathering.{messages_append, numbered_append}
-use Rattle.node_laws.specs.Nodes.{Node, Exchange, Request, Answers, Acknowledged, AreAboutSame, IsSettled, NodeStep, IsReply, Replaced, Responded, Resulted, both, request_of}
+use Rattle.node_laws.specs.Nodes.{Node, Exchange, Request, Answers, Acknowledged, AreAboutSame, AreGiven, IsSettled, NodeStep, IsReply, Replaced, Responded, Resulted, both, request_of}
 use Rattle.node_laws.proofs.Acts.{StaysAmong, again_step, answer_step, quiet_step, request_new_step, resend_step, settle_step, wider_step}
 use Rattle.node_laws.proofs.BodyKinds.{no_command, no_push}
 use Rattle.node_laws.proofs.Joining.{idle_step, join}
@@ -118,17 +118,29 @@ module _ (s : State) (came : List Packet) where
     command_unreplied : (c : Command) → ¬ IsReply (body.Command c)
     command_unreplied c is = no_command is.0 c (sym is.1)
 
-    pub resent_step : (at n : ℕ) (o : Outgoing) → get r.outbox.pushes n ≡ Some o → AreStep r (resent at n o.to o.push ∷ [])
-    resent_step at n o stands =
-        resend_step (node_at r) (node_at (one_act (resent at n o.to o.push) r)) came (next (record { to = o.to; request = n; body = body_of_push o.push })) (among (one_act (resent at n o.to o.push) r))
-        (record { from = refl; serial = omega arith }) (push_unreplied o.push) (omega arith) refl (omega arith) (λ m. refl) (ap (λ z. standing_of z (get r.outbox.commands n)) stands)
+    -- to its party as it is spelled now: as it was, or as a peer
+    abbrev pub IsSpelledNow : List ℕ → List ℕ → Type 0
+    IsSpelledNow to now = (key now ≡ key to) × ((now ≡ to) ⊎ Contains s.operators now)
 
-    pub command_resent_step : (at n : ℕ) (c : SentCommand) → get r.outbox.pushes n ≡ None → get r.outbox.commands n ≡ Some c → c.answer ≡ None → c.result ≡ None →
-        AreStep r (command_resent at n c.to c.command ∷ [])
-    command_resent_step at n c none stands unanswered_one unresulted =
-        resend_step (node_at r) (node_at (one_act (command_resent at n c.to c.command) r)) came (next (record { to = c.to; request = n; body = body.Command c.command })) (among (one_act (command_resent at n c.to c.command) r))
+    to_peer : (n : ℕ) (q : Request) (now : List ℕ) → standing_in r.outbox n ≡ Some q → (now ≡ q.to) ⊎ Contains s.operators now → AreGiven (node_at r) → Contains s.operators now
+    to_peer n q now stands (inl same) given = subst (Contains s.operators) (sym same) (given n q stands).peer
+    to_peer n q now stands (inr listed) given = listed
+
+    pub resent_step : (at n : ℕ) (o : Outgoing) (now : List ℕ) → IsSpelledNow o.to now → get r.outbox.pushes n ≡ Some o → AreStep r (resent at n now o.push ∷ [])
+    resent_step at n o now spelling stands =
+        resend_step (node_at r) (node_at (one_act (resent at n now o.push) r)) came (next (record { to = now; request = n; body = body_of_push o.push })) (among (one_act (resent at n now o.push) r))
+        (record { from = refl; serial = omega arith }) (push_unreplied o.push) (omega arith) refl (omega arith) (λ m. refl)
+        (pushed_request o, waiting, record { to = spelling.0; body = refl }) (to_peer n (pushed_request o) now waiting spelling.1)
+      where
+        waiting : standing_in r.outbox n ≡ Some (pushed_request o)
+        waiting = ap (λ z. standing_of z (get r.outbox.commands n)) stands
+
+    pub command_resent_step : (at n : ℕ) (c : SentCommand) (now : List ℕ) → IsSpelledNow c.to now → get r.outbox.pushes n ≡ None → get r.outbox.commands n ≡ Some c → c.answer ≡ None → c.result ≡ None →
+        AreStep r (command_resent at n now c.command ∷ [])
+    command_resent_step at n c now spelling none stands unanswered_one unresulted =
+        resend_step (node_at r) (node_at (one_act (command_resent at n now c.command) r)) came (next (record { to = now; request = n; body = body.Command c.command })) (among (one_act (command_resent at n now c.command) r))
         (record { from = refl; serial = omega arith }) (command_unreplied c.command) (omega arith) refl (omega arith) (λ m. refl)
-        (waiting ∙ open_one)
+        (command_request c, waiting ∙ open_one, record { to = spelling.0; body = refl }) (to_peer n (command_request c) now (waiting ∙ open_one) spelling.1)
       where
         waiting : standing_in r.outbox n ≡ while_open c.answer c.result (command_request c)
         waiting = λ i. standing_of (none i) (stands i)

@@ -12,31 +12,32 @@ use Rattle.node_laws.proofs.Joining.{idle_step}
 use Rattle.provider_rows.specs.State.{State}
 use Rattle.provider_rows.specs.Sound.{with_rows}
 use Rattle.provider_steps.specs.Acts.{with_answer, with_result}
-use Rattle.provider_steps.specs.Events.{Asks, Done, Event, Happens, Input, Refused, Restarted}
+use Rattle.provider_steps.specs.Events.{Asks, Done, Event, Happens, Input, Refused, Reopened, Restarted}
 use Rattle.provider_steps.specs.Moves.{Out, acted}
 use Rattle.provider_steps.specs.Orders.{next_request}
-use Rattle.provider_laws.specs.AsNode.{StepsAreNodeSteps, came_in, exchange, node}
+use Rattle.provider_laws.specs.AsNode.{AreAmong, StepsAreNodeSteps, came_in, exchange, node, wide}
 use Rattle.provider_laws.proofs.events.Doing.{asked_plain, does}
 use Rattle.provider_laws.proofs.events.Parts.{CommandsMove, Made, Responded, Resulted, SameCommands}
 use Rattle.provider_laws.proofs.events.Through.{acted_through}
 use Rattle.provider_laws.proofs.nodes.LineSteps.{AreWell, asked_steps, well_of}
 
-module _ (s : State) (i : Input) where
+module _ (ps : List (List ℕ)) (s : State) (peers : AreAmong s.operators ps) (i : Input) where
   abbrev StepTo : Out → Type 0
-  StepTo o = NodeStep (node s) (record { came = came_in i; packets = o.packets }) (node o.state)
+  StepTo o = NodeStep (node (wide ps s)) (record { came = came_in i; packets = o.packets }) (node (wide ps o.state))
 
   acted_step : (acts : List Act) → AreWell s.rows.outbox → Asks s i acts → StepTo (acted s acts)
   acted_step acts well line =
-      subst (λ r. NodeStep (node s) (record { came = came_in i; packets = (acted s acts).packets }) (node (with_rows r s))) (sym (acted_through s acts (asked_plain s i acts line)))
-      (asked_steps s i acts well line)
+      subst (λ r. NodeStep (node (wide ps s)) (record { came = came_in i; packets = (acted s acts).packets }) (node (with_rows r (wide ps s)))) (sym (acted_through s acts (asked_plain s i acts line)))
+      (asked_steps ps s peers i acts well line)
 
-pub step_from : (s t : State) (e : Event) → AreWell s.rows.outbox → Happens s e t → NodeStep (node s) (exchange e) (node t)
-step_from s t e well (Done by) = subst (StepTo s e.input) (sym by.out_is) (acted_step s e.input by.acts well by.line)
-step_from s t e well (Restarted now is) = subst (StepTo s e.input) (sym is) (idle_step (node s) (came_in e.input))
-step_from s t e well (Refused is) = subst (StepTo s e.input) (sym is) (idle_step (node s) (came_in e.input))
+pub step_from : (ps : List (List ℕ)) (s t : State) (e : Event) → AreAmong s.operators ps → AreWell s.rows.outbox → Happens s e t → NodeStep (node (wide ps s)) (exchange e) (node (wide ps t))
+step_from ps s t e peers well (Done by) = subst (StepTo ps s peers e.input) (sym by.out_is) (acted_step ps s peers e.input by.acts well by.line)
+step_from ps s t e peers well (Restarted now is) = subst (StepTo ps s peers e.input) (sym is) (idle_step (node (wide ps s)) (came_in e.input))
+step_from ps s t e peers well (Reopened p now may is) = subst (StepTo ps s peers e.input) (sym is) (idle_step (node (wide ps s)) (came_in e.input))
+step_from ps s t e peers well (Refused same_setup is) = subst (StepTo ps s peers e.input) (sym is) (idle_step (node (wide ps s)) (came_in e.input))
 
 pub steps_are_node_steps : StepsAreNodeSteps
-steps_are_node_steps s t e fine happens = step_from s t e (well_of s fine) happens
+steps_are_node_steps ps s t e peers fine happens = step_from ps s t e peers (well_of s fine) happens
 
 -- what an event does to commands: each stood under its number, or is the next
 module _ (s t : State) (e : Event) (happens : Happens s e t) (well : AreWell s.rows.outbox) where

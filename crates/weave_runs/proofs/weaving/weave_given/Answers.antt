@@ -35,6 +35,7 @@ returns-in-Ok c =
     let within = is_in told 0 c.index-transcripts-0.result (got_by told 0 c.index-transcripts-0.result c.requires.some c.index-transcripts-0.is) in
     output.woven c.args.files.now told c.deref.result.now c.requires.transcripts same c.requires.told c.args.given.now
     (output.one_setup told c.index-transcripts-0.result c.first.result.now c.first.ensures.0 within c.first.ensures.1 c.nodes_of.ensures.is_setup) c.interleavings_are_runs.ensures c.none_given.ensures
+    c.own_interleavings_are_network_runs.ensures c.nodes_reopen.ensures c.nodes_stay.ensures c.requires.alone
     c.as_slice.result.now order c.in_ok-text_of-in-Ok.field-0.items
     (subst (λ (hs : List NodeHistory). IsTextOf c.args.given.now hs told c.as_slice.result.now c.in_ok-text_of-in-Ok.field-0.items) (c.deref-in-Ok.ensures.value ∙ sym c.deref.ensures.value)
     c.in_ok-text_of-in-Ok.ensures)

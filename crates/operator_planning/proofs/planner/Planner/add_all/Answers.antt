@@ -44,6 +44,6 @@ returns c =
     let four : c.add_all_begun.new.draft ≡ with_acts (all_begun c.args.at w.counters.request x.begun.items) w = rw (← c.as_slice-3.ensures.value) c.in_ok-add_all_begun.ensures in
     on_more c.add_all_resent.result
     (λ last.
-    let five : c.add_all_resent.new.draft ≡ with_acts (all_resent c.args.at s.rows.pushes x.resent.items) c.add_all_begun.new.draft = rw (← c.as_slice-4.ensures.value) last in
+    let five : c.add_all_resent.new.draft ≡ with_acts (all_resent s.providers c.args.at s.rows.pushes x.resent.items) c.add_all_begun.new.draft = rw (← c.as_slice-4.ensures.value) last in
     happening_is c.args.at s x d c.requires.numbered c.requires.numbers c.add_ends.new.draft c.add_expired.new.draft w one two c.in_ok-add_last_session.ensures c.add_all_begun.new.draft four c.add_all_resent.new.draft five)
     c.add_all_resent.ensures

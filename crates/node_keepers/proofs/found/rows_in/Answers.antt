@@ -1,6 +1,6 @@
 use Rattle.node_store.specs.declared.fault.StoreFault.TheVariants.{BadRow}
 use Rattle.node_keepers.proofs.FileLemmas.{bad_found, rows_found}
-use Rattle.node_keepers.proofs.files.rows_in.Goals as goal
+use Rattle.node_keepers.proofs.found.rows_in.Goals as goal
 
 pub returns-clause-rows : goal.returns-clause-rows
 returns-clause-rows g c =

@@ -1,0 +1,5 @@
+use Rattle.reopening_laws.proofs.Nodes as nodes
+use Rattle.reopening_laws.proofs.laws.nodes_reopen.Goals as goal
+
+pub returns : goal.returns
+returns c = nodes.nodes_reopen
