@@ -22,7 +22,7 @@ use Rattle.stored_laws.specs.Nodes.{CanStartAgain}
 use Rattle.stored_nodes.specs.Keepers.{Keeper}
 use Rattle.world_steps.specs.Steps.{NodeEvent as Deed}
 use Rattle.world_steps.specs.World.{NodeState}
-use Rattle.feeding_laws.specs.Feeding.{AreBehind, Held, IsExact, Ran}
+use Rattle.feeding_laws.specs.Feeding.{AreBehind, Held, IsExact, Ran, did_in}
 
 -- ---- what is fed
 
@@ -55,20 +55,21 @@ pub data Ended {K : Type 0} (keeper : Keeper K) (source : Source K) (opened word
 -- ---- what is written
 
 -- What a run writes of one thing. What became of a line behind the setup is told with its number. That is at most
--- `last`, or above `most`, where no line was fed to its end; so of no other line a `done` was seen.
-pub data IsPiece (last most : ℕ) : List ℕ → Type 0 where
-  Beginning : (echo : Bool) → IsPiece last most (begin_bytes echo)
-  Echo : (echo : Bool) (line : List ℕ) → IsPiece last most (echo_of echo line)
-  NoSetup : (number : ℕ) → number ≤ 1 → (fault : JsonFault) → IsPiece last most (malformed_line number None fault)
-  Opening : (number : ℕ) (party : List ℕ) (rows serial : ℕ) → IsPiece last most (opened_line number party rows serial)
+-- `last`, or above `most`, where no line was fed to its end; so of no other line a `done` was seen. Whatever the node did
+-- for it, of which the packets there tell, is among what is `done`.
+pub data IsPiece (done : List Deed) (last most : ℕ) : List ℕ → Type 0 where
+  Beginning : (echo : Bool) → IsPiece done last most (begin_bytes echo)
+  Echo : (echo : Bool) (line : List ℕ) → IsPiece done last most (echo_of echo line)
+  NoSetup : (number : ℕ) → number ≤ 1 → (fault : JsonFault) → IsPiece done last most (malformed_line number None fault)
+  Opening : (number : ℕ) (party : List ℕ) (rows serial : ℕ) → IsPiece done last most (opened_line number party rows serial)
   Answer : (party : List ℕ) (known number : ℕ) (line : List ℕ) (now next : NodeState) (out : List ℕ) (did : List Deed) → (number ≤ most → number ≤ last)
-      → Takes party known number line now out did next → IsPiece last most out
-  Beyond : (max_whole ≤ most → max_whole ≤ last) → IsPiece last most (refused_line max_whole None NumbersUsedUp)
+      → ((x : Deed) → Contains did x → Contains done x) → Takes party known number line now out did next → IsPiece done last most out
+  Beyond : (max_whole ≤ most → max_whole ≤ last) → IsPiece done last most (refused_line max_whole None NumbersUsedUp)
 
 -- a text is of such pieces, each whole or a beginning of it
-pub data TellsTo (last most : ℕ) : List ℕ → Type 0 where
-  nothing_told : TellsTo last most []
-  piece_told : {text piece : List ℕ} → TellsTo last most text → IsPiece last most piece → (n : ℕ) → TellsTo last most (text ++ take n piece)
+pub data TellsTo (done : List Deed) (last most : ℕ) : List ℕ → Type 0 where
+  nothing_told : TellsTo done last most []
+  piece_told : {text piece : List ℕ} → TellsTo done last most text → IsPiece done last most piece → (n : ℕ) → TellsTo done last most (text ++ take n piece)
 
 -- ---- what is left
 
@@ -78,28 +79,31 @@ pub record Holds (c : Content) (h : Held) : Type 0 where
   pub rows : HoldsRows c h.state
   pub line : line_of c ≡ Some h.line
 
--- The content is what such a run leaves that answered these lines.
-pub record IsLeft (setup : List Node) (member : Node) (lines : ℕ → List ℕ) (found : Held) (base : ℕ) (read : List (List ℕ)) (c : Content) : Type 0 where
+-- The content is what such a run leaves that answered these lines, and did this for them.
+pub record IsLeft (setup : List Node) (member : Node) (lines : ℕ → List ℕ) (found : Held) (base : ℕ) (read : List (List ℕ)) (done : List Deed) (c : Content) : Type 0 where
   pub changed : List ℕ
   pub left : Held
   pub holds : Holds c left
   pub ran : Ran setup member lines found base read changed left
+  pub did : did_in ran ≡ done
 
 -- A run over a store, by its keeper as it was opened and as it was left. Whatever rows of a node the store had, under
 -- whatever setup it had run, and whatever number, what it has at the end, or what a stop leaves of that, is what a run
--- leaves that answered these lines. Of no line behind them that was fed to its end it told what became of it.
+-- leaves that answered these lines, and did for them what is `done`. What it wrote tells of nothing else that a node did,
+-- and of no line behind them that was fed to its end.
 pub record FedRun {K : Type 0} (keeper : Keeper K) (source : Source K) (setup : List Node) (member : Node) (lines : ℕ → List ℕ) (base most : ℕ) (text : List ℕ) (kept : K) : Type 0 where
   pub fresh : K
   pub found : source.found 1 fresh
   pub earlier : keeper.is_honest kept → keeper.is_honest fresh
   pub read : List (List ℕ)
-  pub tells : TellsTo (base + length read) most text
+  pub done : List Deed
+  pub tells : TellsTo done (base + length read) most text
   pub leaves : keeper.is_honest kept → (held : Held) → Holds (keeper.content fresh) held → (c : Content) → IsLeftBy keeper kept c
-      → IsLeft setup member lines held base read c
+      → IsLeft setup member lines held base read done c
 
 -- the same of any run: where no keeper was opened, no line was answered
 pub data WasFed {K : Type 0} (keeper : Keeper K) (source : Source K) (setup : List Node) (member : Node) (lines : ℕ → List ℕ) (base most : ℕ) (text : List ℕ) : Option K → Type 0 where
-  Unopened : TellsTo base most text → WasFed keeper source setup member lines base most text None
+  Unopened : TellsTo [] base most text → WasFed keeper source setup member lines base most text None
   Opened : (kept : K) → FedRun keeper source setup member lines base most text kept → WasFed keeper source setup member lines base most text (Some kept)
 
 -- So it is of each run of `run_node` that is fed so, wherever it ended. (What a reader has, and what a writer holds, is

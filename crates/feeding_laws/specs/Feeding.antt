@@ -4,7 +4,7 @@ use Rattle.std.specs.Prelude.{◌≡◌, ◌≢◌, ◌≤◌, ◌<◌, ℕ, suc
 use Rattle.line_runs.specs.declared.run.Turn.{Turn}
 use Rattle.node_core.specs.Members.{IsMadeOfRows}
 use Rattle.node_runs.specs.LineAnswers.{Answers}
-use Rattle.node_runs.specs.NumberedRuns.{Carries, Changed, Numbered}
+use Rattle.node_runs.specs.NumberedRuns.{Carries, Changed, Numbered, all_done}
 use Rattle.ocpi_types.specs.Setups.{party_of}
 use Rattle.ocpi_types.specs.declared.rows.Row.{Row}
 use Rattle.ocpi_types.specs.declared.setup.Node.{Node}
@@ -46,6 +46,12 @@ pub data Ran (setup : List Node) (member : Node) (lines : ℕ → List ℕ) (fou
   Began : {read : List (List ℕ)} {changed : List ℕ} {left : Held} (start : NodeState) → StartsAgain setup member found.state start → AreBehind lines base read
       → (did : List Numbered) (now : NodeState) → Carries (party_of member) found.line base start read did now
       → Leaves (party_of member) lines found.line (base + length read) did now left changed → Ran setup member lines found base read changed left
+
+-- what a node did in a run for the lines that it answered
+abbrev pub did_in : {setup : List Node} {member : Node} {lines : ℕ → List ℕ} {found : Held} {base : ℕ} {read : List (List ℕ)} {changed : List ℕ} {left : Held}
+    → Ran setup member lines found base read changed left → List Deed
+did_in NotBegun = []
+did_in (Began start again are did now carries leaves) = all_done did
 
 -- Runs of a node one after another, each over what the one before left, and each under one of these setups, as that
 -- member of it. The first is told 1; each other is told at most the number of the last line that the one before
