@@ -22,7 +22,7 @@ use Rattle.stored_laws.specs.Nodes.{CanStartAgain}
 use Rattle.stored_nodes.specs.Keepers.{Keeper}
 use Rattle.world_steps.specs.Steps.{NodeEvent as Deed}
 use Rattle.world_steps.specs.World.{NodeState}
-use Rattle.feeding_laws.specs.Feeding.{AreBehind, Held, IsExact, Ran, did_in}
+use Rattle.feeding_laws.specs.Feeding.{AreBehind, AreRuns, Held, IsExact, Ran, all_did, did_in}
 
 -- ---- what is fed
 
@@ -127,6 +127,13 @@ pub data AreFedRuns {K : Type 0} (keeper : Keeper K) (source : Source K) (setups
   one_unopened : {seen base : ℕ} {before : Content} (setup : List Node) (member : Node) → Contains setups (setup, member)
       → AreFedRuns keeper source setups lines first seen before → 1 ≤ base → base ≤ seen → AreFedRuns keeper source setups lines first base before
 
+-- what the node did of which the runs wrote, in order
+abbrev pub told_in : {K : Type 0} {keeper : Keeper K} {source : Source K} {setups : List (List Node × Node)} {lines : ℕ → List ℕ} {first : Content} {seen : ℕ} {last : Content}
+    → AreFedRuns keeper source setups lines first seen last → List Deed
+told_in none_fed = []
+told_in (one_fed setup member of_them runs some within run honest same over) = told_in runs ++ run.done
+told_in (one_unopened setup member of_them runs some within) = told_in runs
+
 -- what is kept at the end is exact
 pub record AreExact (setups : List (List Node × Node)) (lines : ℕ → List ℕ) (first : Held) (seen : ℕ) (c : Content) : Type 0 where
   pub changed : List ℕ
@@ -139,3 +146,18 @@ abbrev pub FedRunsAreExact : {K : Type 0} → Keeper K → Source K → Type 0
 FedRunsAreExact {K} keeper source =
     (setups : List (List Node × Node)) (lines : ℕ → List ℕ) (first last : Content) (held : Held) (seen : ℕ) → Holds first held → held.line ≡ 1
     → AreFedRuns keeper source setups lines first seen last → AreExact setups lines held seen last
+
+-- They are runs of one node, which did in them just what they wrote of.
+pub record AreTold {K : Type 0} {keeper : Keeper K} {source : Source K} {setups : List (List Node × Node)} {lines : ℕ → List ℕ} {first last : Content} {seen : ℕ} (held : Held)
+    (fed : AreFedRuns keeper source setups lines first seen last) : Type 0 where
+  pub changed : List ℕ
+  pub left : Held
+  pub holds : Holds last left
+  pub runs : AreRuns setups lines held seen changed left
+  pub told : all_did runs ≡ told_in fed
+
+-- so it is whatever rows of a node the store had at first
+abbrev pub FedRunsAreTold : {K : Type 0} → Keeper K → Source K → Type 0
+FedRunsAreTold {K} keeper source =
+    (setups : List (List Node × Node)) (lines : ℕ → List ℕ) (first last : Content) (held : Held) (seen : ℕ) → Holds first held
+    → (fed : AreFedRuns keeper source setups lines first seen last) → AreTold held fed

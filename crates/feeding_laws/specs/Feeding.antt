@@ -63,6 +63,12 @@ pub data AreRuns (setups : List (List Node × Node)) (lines : ℕ → List ℕ) 
       → AreRuns setups lines first seen before found → 1 ≤ base → base ≤ seen → Ran setup member lines found base read changed left
       → AreRuns setups lines first (base + length read) (before ++ changed) left
 
+-- what it did in all of them, in order
+abbrev pub all_did : {setups : List (List Node × Node)} {lines : ℕ → List ℕ} {first : Held} {seen : ℕ} {changed : List ℕ} {left : Held}
+    → AreRuns setups lines first seen changed left → List Deed
+all_did none_ran = []
+all_did (one_ran setup member of_them runs some within ran) = all_did runs ++ did_in ran
+
 -- ---- what is so of them
 
 -- To a node the lines of the numbers from 2 on came, each once and in their order, up to that number. Between some of
