@@ -15,7 +15,7 @@ use Rattle.world_steps.specs.World.{opening_of}
 use Rattle.fed_networks.proofs.Merging.{nodes_form_networks}
 use Rattle.fed_networks.specs.Fed.{AreLivesOf, FedNode, FedNodesFormNetworks, IsLifeOf}
 use Rattle.fed_networks.specs.Laws.{AreNodes}
-use Rattle.fed_networks.specs.Lives.{History, Life, NodeSetups, events_of_runs, history_of}
+use Rattle.fed_networks.specs.Lives.{History, Life, NodeSetups, history_of}
 
 module _ {K : Type 0} (keeper : Keeper K) (source : Source K) (exact : FedRunsAreExact keeper source) (held : EmptyIsHeld) (openings : OpeningsCanStartAgain) where
   life_of : (n : FedNode keeper source) → IsSetup n.of.setup → Contains n.of.setup n.of.member → (l : Life) × IsLifeOf n l

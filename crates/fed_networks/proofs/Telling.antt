@@ -1,13 +1,13 @@
 -- All that happened at nodes in runs, and what these wrote of it.
 use Rattle.std.specs.FinMap.{empty, get-empty}
-use Rattle.std.proofs.Common.{◌≡◌, ◌∙◌, ◌+◌, ◌⊎◌, ℕ, zero, suc, List, [], ◌∷◌, ◌++◌, inl, inr, length, map, refl, sym, ap, subst, append_assoc, append-nil}
-use Rattle.std.specs.Prelude.{Contains, Some, slice_get}
+use Rattle.std.proofs.Common.{◌≡◌, ◌∙◌, ◌+◌, ℕ, zero, suc, List, [], ◌∷◌, ◌++◌, inl, inr, length, map, refl, sym, ap, subst, append_assoc, append-nil}
+use Rattle.std.specs.Prelude.{Contains}
 use Rattle.std.proofs.lemmas.List.Elements.{Contains-append_cases, Contains-append_left, Contains-append_right}
 use Rattle.feeding_laws.proofs.Exactly.{alike_rows}
 use Rattle.feeding_laws.proofs.Fed.{done_on}
 use Rattle.feeding_laws.specs.Fed.{FedRunsAreTold}
 use Rattle.feeding_laws.specs.Feeding.{AreRuns, Began, Behind, Held, Leaves, NotBegun, One_more, Ran, all_did, did_in, none_ran, one_ran}
-use Rattle.network_laws.specs.Steps.{Happening, NodeHappens}
+use Rattle.network_laws.specs.Steps.{NodeHappens}
 use Rattle.node_keepers.specs.Opening.{Source}
 use Rattle.node_laws.proofs.Runs.{run_join}
 use Rattle.node_laws.specs.Runs.{Run}

@@ -7,7 +7,7 @@ use Rattle.ocpi_types.specs.declared.setup.Node.{Node}
 use Rattle.stored_nodes.specs.Keepers.{Keeper}
 use Rattle.world_steps.specs.Steps.{NodeEvent as Deed}
 use Rattle.feeding_laws.proofs.Exactly as exactly
-use Rattle.feeding_laws.specs.Fed.{AreFedRuns, AreTold, FedRunsAreExact, FedRunsAreTold, Holds, none_fed, one_fed, one_unopened, told_in}
+use Rattle.feeding_laws.specs.Fed.{AreFedRuns, FedRunsAreExact, FedRunsAreTold, Holds, none_fed, one_fed, one_unopened, told_in}
 use Rattle.feeding_laws.specs.Feeding.{AreRuns, Held, NotBegun, all_did, none_ran, one_ran}
 
 module _ {K : Type 0} (keeper : Keeper K) (source : Source K) (setups : List (List Node × Node)) (lines : ℕ → List ℕ) (first : Content) (held : Held) (holds : Holds first held) where

@@ -170,32 +170,36 @@ module _ {K : Type 0} (keeper : Keeper K) (source : Source K) (wanted : Option (
         subst (λ (n : ℕ). Takes (party_of h.member) h.last (suc n) line now.node.state out did next.node.state) h.counted
         (subst (λ (k : ℕ). Takes (party_of h.member) k (suc number) line now.node.state out did next.node.state) h.knows
         (subst (λ (p : List ℕ). Takes p known (suc number) line now.node.state out did next.node.state) h.party takes)) in
-        record { before = done_before h.did (suc at) did; last_is = done_last h.did (suc at) did; going = record {
-          reads = h.reads;
-          member = h.member;
-          asked = h.asked;
-          rows = h.rows;
-          last = h.last;
-          begun = h.begun;
-          begins = h.begins;
-          party = party ∙ h.party;
-          settled = settled_by (Some (suc number)) did now.node.keep next.node.keep commits h.settled;
-          earlier = λ honest. h.earlier (honest_by (Some (suc number)) did now.node.keep next.node.keep commits honest);
-          numbered = h.numbered ++ line ∷ [];
-          others = [];
-          did = h.did ++ (suc at, did) ∷ [];
-          carries = one_carried h.carries takes_so;
-          are = lines_on all line ∙ ap (λ (l : List (List ℕ)). some_lines all ++ l) (one_kept line some)
-              ∙ ap (λ (l : List (List ℕ)). l ++ line ∷ []) (h.are ∙ ap (λ (l : List (List ℕ)). first ∷ (h.numbered ++ l)) none ∙ ap (λ (l : List (List ℕ)). first ∷ l) (append-nil h.numbered))
-              ∙ ap (λ (l : List (List ℕ)). first ∷ l) (sym (append-nil (h.numbered ++ line ∷ [])));
-          counted = omega (arith, h.counted, length-append h.numbered (line ∷ []));
-          beyond = λ more. absurd (more refl);
-          knows = h.knows;
-          changed = m.0;
-          last_change = m.1;
-          changes = m.2;
-          marked = m.3;
-        } }
+        record {
+          before = done_before h.did (suc at) did;
+          last_is = done_last h.did (suc at) did;
+          going = record {
+            reads = h.reads;
+            member = h.member;
+            asked = h.asked;
+            rows = h.rows;
+            last = h.last;
+            begun = h.begun;
+            begins = h.begins;
+            party = party ∙ h.party;
+            settled = settled_by (Some (suc number)) did now.node.keep next.node.keep commits h.settled;
+            earlier = λ honest. h.earlier (honest_by (Some (suc number)) did now.node.keep next.node.keep commits honest);
+            numbered = h.numbered ++ line ∷ [];
+            others = [];
+            did = h.did ++ (suc at, did) ∷ [];
+            carries = one_carried h.carries takes_so;
+            are = lines_on all line ∙ ap (λ (l : List (List ℕ)). some_lines all ++ l) (one_kept line some)
+                ∙ ap (λ (l : List (List ℕ)). l ++ line ∷ []) (h.are ∙ ap (λ (l : List (List ℕ)). first ∷ (h.numbered ++ l)) none ∙ ap (λ (l : List (List ℕ)). first ∷ l) (append-nil h.numbered))
+                ∙ ap (λ (l : List (List ℕ)). first ∷ l) (sym (append-nil (h.numbered ++ line ∷ [])));
+            counted = omega (arith, h.counted, length-append h.numbered (line ∷ []));
+            beyond = λ more. absurd (more refl);
+            knows = h.knows;
+            changed = m.0;
+            last_change = m.1;
+            changes = m.2;
+            marked = m.3;
+          };
+        }
       where
         mark : Commits keeper (Some (suc number)) (changes_of_each did) now.node.keep next.node.keep
             → (changed : List ℕ) × (last : ℕ) × Changed h.last (h.did ++ (suc (number_from base h.last + length h.numbered), did) ∷ []) changed last
@@ -219,58 +223,66 @@ module _ {K : Type 0} (keeper : Keeper K) (source : Source K) (wanted : Option (
     -- a line for which there is no number
     one_beyond : (all : List (List ℕ)) (line : List ℕ) (number known : ℕ) (now : Running K) → 0 < length line → number ≡ max_whole
         → (h : Going setup base first all number known now) → Goes setup base first (all ++ line ∷ []) max_whole known now (all_done h.did) []
-    one_beyond all line number known now some is h = record { before = λ x within. within; last_is = λ x within. absurd (in_none x within); going = record {
-      reads = h.reads;
-      member = h.member;
-      asked = h.asked;
-      rows = h.rows;
-      last = h.last;
-      begun = h.begun;
-      begins = h.begins;
-      party = h.party;
-      settled = h.settled;
-      earlier = h.earlier;
-      numbered = h.numbered;
-      others = h.others ++ line ∷ [];
-      did = h.did;
-      carries = h.carries;
-      are = lines_on all line ∙ ap (λ (l : List (List ℕ)). some_lines all ++ l) (one_kept line some) ∙ ap (λ (l : List (List ℕ)). l ++ line ∷ []) h.are
-          ∙ ap (λ (l : List (List ℕ)). first ∷ l) (append_assoc h.numbered h.others (line ∷ []));
-      counted = sym is ∙ h.counted;
-      beyond = λ more. refl;
-      knows = h.knows;
-      changed = h.changed;
-      last_change = h.last_change;
-      changes = h.changes;
-      marked = h.marked;
-    } }
+    one_beyond all line number known now some is h = record {
+      before = λ x within. within;
+      last_is = λ x within. absurd (in_none x within);
+      going = record {
+        reads = h.reads;
+        member = h.member;
+        asked = h.asked;
+        rows = h.rows;
+        last = h.last;
+        begun = h.begun;
+        begins = h.begins;
+        party = h.party;
+        settled = h.settled;
+        earlier = h.earlier;
+        numbered = h.numbered;
+        others = h.others ++ line ∷ [];
+        did = h.did;
+        carries = h.carries;
+        are = lines_on all line ∙ ap (λ (l : List (List ℕ)). some_lines all ++ l) (one_kept line some) ∙ ap (λ (l : List (List ℕ)). l ++ line ∷ []) h.are
+            ∙ ap (λ (l : List (List ℕ)). first ∷ l) (append_assoc h.numbered h.others (line ∷ []));
+        counted = sym is ∙ h.counted;
+        beyond = λ more. refl;
+        knows = h.knows;
+        changed = h.changed;
+        last_change = h.last_change;
+        changes = h.changes;
+        marked = h.marked;
+      };
+    }
 
     -- an empty line
     one_empty : (all : List (List ℕ)) (number known : ℕ) (now : Running K) → (h : Going setup base first all number known now) → Goes setup base first (all ++ [] ∷ []) number known now (all_done h.did) []
-    one_empty all number known now h = record { before = λ x within. within; last_is = λ x within. absurd (in_none x within); going = record {
-      reads = h.reads;
-      member = h.member;
-      asked = h.asked;
-      rows = h.rows;
-      last = h.last;
-      begun = h.begun;
-      begins = h.begins;
-      party = h.party;
-      settled = h.settled;
-      earlier = h.earlier;
-      numbered = h.numbered;
-      others = h.others;
-      did = h.did;
-      carries = h.carries;
-      are = lines_on all [] ∙ append-nil (some_lines all) ∙ h.are;
-      counted = h.counted;
-      beyond = h.beyond;
-      knows = h.knows;
-      changed = h.changed;
-      last_change = h.last_change;
-      changes = h.changes;
-      marked = h.marked;
-    } }
+    one_empty all number known now h = record {
+      before = λ x within. within;
+      last_is = λ x within. absurd (in_none x within);
+      going = record {
+        reads = h.reads;
+        member = h.member;
+        asked = h.asked;
+        rows = h.rows;
+        last = h.last;
+        begun = h.begun;
+        begins = h.begins;
+        party = h.party;
+        settled = h.settled;
+        earlier = h.earlier;
+        numbered = h.numbered;
+        others = h.others;
+        did = h.did;
+        carries = h.carries;
+        are = lines_on all [] ∙ append-nil (some_lines all) ∙ h.are;
+        counted = h.counted;
+        beyond = h.beyond;
+        knows = h.knows;
+        changed = h.changed;
+        last_change = h.last_change;
+        changes = h.changes;
+        marked = h.marked;
+      };
+    }
 
     -- a line that was read
     pub read_on : (all : List (List ℕ)) (s t : Stage K) (now next : Running K) (line : List ℕ) (turn : Turn) (more : List ℕ) → 0 < length line → suc s.known ≤ suc s.number → suc s.number ≤ max_whole

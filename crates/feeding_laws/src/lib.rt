@@ -16,6 +16,9 @@
 //!   seen the `done` of none. By the same: `tells`.
 //! - Such runs over one store, each over what the one before left, leave each line once and in order. By law
 //!   `fed_runs_are_exact`.
+//! - Whatever such a run writes of, whole or in part, its node did in it (`IsPiece`), so that each packet which is printed
+//!   was sent. All of them did just what they wrote of, but for what a stop left of one line more. By law
+//!   `fed_runs_are_told`.
 #![tactic(auto)]
 
 pub mod laws;
