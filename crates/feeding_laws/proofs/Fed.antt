@@ -1,5 +1,5 @@
 -- What runs of `node` leave, and what they write, that are fed lines by their numbers.
-use Rattle.std.proofs.Common.{◌≡◌, ◌≢◌, ◌++◌, ◌∙◌, ◌+◌, ◌<◌, ◌≤◌, ℕ, suc, Bool, false, List, [], ◌∷◌, Option, Some, Ok, refl, sym, ap, subst, arith, length, length-append, append_assoc, append-nil, take, take_all}
+use Rattle.std.proofs.Common.{◌≡◌, ◌≢◌, ◌++◌, ◌∙◌, ◌+◌, ◌<◌, ◌≤◌, ℕ, suc, Bool, false, true, List, [], ◌∷◌, Option, Some, Ok, refl, sym, ap, subst, arith, length, length-append, append_assoc, append-nil, take, take_all}
 use Rattle.std.specs.Prelude.{Contains}
 use Rattle.std.proofs.lemmas.List.Concat.{flat_map-append}
 use Rattle.std.proofs.lemmas.List.Elements.{Contains-append_left, Contains-append_right}
@@ -44,51 +44,55 @@ done_last xs number did x within = subst (λ (l : List Deed). Contains l x) (sym
 
 -- ---- what is written
 
-module _ {most : ℕ} where
-  pub piece_more : {d e : List Deed} {a b : ℕ} {piece : List ℕ} → Under d e → a ≤ b → IsPiece d a most piece → IsPiece e b most piece
-  piece_more on up (Beginning echo) = Beginning echo
-  piece_more on up (Echo echo line) = Echo echo line
+silent : (echo : Bool) → echo_of echo [] ≡ []
+silent false = refl
+silent true = refl
+
+module _ {most : ℕ} {echo : Bool} where
+  pub piece_more : {d e : List Deed} {a b : ℕ} {piece : List ℕ} → Under d e → a ≤ b → IsPiece echo d a most piece → IsPiece echo e b most piece
+  piece_more on up Beginning = Beginning
+  piece_more on up (Echo line) = Echo line
   piece_more on up (NoSetup number low fault) = NoSetup number low fault
   piece_more on up (Opening number party rows serial) = Opening number party rows serial
   piece_more on up (Answer party known number line now next out did low of takes) = Answer party known number line now next out did (λ fed. let l = low fed in omega (arith, up, l)) (λ x within. on x (of x within)) takes
   piece_more on up (Beyond low) = Beyond (λ fed. let l = low fed in omega (arith, up, l))
 
-  pub tells_more : {d e : List Deed} {a b : ℕ} {text : List ℕ} → Under d e → a ≤ b → TellsTo d a most text → TellsTo e b most text
+  pub tells_more : {d e : List Deed} {a b : ℕ} {text : List ℕ} → Under d e → a ≤ b → TellsTo echo d a most text → TellsTo echo e b most text
   tells_more on up nothing_told = nothing_told
   tells_more on up (piece_told before is n) = piece_told (tells_more on up before) (piece_more on up is) n
 
   -- no line behind those was fed to its end
-  piece_within : {d e : List Deed} {a b : ℕ} {piece : List ℕ} → Under d e → most ≤ b → IsPiece d a most piece → IsPiece e b most piece
-  piece_within on all (Beginning echo) = Beginning echo
-  piece_within on all (Echo echo line) = Echo echo line
+  piece_within : {d e : List Deed} {a b : ℕ} {piece : List ℕ} → Under d e → most ≤ b → IsPiece echo d a most piece → IsPiece echo e b most piece
+  piece_within on all Beginning = Beginning
+  piece_within on all (Echo line) = Echo line
   piece_within on all (NoSetup number low fault) = NoSetup number low fault
   piece_within on all (Opening number party rows serial) = Opening number party rows serial
   piece_within on all (Answer party known number line now next out did low of takes) = Answer party known number line now next out did (λ fed. omega (arith, all, fed)) (λ x within. on x (of x within)) takes
   piece_within on all (Beyond low) = Beyond (λ fed. omega (arith, all, fed))
 
-  pub tells_within : {d e : List Deed} {a b : ℕ} {text : List ℕ} → Under d e → most ≤ b → TellsTo d a most text → TellsTo e b most text
+  pub tells_within : {d e : List Deed} {a b : ℕ} {text : List ℕ} → Under d e → most ≤ b → TellsTo echo d a most text → TellsTo echo e b most text
   tells_within on all nothing_told = nothing_told
   tells_within on all (piece_told before is n) = piece_told (tells_within on all before) (piece_within on all is) n
 
   -- a whole piece more
-  pub tells_on : {done : List Deed} {last : ℕ} {text piece : List ℕ} → TellsTo done last most text → IsPiece done last most piece → TellsTo done last most (text ++ piece)
+  pub tells_on : {done : List Deed} {last : ℕ} {text piece : List ℕ} → TellsTo echo done last most text → IsPiece echo done last most piece → TellsTo echo done last most (text ++ piece)
   tells_on {done = done} {last = last} {text = text} {piece = piece} before is =
-      subst (λ (l : List ℕ). TellsTo done last most (text ++ l)) (take_all (length piece) piece (omega arith)) (piece_told before is (length piece))
+      subst (λ (l : List ℕ). TellsTo echo done last most (text ++ l)) (take_all (length piece) piece (omega arith)) (piece_told before is (length piece))
 
-  pub tells_join : {done : List Deed} {last : ℕ} {xs ys : List ℕ} → TellsTo done last most xs → TellsTo done last most ys → TellsTo done last most (xs ++ ys)
-  tells_join {done = done} {last = last} {xs = xs} one nothing_told = subst (TellsTo done last most) (sym (append-nil xs)) one
+  pub tells_join : {done : List Deed} {last : ℕ} {xs ys : List ℕ} → TellsTo echo done last most xs → TellsTo echo done last most ys → TellsTo echo done last most (xs ++ ys)
+  tells_join {done = done} {last = last} {xs = xs} one nothing_told = subst (TellsTo echo done last most) (sym (append-nil xs)) one
   tells_join {done = done} {last = last} {xs = xs} one (piece_told {text = text} {piece = piece} before is n) =
-      subst (TellsTo done last most) (append_assoc xs text (take n piece)) (piece_told (tells_join one before) is n)
+      subst (TellsTo echo done last most) (append_assoc xs text (take n piece)) (piece_told (tells_join one before) is n)
 
   -- nothing is written
-  pub no_piece : {done : List Deed} {last : ℕ} → IsPiece done last most []
-  no_piece = Echo false []
+  pub no_piece : {done : List Deed} {last : ℕ} → IsPiece echo done last most []
+  no_piece {done = done} {last = last} = subst (λ (l : List ℕ). IsPiece echo done last most l) (silent echo) (Echo [])
 
   -- the echo of a line, and some of what became of it
-  pub line_tells : {done : List Deed} {last : ℕ} {text more : List ℕ} (echo : Bool) (line : List ℕ) (n : ℕ) → TellsTo done last most text → IsPiece done last most more
-      → TellsTo done last most (text ++ (echo_of echo line ++ take n more))
-  line_tells {done = done} {last = last} {text = text} {more = more} echo line n before is =
-      subst (TellsTo done last most) (append_assoc text (echo_of echo line) (take n more)) (piece_told (tells_on before (Echo echo line)) is n)
+  pub line_tells : {done : List Deed} {last : ℕ} {text more : List ℕ} (line : List ℕ) (n : ℕ) → TellsTo echo done last most text → IsPiece echo done last most more
+      → TellsTo echo done last most (text ++ (echo_of echo line ++ take n more))
+  line_tells {done = done} {last = last} {text = text} {more = more} line n before is =
+      subst (TellsTo echo done last most) (append_assoc text (echo_of echo line) (take n more)) (piece_told (tells_on before (Echo line)) is n)
 
 -- ---- lines that hold something
 
@@ -135,7 +139,7 @@ module _ {K : Type 0} (keeper : Keeper K) (source : Source K) (wanted : Option (
   pub data Comes (all : List (List ℕ)) (out : List ℕ) (s : Stage K) : Type 0 where
     Before : s ≡ opening wanted opened → some_lines all ≡ [] → out ≡ [] → Comes all out s
     Runs : (now : Running K) → s.running ≡ Some now → (setup : List Node) (base : Option ℕ) (first : List ℕ)
-        → (g : Going setup base first all s.number s.known now) → TellsTo (all_done g.did) s.number most out → Comes all out s
+        → (g : Going setup base first all s.number s.known now) → TellsTo echo (all_done g.did) s.number most out → Comes all out s
 
   -- so it is behind a line more, for which this was done
   pub record Goes (setup : List Node) (base : Option ℕ) (first : List ℕ) (all : List (List ℕ)) (number known : ℕ) (now : Running K) (done did : List Deed) : Type 0 where
@@ -154,7 +158,7 @@ module _ {K : Type 0} (keeper : Keeper K) (source : Source K) (wanted : Option (
   -- the node runs on behind the line, and this was written of it
   abbrev GoesTo : List Node → Option ℕ → List ℕ → List (List ℕ) → List Deed → ℕ → List ℕ → Stage K → Type 0
   GoesTo setup base first all done number more t =
-      (next : Running K) × (t.running ≡ Some next) × (g : Going setup base first all t.number t.known next) × IsPiece (all_done g.did) t.number most more × (number ≤ t.number) × Under done (all_done g.did)
+      (next : Running K) × (t.running ≡ Some next) × (g : Going setup base first all t.number t.known next) × IsPiece echo (all_done g.did) t.number most more × (number ≤ t.number) × Under done (all_done g.did)
 
   module _ {setup : List Node} {base : Option ℕ} {first : List ℕ} where
     -- a line more, by the next number
@@ -319,7 +323,7 @@ module _ {K : Type 0} (keeper : Keeper K) (source : Source K) (wanted : Option (
           now,
           refl,
           g.going,
-          subst (IsPiece (all_done g.going.did) max_whole most) (sym written) (Beyond (λ fed. omega arith)),
+          subst (IsPiece echo (all_done g.going.did) max_whole most) (sym written) (Beyond (λ fed. omega arith)),
           omega (arith, is),
           g.before,
         )
@@ -363,7 +367,7 @@ module _ {K : Type 0} (keeper : Keeper K) (source : Source K) (wanted : Option (
       subst (Comes (all ++ line ∷ []) (out ++ (echo_of echo line ++ take n more))) (sym left) (
       let g = opened_so all line s o some none (ap (λ (s : Stage K). s.wanted) is) in
       Runs (record { party = party_of o.member; node = o.node }) refl o.setup o.base line g
-      (line_tells echo line n (subst (TellsTo (all_done g.did) (number_from o.base o.last) most) (sym nothing) nothing_told) (subst (IsPiece (all_done g.did) (number_from o.base o.last) most) (sym written) (Opening o.last _ o.rows _)))
+      (line_tells line n (subst (TellsTo echo (all_done g.did) (number_from o.base o.last) most) (sym nothing) nothing_told) (subst (IsPiece echo (all_done g.did) (number_from o.base o.last) most) (sym written) (Opening o.last _ o.rows _)))
       )
   first_line all out s t line turn more n some on is none nothing (turns.Untold o ended written left) = absurd (on ended)
   first_line all out s t line turn more n some on is none nothing (turns.Unbegun setup base read asked spare stop unbegun ended written left) = absurd (on ended)
@@ -377,7 +381,7 @@ module _ {K : Type 0} (keeper : Keeper K) (source : Source K) (wanted : Option (
       (subst (λ (q : Option (Running K)). NodeTurn keeper source q s line turn more t) (ap (λ (s : Stage K). s.running) is) gives)
   one_line all out s t place line turn more n some on gives (Runs now is setup base first h tells) =
       let b = behind all s t now line turn more some on (subst (λ (q : Option (Running K)). NodeTurn keeper source q s line turn more t) is gives) h in
-      Runs b.0 b.1 setup base first b.2 (line_tells echo line n (tells_more b.5 b.4 tells) b.3)
+      Runs b.0 b.1 setup base first b.2 (line_tells line n (tells_more b.5 b.4 tells) b.3)
 
   whole_line : (all : List (List ℕ)) (out : List ℕ) (s t : Stage K) (place : ℕ) (line : List ℕ) (turn : Turn) (more : List ℕ) → 0 < length line → (turn ≡ Ended → ⊥)
       → NodeLineGives keeper source s place line turn more t → Comes all out s → Comes (all ++ line ∷ []) (out ++ (echo_of echo line ++ more)) t

@@ -155,7 +155,7 @@ module _ (held : ChangesAreHeld) (start : NodesCanStartAgain) {K : Type 0} (keep
     pub are : AreBehind lines base read
     pub carries : Carries (party_of h.member) h.last base h.begun.state read did now.node.state
     pub changes : Changed h.last did h.changed h.last_change
-    pub tells : (text : List ℕ) → TellsTo (all_done h.did) number most text → TellsTo (all_done did) (base + length read) most text
+    pub tells : (text : List ℕ) → TellsTo echo (all_done h.did) number most text → TellsTo echo (all_done did) (base + length read) most text
 
   module _ {first : List ℕ} {all : List (List ℕ)} {number known : ℕ} {now : Running K} (h : Going keeper source wanted opened echo most setup (Some base) first all number known now)
       (r : Answered h) (stored : IsStored keeper now.node) where
@@ -219,8 +219,8 @@ module _ (held : ChangesAreHeld) (start : NodesCanStartAgain) {K : Type 0} (keep
     -- of a run that ended behind these lines, or at the next
     pub ran_so : (Made : Content → Type 0) → ((c : Content) → Made c → MadeNext c) → (k : K)
         → (keeper.is_honest k → keeper.is_honest now.node.keep × ((c : Content) → IsLeftBy keeper k c → (c ≡ keeper.content now.node.keep) ⊎ Made c))
-        → (text : List ℕ) → TellsTo (all_done h.did) number most text → WasFed keeper source setup member lines base most text (Some k)
-    ran_so Made next k loses text tells = Opened k (subst (λ (m : Node). FedRun keeper source setup m lines base most text k) (only first h.member h.reads h.asked) (record {
+        → (text : List ℕ) → TellsTo echo (all_done h.did) number most text → WasFed keeper source setup member lines base most echo text (Some k)
+    ran_so Made next k loses text tells = Opened k (subst (λ (m : Node). FedRun keeper source setup m lines base most echo text k) (only first h.member h.reads h.asked) (record {
       fresh = h.begins.starts.fresh;
       found = h.begins.found;
       earlier = λ honest. h.begins.starts.reopens.keeps.earlier (h.earlier (loses honest).0);
@@ -286,7 +286,7 @@ module _ (held : ChangesAreHeld) (start : NodesCanStartAgain) {K : Type 0} (keep
       are = behind_front lines base g.numbered zs (subst (AreBehind lines base) is f.behind);
       carries = g.carries;
       changes = g.changes;
-      tells = λ text. subst (λ (n : ℕ). TellsTo (all_done g.did) n most text) g.counted;
+      tells = λ text. subst (λ (n : ℕ). TellsTo echo (all_done g.did) n most text) g.counted;
     }
 
     -- the last is a beginning of its line
@@ -303,7 +303,7 @@ module _ (held : ChangesAreHeld) (start : NodesCanStartAgain) {K : Type 0} (keep
           carries = subst (λ (d : List Numbered). Carries (party_of g.member) g.last base g.begun.state (f.fed ++ lines at ∷ []) d now.node.state) (sym l.is)
               (one_carried l.earlier (same_takes same l.takes));
           changes = g.changes;
-          tells = λ text. subst (λ (n : ℕ). TellsTo (all_done g.did) n most text) (omega (arith, g.counted, ap length is, length-append f.fed (part ∷ []), length-append f.fed (lines at ∷ [])));
+          tells = λ text. subst (λ (n : ℕ). TellsTo echo (all_done g.did) n most text) (omega (arith, g.counted, ap length is, length-append f.fed (part ∷ []), length-append f.fed (lines at ∷ [])));
         }
     part_read part is (No_line fault none) =
         let l = last_one (party_of g.member) g.last base g.begun.state f.fed part g.did now.node.state (subst (λ (xs : List (List ℕ)). Carries (party_of g.member) g.last base g.begun.state xs g.did now.node.state) is g.carries) in
@@ -364,36 +364,36 @@ module _ (held : ChangesAreHeld) (start : NodesCanStartAgain) {K : Type 0} (keep
   -- ---- behind a line
 
   abbrev pub Left : List ℕ → Option K → Type 0
-  Left text kept = WasFed keeper source setup member lines base most text kept
+  Left text kept = WasFed keeper source setup member lines base most echo text kept
 
   -- what tells of no line above some number goes on so
   abbrev pub Tell : List ℕ → List ℕ → Type 0
-  Tell out text = (d : List Deed) (n : ℕ) → TellsTo d n most out → TellsTo d n most text
+  Tell out text = (d : List Deed) (n : ℕ) → TellsTo echo d n most out → TellsTo echo d n most text
 
   pub at_stage : (before later : List (List ℕ)) (out text : List ℕ) (s : Stage K) (kept : Option K) → IsFed setup lines base most (before ++ later) → Comes keeper source wanted opened echo most before out s
       → keep_in s.running s.spare ≡ kept → IsKept keeper s.running → Tell out text → Left text kept
   at_stage before later out text s kept fed (Before is none nothing) left stored tell =
-      subst (Left text) (sym (ap (λ (s : Stage K). keep_in s.running s.spare) is) ∙ left) (Unopened (tell [] base (subst (TellsTo [] base most) (sym nothing) nothing_told)))
+      subst (Left text) (sym (ap (λ (s : Stage K). keep_in s.running s.spare) is) ∙ left) (Unopened (tell [] base (subst (TellsTo echo [] base most) (sym nothing) nothing_told)))
   at_stage before later out text s kept fed (Runs now is xs m first h tells) left stored tell =
       let f = fits xs m first before later s.number s.known now h fed in
       let g = f.going in
       let r = answered_by f (front_of f) in
       subst (Left text) (sym (ap (λ (q : Option (Running K)). keep_in q s.spare) is) ∙ left)
       (ran_so g r (subst (IsKept keeper) is stored) (λ c. ⊥) (λ c no. absurd no) now.node.keep
-      (λ honest. (honest, λ c over. inl (left_is keeper now.node.keep c honest g.settled over))) text (subst (λ (d : List Deed). TellsTo d s.number most text) (sym f.does) (tell (all_done h.did) s.number tells)))
+      (λ honest. (honest, λ c over. inl (left_is keeper now.node.keep c honest g.settled over))) text (subst (λ (d : List Deed). TellsTo echo d s.number most text) (sym f.does) (tell (all_done h.did) s.number tells)))
 
   -- ---- at a line
 
   -- the setup had no such node, or none was made of what the store had
   pub unbegun : (line : List ℕ) (xs : List Node) (base_told : Option ℕ) (places : List ℕ) (spare : Option K) (stop : NodeStop) (text : List ℕ) → numbered_setup_in line ≡ Ok (xs, base_told) → ◌≡◌ {A = List Node × Option ℕ} (xs, base_told) (setup, Some base)
-      → IsUnbegun keeper source xs wanted places spare stop → ((d : List Deed) (n : ℕ) → TellsTo d n most text) → Left text spare
+      → IsUnbegun keeper source xs wanted places spare stop → ((d : List Deed) (n : ℕ) → TellsTo echo d n most text) → Left text spare
   unbegun line xs base_told places spare stop text read same (turns.Unknown none asked is told) tells = subst (Left text) (sym is) (Unopened (tells [] base))
   unbegun line xs base_told places spare stop text read same (turns.Unkept m of fault may asked is told) tells = subst (Left text) (sym is) (Unopened (tells [] base))
   unbegun line xs base_told places spare stop text read same (turns.NotMade m of fault k unmade found asked is told) tells =
       let setup_is : xs ≡ setup = ap (λ (p : List Node × Option ℕ). p.0) same in
       let reads = subst (λ (p : List Node × Option ℕ). numbered_setup_in line ≡ Ok p) same read in
       let member_is = only line m reads (subst (λ (l : List Node). IsMember l wanted m) setup_is of) in
-      subst (Left text) (sym is) (Opened k (subst (λ (m : Node). FedRun keeper source setup m lines base most text k) member_is (record {
+      subst (Left text) (sym is) (Opened k (subst (λ (m : Node). FedRun keeper source setup m lines base most echo text k) member_is (record {
         fresh = unmade.fresh;
         found = found;
         earlier = unmade.keeps.earlier;
