@@ -32,8 +32,8 @@ pub fn fed_nodes_form_networks<S: Keeps>()
 }
 
 /// All that happened at such nodes in all their runs, in which a line that changed no row may have come again, is a run of
-/// their network too, where links carry nothing but what was sent. And each packet that these runs print, whole or in part,
-/// is one that the node sent.
+/// their network too, where links carry nothing but what was sent. And whatever these runs answer, whole or in part, tells
+/// of that alone. So each packet that they print is one that the node sent.
 pub fn fed_nodes_are_told<S: Keeps>()
     ensures { FedNodesAreTold (keeper_of S.Kept.content S.Kept.is_honest S.Kept.refusals S.Kept.may_leave) (source_of S.may_refuse S.found) }
 {

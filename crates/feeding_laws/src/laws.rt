@@ -37,8 +37,8 @@ pub fn fed_runs_are_exact<S: Keeps>()
     alike_are_classes();
 }
 
-/// What all these runs write, whole or in part, tells of just what the node did in them: of each packet of theirs, that the
-/// node sent it. A line that changed no row may have come again, and then it is among what the node did each time.
+/// They are runs of one node, and what it did in them for the lines that were answered is that of which alone they wrote. A
+/// line that changed no row may have come again, and then it is among what the node did each time.
 pub fn fed_runs_are_told<S: Keeps>()
     ensures { FedRunsAreTold (keeper_of S.Kept.content S.Kept.is_honest S.Kept.refusals S.Kept.may_leave) (source_of S.may_refuse S.found) }
 {}

@@ -16,9 +16,10 @@
 //!   seen the `done` of none. By the same: `tells`.
 //! - Such runs over one store, each over what the one before left, leave each line once and in order. By law
 //!   `fed_runs_are_exact`.
-//! - Whatever such a run writes of, whole or in part, its node did in it (`IsPiece`), so that each packet which is printed
-//!   was sent. All of them did just what they wrote of, but for what a stop left of one line more. By law
-//!   `fed_runs_are_told`.
+//! - The answers that such a run writes, whole or in part, tell of nothing but what its node did in it for the lines that it
+//!   answered (`IsPiece`). So each packet that it prints was sent. With an echo a line of the input may look like a packet,
+//!   and nothing is said of that. By `runs_are_fed`: `tells`.
+//! - Such runs over one store are runs of one node, in which it did just that. By law `fed_runs_are_told`.
 #![tactic(auto)]
 
 pub mod laws;
