@@ -1,11 +1,11 @@
 #!/usr/bin/env python3
-"""Draws a run of `ocpi_nodes play` as a sequence picture in SVG, or prints it in words.
+"""Draws a run of `ocpi_nodes play --done` as a sequence picture in SVG, or prints it in words.
 
-    examples/draw_run.py examples/play/charge/in.jsonl examples/play/charge/out > charge.svg
-    ./ocpi_nodes play < examples/play/charge/in.jsonl | examples/draw_run.py --text examples/play/charge/in.jsonl
+    ./ocpi_nodes play --done < examples/play/charge/in.jsonl | examples/draw_run.py --text examples/play/charge/in.jsonl
+    examples/draw_run.py examples/play/two_swipes_of_one_card/{in.jsonl,out} > two_swipes.svg
 
 The first file is what the program read: a setup, and an event a line. The second, or else the standard input, is what
-it wrote. In the picture a vertical line is a node, and time goes down. Beside its node stands what happened there, with
+it wrote with `--done`. In the picture a vertical line is a node, and time goes down. Beside its node stands what happened there, with
 the number and the moment of the input line at the left. An arrow is a packet, from where it was sent to where it was
 delivered. Where it was sent stands its name (its serial and its request, as 3/2), its kind and what it says. The arrow
 of a delivery that is not the first is dashed. A packet that no line delivers ends in a cross.

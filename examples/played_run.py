@@ -1,27 +1,12 @@
-"""A run of `ocpi_nodes play`: which lines of its output belong to which line of its input, and what packets say."""
+"""A run of `ocpi_nodes play --done`: which lines of its output belong to which line of its input, and what packets say."""
 
 import json
 from dataclasses import dataclass, field
 from datetime import datetime, timedelta
 from decimal import Decimal
 
-RESEND_AFTER = timedelta(seconds=10)
-LAST_MOMENT = datetime.max
-
-COMMANDS = ("start_session", "stop_session", "reserve_now", "cancel_reservation", "unlock_connector")
-REQUESTS = COMMANDS + ("put_token", "command_result", "put_session", "post_cdr", "authorize")
 REPLIES = ("command_response", "ack", "authorization")
 
-# The result of a command that a charge point's report ends.
-RESULTS = {"accepts": "ACCEPTED", "unlocked": "ACCEPTED", "refuses": "FAILED", "fault": "EVSE_INOPERATIVE"}
-
-# Which events a node may refuse so; a counter may end at any.
-NODE_FAULTS = {
-    "refused 1 NotForMe": ("token", "deliver"),
-    "refused 5 UnknownOperator": ("submit",),
-    "refused 6 UnknownToken": ("submit",),
-    "refused 3 StampEnd": ("token", "starts", "meter", "stops", "fault", "credit"),
-}
 
 class Mismatch(Exception):
     """The output is not that of the input."""
@@ -112,39 +97,17 @@ def spelled(number):
     return f"{number.normalize():f}" if isinstance(number, Decimal) else str(number)
 
 
-def is_same_text(one, other):
-    """Whether two ids are one: they are compared without case."""
-    return one.upper() == str(other).upper()
-
-
 def value_of(line):
     return json.loads(line, parse_float=Decimal)
 
 
-def later(at, delay):
-    return at + delay if at <= LAST_MOMENT - delay else LAST_MOMENT
-
-
-def may_be_refused(line, event, told):
-    """Whether the line may be what was refused so: by its node, or since it cannot be read."""
-    name, _, member = told.split(" ", 2)[2].rstrip(")").partition("(")
-    if told in NODE_FAULTS:
-        return event.get("event") in NODE_FAULTS[told]
-    if name == "Syntax":
-        return not event or len(line.encode()) > 1_048_576
-    if name == "Missing":
-        return member not in event and member not in (event.get("token") or {})
-    return not member or f'"{member}"' in line
-
-
 class Run:
-    """The steps of a run: which line of the output belongs to which line of the input."""
+    """The steps of a run: which lines of the output belong to which line of the input, as the lines with `done` say."""
 
     def __init__(self, inputs, outputs):
         self.outputs = outputs
         self.next = 0
         self.sent, self.said = {}, set()
-        self.due = {}
         self.steps = []
         lines = [(n, line) for n, line in enumerate(inputs, 1) if line]
         if not lines:
@@ -161,20 +124,30 @@ class Run:
         if len(outputs) == 1 and outputs[0].startswith("refused "):
             self.refusal = self.take()
             return
-        for number, line in lines[1:]:
-            self.steps.append(self.step(number, line))
+        for count, (number, line) in enumerate(lines[1:], 2):
+            self.steps.append(self.step(count, number, line))
         self.owed = outputs[self.next:]
         if any(not line.startswith("owed ") for line in self.owed):
-            raise Mismatch(f"no event gives the output's line {self.next + 1}: {self.peek()}")
-
-    def peek(self):
-        return self.outputs[self.next] if self.next < len(self.outputs) else None
+            raise Mismatch(f"no event gives the output's line {self.next + 1}: {self.outputs[self.next]}")
 
     def take(self):
         self.next += 1
         return self.outputs[self.next - 1]
 
-    def step(self, number, line):
+    def answer(self, count, number):
+        """The packets of the line that is the count-th which is not empty, and what its line with `done` says."""
+        packets = []
+        while self.next < len(self.outputs) and self.outputs[self.next].startswith("{"):
+            value = value_of(self.take())
+            if "done" not in value:
+                packets.append(value)
+            elif value["line"] == count and value.get("packets", 0) == len(packets):
+                return packets, value
+            else:
+                break
+        raise Mismatch(f"the output does not say what became of line {number}: it must be that of `play --done`")
+
+    def step(self, count, number, line):
         try:
             event = value_of(line)
             step = Step(number, event if isinstance(event, dict) else {})
@@ -183,108 +156,27 @@ class Run:
         node = step.event.get("node")
         step.node = self.spelled.get(str(node).upper(), str(node or ""))
         step.at = moment(step.event.get("at"))
-        told = self.peek() or ""
-        is_refused = told.startswith("refused ") and may_be_refused(line, step.event, told)
-        if is_refused or told == "skipped" and self.is_skipped(step):
-            step.told = self.take()
-            return step
-        self.deliver(step)
-        if step.event.get("event") == "restart":
-            self.due.update((key, None) for key in self.due if key[0] == step.node)
-        while self.belongs(step):
-            self.send(step)
+        packets, done = self.answer(count, number)
+        if done["done"] == "skipped":
+            step.told = "skipped"
+        elif done["done"] in ("malformed", "refused"):
+            member = f"({done['field']})" if "field" in done else ""
+            step.told = f"refused {done['number']} {done['name']}{member}"
+        else:
+            self.deliver(step)
+            for packet in packets:
+                self.send(step, packet)
         return step
 
-    def is_skipped(self, step):
-        """Whether no node of the setup has the event: an unknown one, of the other role, or a packet not sent to it."""
-        kind, event = step.event.get("event"), step.event
-        if step.node not in self.nodes:
-            return True
-        is_operator = step.node.upper() in self.operators
-        if kind in ("submit", "token"):
-            return is_operator
-        if kind in ("service", "swipe", "accepts", "refuses", "unlocked", "starts", "stops", "fault", "meter", "credit"):
-            return not is_operator
-        return kind == "deliver" and self.named(event, step.node) is None
-
-    def named(self, event, node):
-        """The packet that a delivery names, where it was sent to that node."""
-        sender = self.spelled.get(str(event.get("from")).upper())
-        packet = self.sent.get((sender, event.get("serial")))
-        return packet if packet and packet.to.upper() == node.upper() else None
-
     def deliver(self, step):
+        """Notes the packet that a delivery names."""
         if step.event.get("event") == "deliver":
-            step.delivered = self.named(step.event, step.node)
+            sender = self.spelled.get(str(step.event.get("from")).upper())
+            step.delivered = self.sent.get((sender, step.event.get("serial")))
             if step.delivered:
                 step.delivered.deliveries.append(len(self.steps))
 
-    def belongs(self, step):
-        """Whether the next line of the output is a packet that this event sends."""
-        line = self.peek()
-        if not line or not line.startswith("{"):
-            return False
-        packet = json.loads(line)
-        if packet["from"] != step.node:
-            return False
-        kind, event, body = packet["kind"], step.event.get("event"), packet["body"]
-        was_sent = (step.node, packet["request"]) in self.due
-        first = not step.packets
-        if kind in REPLIES:
-            asked = step.delivered
-            return bool(first and asked and asked.kind in REQUESTS and asked.request == packet["request"])
-        if event == "submit":
-            return first and kind == step.event.get("order") and not was_sent
-        if event == "token":
-            is_same = body.get("uid", "").upper() == str(step.event["token"]["uid"]).upper()
-            return kind == "put_token" and not was_sent and is_same
-        if event == "tick":
-            return self.ticks(step, packet, was_sent)
-        if was_sent or step.node.upper() not in self.operators:
-            return False
-        if event == "deliver":
-            return bool(step.delivered) and self.brings(step, kind, body)
-        if kind == "command_result":
-            return first and body["result"] == RESULTS.get(event)
-        if kind == "put_session":
-            return self.follows(step, body)
-        if kind == "post_cdr" and body.get("credit"):
-            return event == "credit" and first and is_same_text(body["session_id"], step.event.get("session_id"))
-        if kind == "post_cdr":
-            return event in ("stops", "fault") and len(step.packets) == 1
-        return event == "swipe" and kind == "authorize" and first
-
-    @staticmethod
-    def brings(step, kind, body):
-        """Whether a packet that came makes the operator send a result behind its response, or a session."""
-        came = step.delivered
-        if kind == "command_result":
-            at_once = came.kind in ("reserve_now", "cancel_reservation") or \
-                came.kind == "start_session" and body["result"] in ("EVSE_OCCUPIED", "EVSE_INOPERATIVE")
-            return at_once and len(step.packets) == 1 and body["response_url"] == came.body["response_url"]
-        return kind == "put_session" and came.kind == "authorization" and not step.packets
-
-    @staticmethod
-    def follows(step, body):
-        """Whether a version of a session is what such a report makes: its one packet, or behind a start's result."""
-        statuses = {"accepts": ("PENDING",), "swipe": ("PENDING",), "starts": ("ACTIVE",), "meter": ("ACTIVE",),
-                    "stops": ("COMPLETED", "INVALID"), "fault": ("COMPLETED", "INVALID")}
-        event = step.event.get("event")
-        if body["status"] not in statuses.get(event, ()) or len(step.packets) != (event == "accepts"):
-            return False
-        return event != "meter" or abs(float(body["kwh"]) - float(step.event["kwh"])) < 0.0001
-
-    def ticks(self, step, packet, was_sent):
-        """Whether the time sends the packet: again where it is due, or for the first time."""
-        if was_sent:
-            due = self.due[step.node, packet["request"]]
-            return due is None or due <= step.at
-        body = packet["body"]
-        return packet["kind"] == "command_result" and body["result"] == "TIMEOUT" or \
-            packet["kind"] == "put_session" and body["status"] == "PENDING"
-
-    def send(self, step):
-        line = value_of(self.take())
+    def send(self, step, line):
         to = self.spelled.get(line["to"].upper(), line["to"])
         named = line["serial"], line["request"], line["kind"], line["body"]
         packet = Packet(line["from"], to, *named, len(self.steps))
@@ -293,5 +185,3 @@ class Run:
         self.said.add(same)
         self.sent[packet.sender, packet.serial] = packet
         step.packets.append(packet)
-        if packet.kind not in REPLIES and packet.kind != "authorize":
-            self.due[packet.sender, packet.request] = later(step.at, RESEND_AFTER)

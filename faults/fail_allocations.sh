@@ -1,5 +1,5 @@
 #!/usr/bin/env bash
-# Runs the program case_lines, built at the path $1 with faults/fail_allocation.c (tools/try_cases), once for each allocation
+# Runs the program case_lines, built at the path $1 with faults/fail_allocation.c (tools/try cases), once for each allocation
 # that it makes on each of some cases of an operator, a provider, and nodes that are made of rows or are over a keeper, with
 # that allocation failing. Its output must be what the case wants, or a beginning of it where the program then ends with status
 # 1: a step, or the making of a node, that finds no memory is tried again there, and must give the answer and the rows that it

@@ -5,7 +5,6 @@ import json
 import os
 import shutil
 import sqlite3
-import sys
 import tempfile
 from collections.abc import Iterator
 from decimal import Decimal
@@ -13,10 +12,16 @@ from typing import NamedTuple
 
 from network_setups import UNITS, Json, Setup, is_operator
 
-sys.path.append(os.path.join(os.path.dirname(os.path.dirname(os.path.realpath(__file__))), "tools"))
-sys.dont_write_bytecode = True
-from changed_setups import NO_CONNECTOR, NO_EVSE, NO_PARTY, OTHER_CURRENCY, OTHER_LOCATION, SETUP_OF_STORE
-
+# Why a setup refuses a row, by docs/NODE.md.
+SETUP_OF_STORE = "give the setup of the store"
+NO_PARTY = f"it is of or to a party that the setup has not: {SETUP_OF_STORE}"
+NO_EVSE = f"the setup's site has no such EVSE: {SETUP_OF_STORE}"
+NO_CONNECTOR = f"the setup's site has the EVSE, and no such connector of it: {SETUP_OF_STORE}"
+OTHER_LOCATION = f"the setup's site has the EVSE, at another location than it names: {SETUP_OF_STORE}"
+OTHER_CURRENCY = (
+    "the session has not ended, and is in another currency than the setup's: give the currency of the store until all its "
+    "sessions have ended"
+)
 # Where files lie that nobody needs for long.
 QUICK = "/dev/shm" if os.path.isdir("/dev/shm") else None
 LIVES = ("PENDING", "ACTIVE")

@@ -1,4 +1,4 @@
-"""Sums of the contracts under which wrong bodies are refused, for try_wrong.
+"""Sums of the contracts under which wrong bodies are refused, for tools/try wrong.
 
 The sum of an edit is that of the contracts of the functions whose bodies it changes, and of all that these contracts
 name, in the edit's crate and in those below it:

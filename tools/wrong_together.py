@@ -1,4 +1,4 @@
-"""Tries wrong bodies of several functions in one check: for the gate (tools/kit.py) and for try_wrong.
+"""Tries wrong bodies of several functions in one check: for the gate (tools/kit.py) and for tools/try wrong.
 
 What the prover says of a function stands on its body and on the contracts of what it calls, and on no other body. So
 edits of bodies that do not call each other are tried in one check, of the functions alone that they change, from

@@ -11,7 +11,7 @@ told by its name, and the status is 1. With --sums that file is written anew. Wh
 `kept_cases`, `store_cases`, `cell_cases`, `woven_cases`, `thread_cases` and `long_run_cases`. To see where the program
 differs:
 
-    tools/try_cases
+    tools/try cases
 """
 
 import collections

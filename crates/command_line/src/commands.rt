@@ -69,6 +69,7 @@ fn play<'a>(alloc: Global) -> Result<Command<'a>, Error> {
         .about("Apply the events of standard input at the operators and providers of a setup")
         .after_help(help::PLAY);
     let command = with_arg(command, folder(alloc))?;
+    let command = with_arg(command, done(alloc))?;
     with_telling(alloc, command)
 }
 
@@ -78,6 +79,13 @@ fn folder<'a>(alloc: Global) -> Arg<'a> {
         .long("store")
         .value_name("DIR")
         .help("Keep the rows of each node in a file of this folder")
+}
+
+fn done<'a>(alloc: Global) -> Arg<'a> {
+    Arg::new(alloc, "done")
+        .long("done")
+        .action(ArgAction::SetTrue)
+        .help("Print behind the packets of each event what became of it, as `node` does")
 }
 
 fn node<'a>(alloc: Global) -> Result<Command<'a>, Error> {

@@ -62,6 +62,9 @@ Output, on standard output:
   member where one is at fault. It changes nothing, and the next line follows; a refused or absent
   setup ends the run.
   At the end: what each provider owes each operator, as `owed NL/TNM BE/BEC EUR 3.0864`.
+  With --done each event ends with a line that says what became of it, as of `node`: `stepped`,
+  `idle`, `skipped`, `refused` or `malformed`. It replaces `skipped`, and `refused N Name` but of the
+  setup. Its `line` counts the lines that are not empty; the setup is line 1.
   All answers are printed before the program waits for more input.
 
 Explanations, on standard error: with --explain, for each line that was refused: its number, the

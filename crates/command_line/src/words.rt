@@ -31,6 +31,8 @@ pub enum Word<'a> {
 pub struct PlayWords<'a> {
     /// The folder of the stores, where the nodes keep their rows in files.
     pub folder: Option<&'a str>,
+    /// Whether a line says what became of each event.
+    pub done: bool,
     /// What is told of the lines.
     pub telling: Telling,
 }
@@ -70,7 +72,7 @@ pub struct FileWords<'a> {
     pub store: Option<&'a str>,
 }
 
-/// Takes the command line `ocpi_nodes [answer | play [--store DIR] | node PARTY [--store FILE [--existing]]
+/// Takes the command line `ocpi_nodes [answer | play [--store DIR] [--done] | node PARTY [--store FILE [--existing]]
 /// [--echo | --transcript FILE] | settle FILE | weave [--given PARTY].. [[--store STORE] FILE].. | help [COMMAND]]`,
 /// the first three also with `--explain` and `--strict`, or gives clap's text: the help or the version that was asked
 /// for, or what is wrong.
@@ -177,6 +179,7 @@ fn word_of<'a>(matches: &ArgMatches<'a>) -> Word<'a> {
     if let Some(given) = matches.subcommand_matches("play") {
         return Word::Play(PlayWords {
             folder: given.get_str("store"),
+            done: given.get_flag("done"),
             telling: telling_of(given),
         });
     }

@@ -4,7 +4,7 @@
 //! let watch = RefCell::new(Watch::new(alloc, Program::Play, telling, false, errors));
 //! let mut input = LineReader::new(WatchedReader::new(reader, Some(&watch)));
 //! let mut writer = WatchedWriter::new(writer, Some(&watch));
-//! run_play(alloc, seed, &mut input, &mut writer, &mut keeps, &mut kept)
+//! run_play(alloc, seed, &mut input, &mut writer, &mut keeps, false, &mut kept)
 //! ```
 //!
 //! # Promises

@@ -1,6 +1,5 @@
 //! What a line of the output says became of a line of the input.
 
-use crate::answers::Program;
 use json::{Scratch, Value};
 use std::alloc::{AllocError, Global};
 use std::str;
@@ -28,26 +27,19 @@ pub struct Said {
     pub line: Option<u64>,
 }
 
-/// What a line of the output of a program says.
-pub fn said_by(alloc: Global, program: Program<'_>, output: &[u8]) -> Said {
-    match program {
-        Program::Answer | Program::Play => Said {
+/// What a line of the output of a program says. No packet begins as a line with `done` does.
+pub fn said_by(alloc: Global, output: &[u8]) -> Said {
+    match str::from_utf8(output) {
+        Ok(text) if text.starts_with("{\"done\":") => said_by_done(alloc, text),
+        _ => Said {
             outcome: outcome_of(output),
             event: None,
             line: None,
         },
-        Program::Node(_) => match str::from_utf8(output) {
-            Ok(text) if text.starts_with("{\"done\":") => said_by_done(alloc, text),
-            _ => Said {
-                outcome: Outcome::Other,
-                event: None,
-                line: None,
-            },
-        },
     }
 }
 
-/// What a line of `answer` or `play` says.
+/// What a line without `done` says.
 fn outcome_of(output: &[u8]) -> Outcome {
     if output.starts_with(b"refused ") {
         Outcome::Refused
@@ -92,23 +84,15 @@ fn event_of(done: &Value<'_>) -> Option<usize> {
 }
 
 /// The number and the name of the refusal that a line of the output tells, as `1 NotForMe`.
-pub fn refusal_of(
-    alloc: Global,
-    program: Program<'_>,
-    output: &[u8],
-) -> Result<String, AllocError> {
+pub fn refusal_of(alloc: Global, output: &[u8]) -> Result<String, AllocError> {
     let text = str::from_utf8(output).unwrap_or("");
-    match program {
-        Program::Answer | Program::Play => {
-            String::from_str(alloc, text.strip_prefix("refused ").unwrap_or(text))
-        }
-        Program::Node(_) => {
-            let mut scratch = Scratch::new(alloc);
-            match Value::parse(alloc, text, &mut scratch) {
-                Ok(done) => refusal_of_done(alloc, &done),
-                Err(_) => String::from_str(alloc, text),
-            }
-        }
+    if let Some(refusal) = text.strip_prefix("refused ") {
+        return String::from_str(alloc, refusal);
+    }
+    let mut scratch = Scratch::new(alloc);
+    match Value::parse(alloc, text, &mut scratch) {
+        Ok(done) => refusal_of_done(alloc, &done),
+        Err(_) => String::from_str(alloc, text),
     }
 }
 

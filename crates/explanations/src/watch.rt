@@ -211,7 +211,7 @@ impl<'p, E: Write> Watch<'p, E> {
     fn end_output(&mut self) {
         if self.is_echoed {
             self.is_answered = true;
-            let said = said_by(self.alloc, self.program, self.output.as_slice());
+            let said = said_by(self.alloc, self.output.as_slice());
             self.judge(said);
         } else {
             self.is_echoed = true;
@@ -219,7 +219,7 @@ impl<'p, E: Write> Watch<'p, E> {
         self.output.clear();
     }
 
-    /// In `play` an event that gave nothing is told of where it is a report of a charge point.
+    /// In `play` without `--done` an event that gave nothing is told of where it is a report of a charge point.
     fn settle(&mut self) {
         if self.is_answered || self.is_first || self.line.is_empty() {
             return;
@@ -359,7 +359,7 @@ impl<'p, E: Write> Watch<'p, E> {
                 Ok(true)
             }
             Outcome::Refused | Outcome::Other => {
-                let name = refusal_of(self.alloc, self.program, self.output.as_slice())?;
+                let name = refusal_of(self.alloc, self.output.as_slice())?;
                 tell_refused(case, name.as_str(), event, output)?;
                 Ok(true)
             }

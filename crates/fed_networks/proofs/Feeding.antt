@@ -15,7 +15,7 @@ use Rattle.world_steps.specs.World.{opening_of}
 use Rattle.fed_networks.proofs.Merging.{nodes_form_networks}
 use Rattle.fed_networks.specs.Fed.{AreLivesOf, FedNode, FedNodesFormNetworks, IsLifeOf}
 use Rattle.fed_networks.specs.Laws.{AreNodes}
-use Rattle.fed_networks.specs.Lives.{Life, NodeSetups}
+use Rattle.fed_networks.specs.Lives.{History, Life, NodeSetups, history_of}
 
 module _ {K : Type 0} (keeper : Keeper K) (source : Source K) (exact : FedRunsAreExact keeper source) (held : EmptyIsHeld) (openings : OpeningsCanStartAgain) where
   life_of : (n : FedNode keeper source) → IsSetup n.of.setup → Contains n.of.setup n.of.member → (l : Life) × IsLifeOf n l
@@ -27,7 +27,7 @@ module _ {K : Type 0} (keeper : Keeper K) (source : Source K) (exact : FedRunsAr
   record Lived (ns : List (FedNode keeper source)) : Type 0 where
     lives : List Life
     are : AreLivesOf ns lives
-    of : map (λ (n : FedNode keeper source). n.of) ns ≡ map (λ (l : Life). l.of) lives
+    of : map (λ (n : FedNode keeper source). n.of) ns ≡ map (λ (h : History). h.of) (map history_of lives)
 
   all_lived : (ns : List (FedNode keeper source)) → ((n : NodeSetups) → Contains (map (λ (n : FedNode keeper source). n.of) ns) n → IsSetup n.setup × Contains n.setup n.member) → Lived ns
   all_lived [] each = record { lives = []; are = tt; of = refl }

@@ -1,3 +1,4 @@
 pub mod Living
 pub mod Merging
 pub mod Feeding
+pub mod Telling

@@ -26,13 +26,13 @@ happens (Provides s) (AtProvider e) (Operates t) step = absurd step
 happens (Provides s) (AtOperator e) t step = absurd step
 
 -- what is so behind events
-record Lived (member : Node) (first : NodeState) (es : List NodeEvent) (now : NodeState) : Type 0 where
-  run : Run NodeHappens first es now
-  can : CanStartAgain now
-  own : IsNodeOf member now
+pub record Lived (member : Node) (first : NodeState) (es : List NodeEvent) (now : NodeState) : Type 0 where
+  pub run : Run NodeHappens first es now
+  pub can : CanStartAgain now
+  pub own : IsNodeOf member now
 
 module _ (again : NodesCanStartAgain) (member : Node) where
-  lived_on : (first now next : NodeState) (es xs : List NodeEvent) → Lived member first es now → Run NodeStep now xs next → Lived member first (es ++ xs) next
+  pub lived_on : (first now next : NodeState) (es xs : List NodeEvent) → Lived member first es now → Run NodeStep now xs next → Lived member first (es ++ xs) next
   lived_on first now next es [] h run =
       subst (λ (l : List NodeEvent). Lived member first l next) (sym (append-nil es)) (subst (Lived member first es) (sym run) h)
   lived_on first now next es (x ∷ xs) h (then, step, rest) =

@@ -27,7 +27,7 @@ use Rattle.world_steps.proofs.Histories.{sent_join}
 use Rattle.world_steps.proofs.Places.{is_in, of_mapped, set_other, set_same, some_same, stands}
 use Rattle.fed_networks.proofs.Living.{life_runs}
 use Rattle.fed_networks.specs.Laws.{AreLives, Happened, InventNothing, IsNetworkOf, NodesFormNetworks, setups_of}
-use Rattle.fed_networks.specs.Lives.{Life}
+use Rattle.fed_networks.specs.Lives.{History, Life, history_of}
 
 opens_own : (setup : List Node) (n : Node) → networks.opening_of (setup_of setup n) ≡ opening_of setup n
 opens_own setup (node.Operator party site) = refl
@@ -50,10 +50,14 @@ mapped_at f [] i x at = absurd (cc at)
 mapped_at f (y ∷ ys) zero x at = cc at
 mapped_at f (y ∷ ys) (suc i) x at = mapped_at f ys i x at
 
-module _ (again : NodesCanStartAgain) (openings : OpeningsCanStartAgain) (lives : List Life) (all : List Happening) (are : AreLives lives) (happened : Happened lives all) (invent : InventNothing lives all) where
+-- each history is a run of its node
+abbrev pub Running : List History → Type 0
+Running lives = (i : ℕ) (l : History) → slice_get lives i ≡ Some l → Run NodeHappens (opening_of l.of.setup l.of.member) l.events l.now
+
+module _ (lives : List History) (all : List Happening) (runs : Running lives) (are : AreLives lives) (happened : Happened lives all) (invent : InventNothing lives all) where
   -- where a node stands between two parts of what happened
   record Stands (i : ℕ) (p : Place) (before xs : List Happening) : Type 0 where
-    life : Life
+    life : History
     of : slice_get lives i ≡ Some life
     party : p.party ≡ party_of life.of.member
     run : Run NodeHappens p.node (history xs i) life.now
@@ -134,17 +138,17 @@ module _ (again : NodesCanStartAgain) (openings : OpeningsCanStartAgain) (lives 
       let r = go xs (before ++ x ∷ []) n.after (append_assoc before (x ∷ []) xs ∙ is) (n.size ∙ size) n.standing in
       record { after = r.after; run = (n.after, n.step, r.run); standing = r.standing }
 
-  one_of : (i : ℕ) (l : Life) → slice_get lives i ≡ Some l → Contains (map (λ (x : Life). x.of) lives) l.of
-  one_of i l at = is_in (map (λ (x : Life). x.of) lives) i l.of (mapped_at (λ (x : Life). x.of) lives i l at)
+  one_of : (i : ℕ) (l : History) → slice_get lives i ≡ Some l → Contains (map (λ (x : History). x.of) lives) l.of
+  one_of i l at = is_in (map (λ (x : History). x.of) lives) i l.of (mapped_at (λ (x : History). x.of) lives i l at)
 
-  setup_at : (i : ℕ) (s : Setup) → slice_get (setups_of lives) i ≡ Some s → (l : Life) × (slice_get lives i ≡ Some l) × (setup_of l.of.setup l.of.member ≡ s)
-  setup_at i s at = of_mapped (λ (l : Life). setup_of l.of.setup l.of.member) lives i s at
+  setup_at : (i : ℕ) (s : Setup) → slice_get (setups_of lives) i ≡ Some s → (l : History) × (slice_get lives i ≡ Some l) × (setup_of l.of.setup l.of.member ≡ s)
+  setup_at i s at = of_mapped (λ (l : History). setup_of l.of.setup l.of.member) lives i s at
 
   standing_first : Standing (opened (setups_of lives)) [] all
   standing_first i p at =
       let (s, there, is) = of_mapped place_of (setups_of lives) i p at in
       let (l, of, is_s) = setup_at i s there in
-      let run = life_runs again openings l (are.setups l.of (one_of i l of)) (are.members l.of (one_of i l of)) (are.alike l.of (one_of i l of)) in
+      let run = runs i l of in
       subst (λ (z : Place). Stands i z [] all) is (record {
         life = l;
         of = of;
@@ -169,18 +173,30 @@ module _ (again : NodesCanStartAgain) (openings : OpeningsCanStartAgain) (lives 
       apart i j n m at there same =
           let (l, of, is) = setup_at i n at in
           let (k, of_k, is_k) = setup_at j m there in
-          are.apart i j l.of k.of (mapped_at (λ (x : Life). x.of) lives i l of) (mapped_at (λ (x : Life). x.of) lives j k of_k) (ap key (sym (named_own l.of.setup l.of.member) ∙ ap name_of is) ∙ same ∙ ap key (sym (ap name_of is_k) ∙ named_own k.of.setup k.of.member))
+          are.apart i j l.of k.of (mapped_at (λ (x : History). x.of) lives i l of) (mapped_at (λ (x : History). x.of) lives j k of_k) (ap key (sym (named_own l.of.setup l.of.member) ∙ ap name_of is) ∙ same ∙ ap key (sym (ap name_of is_k) ∙ named_own k.of.setup k.of.member))
 
   whole : Went (opened (setups_of lives)) all
-  whole = go all [] (opened (setups_of lives)) refl (mapped_size place_of (setups_of lives) ∙ mapped_size (λ (l : Life). setup_of l.of.setup l.of.member) lives) standing_first
+  whole = go all [] (opened (setups_of lives)) refl (mapped_size place_of (setups_of lives) ∙ mapped_size (λ (l : History). setup_of l.of.setup l.of.member) lives) standing_first
 
   pub is_network : IsNetworkOf lives all
   is_network = record {
     network = whole.after;
     run = whole.run;
-    ends = λ i l p of at. let s = whole.standing i p at in sym s.run ∙ ap (λ (k : Life). k.now) (some_same s.life l (sym s.of ∙ of));
+    ends = λ i l p of at. let s = whole.standing i p at in sym s.run ∙ ap (λ (k : History). k.now) (some_same s.life l (sym s.of ∙ of));
     right = networks_are_right (setups_of lives) all whole.after are_setups whole.run;
   }
 
+pub histories_form_networks : (hs : List History) (xs : List Happening) → Running hs → AreLives hs → Happened hs xs → InventNothing hs xs → IsNetworkOf hs xs
+histories_form_networks hs xs runs are happened invent = is_network hs xs runs are happened invent
+
+lives_run : NodesCanStartAgain → OpeningsCanStartAgain → (lives : List Life) → AreLives (map history_of lives) → Running (map history_of lives)
+lives_run again openings lives are i h at =
+    let (l, of, is) = of_mapped history_of lives i h at in
+    let here : Contains (map (λ (l : History). l.of) (map history_of lives)) l.of =
+    subst (λ (k : History). Contains (map (λ (l : History). l.of) (map history_of lives)) k.of) (sym is)
+    (is_in (map (λ (x : History). x.of) (map history_of lives)) i h.of (mapped_at (λ (x : History). x.of) (map history_of lives) i h at)) in
+    subst (λ (k : History). Run NodeHappens (opening_of k.of.setup k.of.member) k.events k.now) is
+    (life_runs again openings l (are.setups l.of here) (are.members l.of here) (are.alike l.of here))
+
 pub nodes_form_networks : NodesCanStartAgain → OpeningsCanStartAgain → NodesFormNetworks
-nodes_form_networks again openings lives xs are happened invent = is_network again openings lives xs are happened invent
+nodes_form_networks again openings lives xs are happened invent = is_network (map history_of lives) xs (lives_run again openings lives are) are happened invent

@@ -2,10 +2,10 @@
 
 ghost use Rattle.stored_nodes.specs.Keepers.{keeper_of};
 ghost use Rattle.node_keepers.specs.Opening.{source_of};
-ghost use Rattle.fed_networks.specs.Fed.{FedNodesFormNetworks};
+ghost use Rattle.fed_networks.specs.Fed.{FedNodesAreTold, FedNodesFormNetworks};
 ghost use Rattle.fed_networks.specs.Laws.{NodesFormNetworks};
 
-use feeding_laws::laws::fed_runs_are_exact;
+use feeding_laws::laws::{fed_runs_are_exact, fed_runs_are_told};
 use node_keepers::Keeps;
 use node_rows::laws::empty_is_held;
 use stored_laws::laws::{nodes_can_start_again, openings_can_start_again};
@@ -29,4 +29,16 @@ pub fn fed_nodes_form_networks<S: Keeps>()
     openings_can_start_again();
     empty_is_held();
     fed_runs_are_exact::<S>();
+}
+
+/// All that happened at such nodes in all their runs, in which a line that changed no row may have come again, is a run of
+/// their network too, where links carry nothing but what was sent. And whatever these runs answer, whole or in part, tells
+/// of that alone. So each packet that they print is one that the node sent.
+pub fn fed_nodes_are_told<S: Keeps>()
+    ensures { FedNodesAreTold (keeper_of S.Kept.content S.Kept.is_honest S.Kept.refusals S.Kept.may_leave) (source_of S.may_refuse S.found) }
+{
+    nodes_can_start_again();
+    openings_can_start_again();
+    empty_is_held();
+    fed_runs_are_told::<S>();
 }

@@ -17,12 +17,14 @@ use Rattle.node_runs.specs.NodeOutputs as outputs
 use Rattle.node_runs.specs.NodeOutputs.{BeginsSo, IsKept, asked_for, begin_bytes}
 use Rattle.node_runs.specs.NodeTurns as turns
 use Rattle.node_runs.specs.NodeTurns.{IsMember, IsUnbegun, Running, SetupTurn, Stage, keep_in, number_from, opened_stage, opening}
+use Rattle.node_runs.specs.NumberedRuns.{all_done}
 use Rattle.node_runs.specs.SetupLines.{numbered_setup_in}
 use Rattle.node_runs.specs.declared.fault.NodeStop.TheVariants.{Memory}
 use Rattle.ocpi_types.specs.Setups.{party_of}
 use Rattle.ocpi_types.specs.declared.setup.Node.{Node}
 use Rattle.stored_laws.specs.Nodes.{NodesCanStartAgain}
 use Rattle.stored_nodes.specs.Keepers.{Keeper}
+use Rattle.world_steps.specs.Steps.{NodeEvent as Deed}
 use Rattle.feeding_laws.proofs.Fed.{Before, Comes, Going, Runs, all_come, line_tells, no_piece, one_kept, one_line, opened_so, read_on, tells_join, tells_more, tells_on}
 use Rattle.feeding_laws.proofs.Left.{IsMade, answered_by, at_stage, fits, front_of, lost, next_at, no_setup, none_empty, of_first, one_setup, ran_so, unbegun}
 use Rattle.feeding_laws.proofs.Members.{one_member}
@@ -46,11 +48,11 @@ module _ (held : ChangesAreHeld) (start : NodesCanStartAgain) {K : Type 0} (keep
   Fed all = IsFed setup lines base most all
 
   abbrev Left : List ℕ → Option K → Type 0
-  Left text kept = WasFed keeper source setup member lines base most text kept
+  Left text kept = WasFed keeper source setup member lines base most echo text kept
 
   -- what tells of no line above some number goes on so
   abbrev Tell : List ℕ → List ℕ → Type 0
-  Tell out text = (n : ℕ) → TellsTo n most out → TellsTo n most text
+  Tell out text = (d : List Deed) (n : ℕ) → TellsTo echo d n most out → TellsTo echo d n most text
 
   first_setup : (before later : List (List ℕ)) (line : List ℕ) (xs : List Node) (m : Option ℕ) → 0 < length line → some_lines before ≡ [] → numbered_setup_in line ≡ Ok (xs, m)
       → Fed (before ++ line ∷ later) → ◌≡◌ {A = List Node × Option ℕ} (xs, m) (setup, Some base)
@@ -71,33 +73,34 @@ module _ (held : ChangesAreHeld) (start : NodesCanStartAgain) {K : Type 0} (keep
     setup_ended is none nothing (turns.Opened o taken written next) = absurd (not_ended turn taken at_end)
     setup_ended is none nothing (turns.Untold o ended written next) =
         let number = number_from o.base o.last in
-        let tells = line_tells echo line m (subst (TellsTo number most) (sym nothing) nothing_told) (subst (IsPiece number most) (sym written) no_piece) in
+        let g = opened_so keeper source wanted opened echo most before line s o some none (ap (λ (s : Stage K). s.wanted) is) in
+        let tells = line_tells line m (subst (TellsTo echo (all_done g.did) number most) (sym nothing) nothing_told) (subst (IsPiece echo (all_done g.did) number most) (sym written) no_piece) in
         at_stage held start keeper source wanted opened echo most setup lines base member only (before ++ line ∷ []) later (out ++ (echo_of echo line ++ take m more)) text (opened_stage s o (Some Memory)) kept
         (subst Fed (sym (append_assoc before (line ∷ []) later)) fed)
-        (Runs (record { party = party_of o.member; node = o.node }) refl o.setup o.base line (opened_so keeper source wanted opened echo most before line s o some none (ap (λ (s : Stage K). s.wanted) is)) tells)
+        (Runs (record { party = party_of o.member; node = o.node }) refl o.setup o.base line g tells)
         (sym (ap (λ (t : Stage K). keep_in t.running t.spare) next) ∙ left) (subst (λ (t : Stage K). IsKept keeper t.running) next stored) tell
     setup_ended is none nothing (turns.Unbegun xs n read places spare stop began ended written next) =
         let spare_is : spare ≡ kept = sym (ap (λ (t : Stage K). keep_in t.running t.spare) next) ∙ left in
         subst (Left text) spare_is
         (unbegun held start keeper source wanted opened echo most setup lines base member only line xs n places spare stop text read (first_setup before later line xs n some none read fed)
         (subst (λ (w : Option (List ℕ)). IsUnbegun keeper source xs w places spare stop) (ap (λ (s : Stage K). s.wanted) is) began)
-        (λ n. tell n (line_tells echo line m (subst (TellsTo n most) (sym nothing) nothing_told) (subst (IsPiece n most) (sym written) no_piece))))
+        (λ d n. tell d n (line_tells line m (subst (TellsTo echo d n most) (sym nothing) nothing_told) (subst (IsPiece echo d n most) (sym written) no_piece))))
     setup_ended is none nothing (turns.NoSetup fault fails other ended written next) =
         subst (Left text) (sym (ap (λ (t : Stage K). keep_in t.running t.spare) (next ∙ is)) ∙ left)
-        (Unopened (tell base (line_tells echo line m (subst (TellsTo base most) (sym nothing) nothing_told) (subst (IsPiece base most) (sym written) (NoSetup 1 (omega arith) fault)))))
+        (Unopened (tell [] base (line_tells line m (subst (TellsTo echo [] base most) (sym nothing) nothing_told) (subst (IsPiece echo [] base most) (sym written) (NoSetup 1 (omega arith) fault)))))
     setup_ended is none nothing (turns.Unread ended written next) =
         subst (Left text) (sym (ap (λ (t : Stage K). keep_in t.running t.spare) next ∙ ap (λ (s : Stage K). s.spare) is) ∙ left)
-        (Unopened (tell base (line_tells echo line m (subst (TellsTo base most) (sym nothing) nothing_told) (subst (IsPiece base most) (sym written) no_piece))))
+        (Unopened (tell [] base (line_tells line m (subst (TellsTo echo [] base most) (sym nothing) nothing_told) (subst (IsPiece echo [] base most) (sym written) no_piece))))
 
     -- of another
-    behind_ended : (now : Running K) (xs : List Node) (n : Option ℕ) (first : List ℕ) → Going keeper source wanted opened echo most xs n first before s.number s.known now → TellsTo s.number most out
+    behind_ended : (now : Running K) (xs : List Node) (n : Option ℕ) (first : List ℕ) → (h : Going keeper source wanted opened echo most xs n first before s.number s.known now) → TellsTo echo (all_done h.did) s.number most out
         → BehindTurn keeper now s line turn more t → Left text kept
     behind_ended now xs n first h tells (answers.WasKnown is taken written next) = absurd (not_ended turn taken at_end)
     behind_ended now xs n first h tells (answers.WasBeyond is refused written next) = absurd (not_refused turn refused at_end)
     behind_ended now xs n first h tells (answers.GoesOn new few after is next) =
         let b = read_on keeper source wanted opened echo most before s t now after line turn more some new few is next h in
         at_stage held start keeper source wanted opened echo most setup lines base member only (before ++ line ∷ []) later (out ++ (echo_of echo line ++ take m more)) text t kept
-        (subst Fed (sym (append_assoc before (line ∷ []) later)) fed) (Runs b.0 b.1 xs n first b.2 (line_tells echo line m (tells_more b.4 tells) b.3)) left stored tell
+        (subst Fed (sym (append_assoc before (line ∷ []) later)) fed) (Runs b.0 b.1 xs n first b.2 (line_tells line m (tells_more b.5 b.4 tells) b.3)) left stored tell
     behind_ended now xs n first h tells (answers.Ends stop keep loses known kept_then number ended written next) =
         let f = fits held start keeper source wanted opened echo most setup lines base member only xs n first before (line ∷ later) s.number s.known now h fed in
         let r = front_of held start keeper source wanted opened echo most setup lines base member only f in
@@ -106,7 +109,7 @@ module _ (held : ChangesAreHeld) (start : NodesCanStartAgain) {K : Type 0} (keep
         (ran_so held start keeper source wanted opened echo most setup lines base member only g (answered_by held start keeper source wanted opened echo most setup lines base member only f r) kept_then
         (IsMade keeper line s.number s.known now) (next_at held start keeper source wanted opened echo most setup lines base member only f some r) keep
         (λ honest. lost keeper line s.number s.known now stop keep loses known g.settled honest) text
-        (tell s.number (line_tells echo line m tells (subst (IsPiece s.number most) (sym written) no_piece))))
+        (subst (λ (d : List Deed). TellsTo echo d s.number most text) (sym f.does) (tell (all_done h.did) s.number (line_tells line m tells (subst (IsPiece echo (all_done h.did) s.number most) (sym written) no_piece)))))
 
   at_line : (before later : List (List ℕ)) (out text : List ℕ) (s t : Stage K) (place : ℕ) (line : List ℕ) (turn : Turn) (more : List ℕ) (m : ℕ) (kept : Option K) → Fed (before ++ line ∷ later)
       → Comes keeper source wanted opened echo most before out s → 0 < length line → NodeLineGives keeper source s place line turn more t → keep_in t.running t.spare ≡ kept → IsKept keeper t.running
@@ -129,9 +132,9 @@ module _ (held : ChangesAreHeld) (start : NodesCanStartAgain) {K : Type 0} (keep
   -- ---- a run
 
   -- what is written at the end of the input
-  end_piece : (n : ℕ) (q : Option (Running K)) (how : How) (more : List ℕ) → NodeEnd q how more → IsPiece n most more
-  end_piece n None how more is = subst (IsPiece n most) (sym is.1) (NoSetup 0 (omega arith) Syntax)
-  end_piece n (Some now) how more is = subst (IsPiece n most) (sym is.1) no_piece
+  end_piece : (d : List Deed) (n : ℕ) (q : Option (Running K)) (how : How) (more : List ℕ) → NodeEnd q how more → IsPiece echo d n most more
+  end_piece d n None how more is = subst (IsPiece echo d n most) (sym is.1) (NoSetup 0 (omega arith) Syntax)
+  end_piece d n (Some now) how more is = subst (IsPiece echo d n most) (sym is.1) no_piece
 
   abbrev Stays : Stage K → Option K → Type 0
   Stays last kept = (keep_in last.running last.spare ≡ kept) × IsKept keeper last.running
@@ -140,10 +143,10 @@ module _ (held : ChangesAreHeld) (start : NodesCanStartAgain) {K : Type 0} (keep
       → IsNumberedRun (NodeLineGives keeper source) NodeEndGives echo (opening wanted opened) all how out last → Fed all → Stays last kept → Tell out text → Left text kept
   run_ends kept text (numbered_end {s = s} {all = all} {last = how} {out = out} {more = more} are gives) fed stays tell =
       at_stage held start keeper source wanted opened echo most setup lines base member only all [] out text s kept (subst Fed (sym (append-nil all)) fed)
-      (all_come keeper source wanted opened echo most are) stays.0 stays.1 (λ n tells. tell n (tells_on tells (end_piece n s.running how more gives)))
+      (all_come keeper source wanted opened echo most are) stays.0 stays.1 (λ d n tells. tell d n (tells_on tells (end_piece d n s.running how more gives)))
   run_ends kept text (numbered_stop {s = s} {t = t} {line = line} {before = before} {out = out} {more = more} are some gives later) fed stays tell =
       at_line before later out text s t (length before + 1) line Ended more (length more) kept fed (all_come keeper source wanted opened echo most are) some gives stays.0 stays.1
-      (λ n tells. tell n (subst (λ (l : List ℕ). TellsTo n most (out ++ (echo_of echo line ++ l))) (take_all (length more) more (omega arith)) tells))
+      (λ d n tells. tell d n (subst (λ (l : List ℕ). TellsTo echo d n most (out ++ (echo_of echo line ++ l))) (take_all (length more) more (omega arith)) tells))
 
   begun_ends : {all : List (List ℕ)} {out : List ℕ} {last : Stage K} (kept : Option K) (text : List ℕ)
       → IsNumberedBegun (NodeLineGives keeper source) NodeEndGives echo (opening wanted opened) all out last → Fed all → Stays last kept → Tell out text → Left text kept
@@ -151,16 +154,16 @@ module _ (held : ChangesAreHeld) (start : NodesCanStartAgain) {K : Type 0} (keep
       at_stage held start keeper source wanted opened echo most setup lines base member only before later out text s kept fed (all_come keeper source wanted opened echo most are) stays.0 stays.1 tell
   begun_ends kept text (begun_echo {s = s} {before = before} {out = out} are line front more is later) fed stays tell =
       at_stage held start keeper source wanted opened echo most setup lines base member only before (line ∷ later) out text s kept fed (all_come keeper source wanted opened echo most are) stays.0 stays.1
-      (λ n tells. tell n (subst (λ (l : List ℕ). TellsTo n most (out ++ l)) (ap (take (length front)) is ∙ take_at front more (length front) refl) (piece_told tells (Echo echo line) (length front))))
+      (λ d n tells. tell d n (subst (λ (l : List ℕ). TellsTo echo d n most (out ++ l)) (ap (take (length front)) is ∙ take_at front more (length front) refl) (piece_told tells (Echo line) (length front))))
   begun_ends kept text (begun_answer {s = s} {t = t} {line = line} {before = before} {turn = turn} {out = out} {more = more} are some gives later n) fed stays tell =
       at_line before later out text s t (length before + 1) line turn more n kept fed (all_come keeper source wanted opened echo most are) some gives stays.0 stays.1 tell
   begun_ends kept text (begun_end {s = s} {all = all} {last = how} {out = out} {more = more} are gives n) fed stays tell =
       at_stage held start keeper source wanted opened echo most setup lines base member only all [] out text s kept (subst Fed (sym (append-nil all)) fed)
-      (all_come keeper source wanted opened echo most are) stays.0 stays.1 (λ k tells. tell k (piece_told tells (end_piece k s.running how more gives) n))
+      (all_come keeper source wanted opened echo most are) stays.0 stays.1 (λ d k tells. tell d k (piece_told tells (end_piece d k s.running how more gives) n))
 
   -- behind what an echo begins with
   begins_tell : (out : List ℕ) → Tell out (begin_bytes echo ++ out)
-  begins_tell out n tells = tells_join (tells_on nothing_told (Beginning echo)) tells
+  begins_tell out d n tells = tells_join (tells_on nothing_told Beginning) tells
 
   abbrev Result : List ℕ → Option (List ℕ) → Option K → Type 0
   Result before new kept = (text : List ℕ) × (new ≡ Some (before ++ text)) × Left text kept
@@ -187,7 +190,7 @@ module _ (held : ChangesAreHeld) (start : NodesCanStartAgain) {K : Type 0} (keep
     take n (begin_bytes echo),
     ap Some is,
     at_stage held start keeper source wanted opened echo most setup lines base member only [] (lines_of input) [] (take n (begin_bytes echo)) last kept fed
-        (Before first refl refl) stays.0 stays.1 (λ k tells. piece_told nothing_told (Beginning echo) n),
+        (Before first refl refl) stays.0 stays.1 (λ d k tells. piece_told nothing_told Beginning n),
   )
 
   broke : (input before : List ℕ) (new : Option (List ℕ)) (last : Stage K) (kept : Option K) → Fed (lines_of input)

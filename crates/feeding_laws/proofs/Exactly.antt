@@ -81,7 +81,7 @@ rows_before : (rows : List Row) (n : NodeState) → AreNodeRows rows (restarted 
 rows_before rows (Operates s) are = are
 rows_before rows (Provides s) are = are
 
-alike_rows : (rows : List Row) (n m : NodeState) → restarted n ≡ restarted m → AreNodeRows rows n → AreNodeRows rows m
+pub alike_rows : (rows : List Row) (n m : NodeState) → restarted n ≡ restarted m → AreNodeRows rows n → AreNodeRows rows m
 alike_rows rows n m same are = rows_before rows m (subst (AreNodeRows rows) same (rows_again rows n are))
 
 module _ (alike : RestartsAreHeld) (classes : AreClasses) where

@@ -1,6 +1,6 @@
 -- What a run of `node` leaves that is fed lines by their numbers, wherever it ends.
 use Rattle.std.proofs.Common.{◌≡◌, ◌≢◌, ◌⊎◌, ◌++◌, ◌∙◌, ◌+◌, ◌<◌, ◌≤◌, ℕ, zero, suc, Bool, List, [], ◌∷◌, Option, Some, Ok, Err, refl, sym, ap, subst, inl, inr, arith, length, length-append, append_assoc, append-nil}
-use Rattle.std.specs.Prelude.{All, slice_get}
+use Rattle.std.specs.Prelude.{All, Contains, slice_get}
 use Rattle.std.proofs.lemmas.List.Concat.{flat_map-append}
 use Rattle.line_runs.specs.declared.run.Turn.{Turn}
 use Rattle.json_text.specs.declared.fault.JsonFault.{JsonFault}
@@ -15,7 +15,7 @@ use Rattle.node_runs.specs.NodeHistories.{IsLeftBy, kept_line, some_lines}
 use Rattle.node_runs.specs.NodeOutputs.{IsKept}
 use Rattle.node_runs.specs.NodeTurns as turns
 use Rattle.node_runs.specs.NodeTurns.{IsMember, IsUnbegun, Running, Stage, keep_in}
-use Rattle.node_runs.specs.NumberedRuns.{Carries, Changed, Numbered, one_carried}
+use Rattle.node_runs.specs.NumberedRuns.{Carries, Changed, Numbered, all_done, one_carried}
 use Rattle.node_runs.specs.SetupLines.{numbered_setup_in}
 use Rattle.node_runs.specs.declared.fault.NodeStop.{NodeStop}
 use Rattle.node_runs.specs.declared.fault.NodeStop.TheVariants.{Memory}
@@ -32,7 +32,7 @@ use Rattle.stored_nodes.specs.Stored.{IsStored}
 use Rattle.stored_nodes.specs.Transactions.{changes_of_each}
 use Rattle.world_steps.specs.Steps.{NodeEvent as Deed}
 use Rattle.world_steps.specs.World.{NodeState}
-use Rattle.feeding_laws.proofs.Fed.{Before, Comes, Going, Runs, no_others, one_kept, tells_within}
+use Rattle.feeding_laws.proofs.Fed.{Before, Comes, Going, Runs, Under, done_on, no_others, one_kept, tells_within}
 use Rattle.feeding_laws.proofs.Parts.{At_end, Front, In_front, at_place, behind_front, behind_more, fronts, last_one, not_empty, nothing_of, nothing_taken, part_of, same_answers, same_takes, short_cut, without}
 use Rattle.feeding_laws.specs.Fed.{By_number, FedRun, Holds, IsCut, IsFed, IsLeft, IsPart, No_line, No_setup, Nothing as NoLines, Same, Opened, TellsTo, Unopened, WasFed, nothing_told}
 use Rattle.feeding_laws.specs.Feeding.{AreBehind, Began, Behind, Held, NotBegun, One_more, StartsAgain}
@@ -155,7 +155,7 @@ module _ (held : ChangesAreHeld) (start : NodesCanStartAgain) {K : Type 0} (keep
     pub are : AreBehind lines base read
     pub carries : Carries (party_of h.member) h.last base h.begun.state read did now.node.state
     pub changes : Changed h.last did h.changed h.last_change
-    pub tells : (text : List ℕ) → TellsTo number most text → TellsTo (base + length read) most text
+    pub tells : (text : List ℕ) → TellsTo echo (all_done h.did) number most text → TellsTo echo (all_done did) (base + length read) most text
 
   module _ {first : List ℕ} {all : List (List ℕ)} {number known : ℕ} {now : Running K} (h : Going keeper source wanted opened echo most setup (Some base) first all number known now)
       (r : Answered h) (stored : IsStored keeper now.node) where
@@ -181,7 +181,7 @@ module _ (held : ChangesAreHeld) (start : NodesCanStartAgain) {K : Type 0} (keep
       changed_so : Changed found.line r.did h.changed h.last_change
       changed_so = subst (λ (k : ℕ). Changed k r.did h.changed h.last_change) last_is r.changes
 
-      kept_so : (c : Content) → c ≡ keeper.content now.node.keep → IsLeft setup h.member lines found base r.read c
+      kept_so : (c : Content) → c ≡ keeper.content now.node.keep → IsLeft setup h.member lines found base r.read (all_done r.did) c
       kept_so c same =
           let line_is = ap line_of same ∙ h.marked honest in
           record {
@@ -189,9 +189,10 @@ module _ (held : ChangesAreHeld) (start : NodesCanStartAgain) {K : Type 0} (keep
             left = record { state = now.node.state; line = h.last_change };
             holds = record { starts = stored.starts; rows = subst (λ (b : Content). HoldsRows b now.node.state) (sym same) (stored.holds honest); line = line_is };
             ran = Began h.begun.state opens r.are r.did now.node.state carried (Behind h.changed changed_so refl);
+            did = refl;
           }
 
-      made_so : (c : Content) → MadeNext c → IsLeft setup h.member lines found base r.read c
+      made_so : (c : Content) → MadeNext c → IsLeft setup h.member lines found base r.read (all_done r.did) c
       made_so c (counted, m) =
           let at = suc (base + length r.read) in
           let run = line_run m.is in
@@ -208,21 +209,23 @@ module _ (held : ChangesAreHeld) (start : NodesCanStartAgain) {K : Type 0} (keep
             holds = record { starts = starts_by_events start now.node.state m.after m.did run stored.starts; rows = rows_of; line = line_is };
             ran = Began h.begun.state opens r.are r.did now.node.state carried
                 (One_more h.changed h.last_change changed_so (omega (arith, m.new, counted, h.knows, last_is)) m.turn m.out m.did m.after is m.some refl (ap suc counted));
+            did = refl;
           }
 
-      left_so : {Made : Content → Type 0} → ((c : Content) → Made c → MadeNext c) → (c : Content) → (c ≡ keeper.content now.node.keep) ⊎ Made c → IsLeft setup h.member lines found base r.read c
+      left_so : {Made : Content → Type 0} → ((c : Content) → Made c → MadeNext c) → (c : Content) → (c ≡ keeper.content now.node.keep) ⊎ Made c → IsLeft setup h.member lines found base r.read (all_done r.did) c
       left_so next c (inl same) = kept_so c same
       left_so next c (inr made) = made_so c (next c made)
 
     -- of a run that ended behind these lines, or at the next
     pub ran_so : (Made : Content → Type 0) → ((c : Content) → Made c → MadeNext c) → (k : K)
         → (keeper.is_honest k → keeper.is_honest now.node.keep × ((c : Content) → IsLeftBy keeper k c → (c ≡ keeper.content now.node.keep) ⊎ Made c))
-        → (text : List ℕ) → TellsTo number most text → WasFed keeper source setup member lines base most text (Some k)
-    ran_so Made next k loses text tells = Opened k (subst (λ (m : Node). FedRun keeper source setup m lines base most text k) (only first h.member h.reads h.asked) (record {
+        → (text : List ℕ) → TellsTo echo (all_done h.did) number most text → WasFed keeper source setup member lines base most echo text (Some k)
+    ran_so Made next k loses text tells = Opened k (subst (λ (m : Node). FedRun keeper source setup m lines base most echo text k) (only first h.member h.reads h.asked) (record {
       fresh = h.begins.starts.fresh;
       found = h.begins.found;
       earlier = λ honest. h.begins.starts.reopens.keeps.earlier (h.earlier (loses honest).0);
       read = r.read;
+      done = all_done r.did;
       tells = r.tells text tells;
       leaves = λ honest found holds c over. let l = loses honest in left_so l.0 found holds {Made = Made} next c (l.1 c over);
     }))
@@ -233,9 +236,10 @@ module _ (held : ChangesAreHeld) (start : NodesCanStartAgain) {K : Type 0} (keep
       → (h : Going keeper source wanted opened echo most xs m first before number known now) (later : List (List ℕ)) → some_lines (before ++ later) ≡ first ∷ ((h.numbered ++ h.others) ++ some_lines later)
   all_are {before = before} h later = flat_map-append kept_line before later ∙ ap (λ (l : List (List ℕ)). l ++ some_lines later) h.are
 
-  pub record Fits (before later : List (List ℕ)) (number known : ℕ) (now : Running K) : Type 0 where
+  pub record Fits (done : List Deed) (before later : List (List ℕ)) (number known : ℕ) (now : Running K) : Type 0 where
     pub first : List ℕ
     pub going : Going keeper source wanted opened echo most setup (Some base) first before number known now
+    pub does : all_done going.did ≡ done
     pub fed : List (List ℕ)
     pub cut : List (List ℕ)
     pub same : (going.numbered ++ going.others) ++ some_lines later ≡ fed ++ cut
@@ -243,24 +247,35 @@ module _ (held : ChangesAreHeld) (start : NodesCanStartAgain) {K : Type 0} (keep
     pub most_is : most ≡ base + length fed
     pub is_cut : IsCut (lines (suc most)) cut
 
+  -- what was done before a line for which nothing was done
+  without_last : (xs : List Numbered) (number : ℕ) (more : List Deed) (all : List Numbered) → all ≡ xs ++ (number, more) ∷ [] → more ≡ [] → Under (all_done all) (all_done xs)
+  without_last xs number more all is none x within =
+      subst (λ (l : List Deed). Contains l x) (ap all_done is ∙ done_on xs number more ∙ ap (λ (l : List Deed). all_done xs ++ l) none ∙ append-nil (all_done xs)) within
+
+  same_going : (xs : List Node) (m : Option ℕ) (first : List ℕ) (before : List (List ℕ)) (number known : ℕ) (now : Running K) (h : Going keeper source wanted opened echo most xs m first before number known now)
+      (p : List Node × Option ℕ) → ◌≡◌ {A = List Node × Option ℕ} (xs, m) p → (g : Going keeper source wanted opened echo most p.0 p.1 first before number known now) × (all_done g.did ≡ all_done h.did)
+  same_going xs m first before number known now h p same =
+      subst (λ (p : List Node × Option ℕ). (g : Going keeper source wanted opened echo most p.0 p.1 first before number known now) × (all_done g.did ≡ all_done h.did)) same (h, refl)
+
   pub fits : (xs : List Node) (m : Option ℕ) (first : List ℕ) (before later : List (List ℕ)) (number known : ℕ) (now : Running K)
-      → Going keeper source wanted opened echo most xs m first before number known now → IsFed setup lines base most (before ++ later) → Fits before later number known now
+      → (h : Going keeper source wanted opened echo most xs m first before number known now) → IsFed setup lines base most (before ++ later) → Fits (all_done h.did) before later number known now
   fits xs m first before later number known now h (NoLines none) = absurd (none_empty ((h.numbered ++ h.others) ++ some_lines later) first (sym (all_are h later) ∙ none))
   fits xs m first before later number known now h (No_setup part fault are none) =
       let one = of_two (all_are h later) are in
       absurd (no_setup part xs m fault (subst (λ (l : List ℕ). numbered_setup_in l ≡ Ok (xs, m)) one.0 h.reads) none)
   fits xs m first before later number known now h (By_number line fed cut are reads behind most_is is_cut) =
       let one = of_two (all_are h later) are in
-      let g = subst (λ (p : List Node × Option ℕ). Going keeper source wanted opened echo most p.0 p.1 first before number known now) (one_setup first line xs setup m (Some base) one.0 h.reads reads) h in
+      let of = same_going xs m first before number known now h (setup, Some base) (one_setup first line xs setup m (Some base) one.0 h.reads reads) in
+      let g = of.0 in
       let same = of_two (all_are g later) are in
-      record { first = first; going = g; fed = fed; cut = cut; same = same.1; behind = behind; most_is = most_is; is_cut = is_cut }
+      record { first = first; going = g; does = of.1; fed = fed; cut = cut; same = same.1; behind = behind; most_is = most_is; is_cut = is_cut }
 
   -- those that were read stand in front of those that were fed, but for the beginning of a line
-  pub front_of : {before later : List (List ℕ)} {number known : ℕ} {now : Running K} (f : Fits before later number known now) → Front f.going.numbered (f.going.others ++ some_lines later) f.fed f.cut
+  pub front_of : {done : List Deed} {before later : List (List ℕ)} {number known : ℕ} {now : Running K} (f : Fits done before later number known now) → Front f.going.numbered (f.going.others ++ some_lines later) f.fed f.cut
   front_of {later = later} f = fronts f.going.numbered (f.going.others ++ some_lines later) f.fed f.cut (short_cut (lines (suc most)) f.cut f.is_cut)
       (sym (append_assoc f.going.numbered f.going.others (some_lines later)) ∙ f.same)
 
-  module _ {before later : List (List ℕ)} {number known : ℕ} {now : Running K} (f : Fits before later number known now) where
+  module _ {done : List Deed} {before later : List (List ℕ)} {number known : ℕ} {now : Running K} (f : Fits done before later number known now) where
     abbrev g : Going keeper source wanted opened echo most setup (Some base) f.first before number known now
     g = f.going
 
@@ -271,7 +286,7 @@ module _ (held : ChangesAreHeld) (start : NodesCanStartAgain) {K : Type 0} (keep
       are = behind_front lines base g.numbered zs (subst (AreBehind lines base) is f.behind);
       carries = g.carries;
       changes = g.changes;
-      tells = λ text. subst (λ (n : ℕ). TellsTo n most text) g.counted;
+      tells = λ text. subst (λ (n : ℕ). TellsTo echo (all_done g.did) n most text) g.counted;
     }
 
     -- the last is a beginning of its line
@@ -288,7 +303,7 @@ module _ (held : ChangesAreHeld) (start : NodesCanStartAgain) {K : Type 0} (keep
           carries = subst (λ (d : List Numbered). Carries (party_of g.member) g.last base g.begun.state (f.fed ++ lines at ∷ []) d now.node.state) (sym l.is)
               (one_carried l.earlier (same_takes same l.takes));
           changes = g.changes;
-          tells = λ text. subst (λ (n : ℕ). TellsTo n most text) (omega (arith, g.counted, ap length is, length-append f.fed (part ∷ []), length-append f.fed (lines at ∷ [])));
+          tells = λ text. subst (λ (n : ℕ). TellsTo echo (all_done g.did) n most text) (omega (arith, g.counted, ap length is, length-append f.fed (part ∷ []), length-append f.fed (lines at ∷ [])));
         }
     part_read part is (No_line fault none) =
         let l = last_one (party_of g.member) g.last base g.begun.state f.fed part g.did now.node.state (subst (λ (xs : List (List ℕ)). Carries (party_of g.member) g.last base g.begun.state xs g.did now.node.state) is g.carries) in
@@ -299,7 +314,7 @@ module _ (held : ChangesAreHeld) (start : NodesCanStartAgain) {K : Type 0} (keep
           are = f.behind;
           carries = subst (λ (s : NodeState). Carries (party_of g.member) g.last base g.begun.state f.fed l.xs s) (sym q.1) l.earlier;
           changes = without g.last l.xs at l.more g.changed g.last_change (subst (λ (d : List Numbered). Changed g.last d g.changed g.last_change) l.is g.changes) (ap changes_of_each q.0);
-          tells = λ text. tells_within (omega (arith, f.most_is));
+          tells = λ text. tells_within (without_last l.xs at l.more g.did l.is q.0) (omega (arith, f.most_is));
         }
 
     part_so : (part : List ℕ) (rest : List (List ℕ)) → f.cut ≡ part ∷ rest → IsPart (lines at) part
@@ -310,7 +325,7 @@ module _ (held : ChangesAreHeld) (start : NodesCanStartAgain) {K : Type 0} (keep
     answered_by (At_end part one is rest) = part_read part is (part_so part [] one)
 
   -- the line at which the run ended is the next, or a beginning of it
-  module _ {before later : List (List ℕ)} {line : List ℕ} {number known : ℕ} {now : Running K} (f : Fits before (line ∷ later) number known now) (some : 0 < length line) where
+  module _ {done : List Deed} {before later : List (List ℕ)} {line : List ℕ} {number known : ℕ} {now : Running K} (f : Fits done before (line ∷ later) number known now) (some : 0 < length line) where
     abbrev NextOf : Answered f.going → Type 0
     NextOf r = (c : Content) → IsMade keeper line number known now c → (number ≡ base + length r.read) × IsMade keeper (lines (suc (base + length r.read))) number known now c
 
@@ -349,41 +364,42 @@ module _ (held : ChangesAreHeld) (start : NodesCanStartAgain) {K : Type 0} (keep
   -- ---- behind a line
 
   abbrev pub Left : List ℕ → Option K → Type 0
-  Left text kept = WasFed keeper source setup member lines base most text kept
+  Left text kept = WasFed keeper source setup member lines base most echo text kept
 
   -- what tells of no line above some number goes on so
   abbrev pub Tell : List ℕ → List ℕ → Type 0
-  Tell out text = (n : ℕ) → TellsTo n most out → TellsTo n most text
+  Tell out text = (d : List Deed) (n : ℕ) → TellsTo echo d n most out → TellsTo echo d n most text
 
   pub at_stage : (before later : List (List ℕ)) (out text : List ℕ) (s : Stage K) (kept : Option K) → IsFed setup lines base most (before ++ later) → Comes keeper source wanted opened echo most before out s
       → keep_in s.running s.spare ≡ kept → IsKept keeper s.running → Tell out text → Left text kept
   at_stage before later out text s kept fed (Before is none nothing) left stored tell =
-      subst (Left text) (sym (ap (λ (s : Stage K). keep_in s.running s.spare) is) ∙ left) (Unopened (tell base (subst (TellsTo base most) (sym nothing) nothing_told)))
+      subst (Left text) (sym (ap (λ (s : Stage K). keep_in s.running s.spare) is) ∙ left) (Unopened (tell [] base (subst (TellsTo echo [] base most) (sym nothing) nothing_told)))
   at_stage before later out text s kept fed (Runs now is xs m first h tells) left stored tell =
       let f = fits xs m first before later s.number s.known now h fed in
       let g = f.going in
       let r = answered_by f (front_of f) in
       subst (Left text) (sym (ap (λ (q : Option (Running K)). keep_in q s.spare) is) ∙ left)
       (ran_so g r (subst (IsKept keeper) is stored) (λ c. ⊥) (λ c no. absurd no) now.node.keep
-      (λ honest. (honest, λ c over. inl (left_is keeper now.node.keep c honest g.settled over))) text (tell s.number tells))
+      (λ honest. (honest, λ c over. inl (left_is keeper now.node.keep c honest g.settled over))) text (subst (λ (d : List Deed). TellsTo echo d s.number most text) (sym f.does) (tell (all_done h.did) s.number tells)))
 
   -- ---- at a line
 
   -- the setup had no such node, or none was made of what the store had
   pub unbegun : (line : List ℕ) (xs : List Node) (base_told : Option ℕ) (places : List ℕ) (spare : Option K) (stop : NodeStop) (text : List ℕ) → numbered_setup_in line ≡ Ok (xs, base_told) → ◌≡◌ {A = List Node × Option ℕ} (xs, base_told) (setup, Some base)
-      → IsUnbegun keeper source xs wanted places spare stop → ((n : ℕ) → TellsTo n most text) → Left text spare
-  unbegun line xs base_told places spare stop text read same (turns.Unknown none asked is told) tells = subst (Left text) (sym is) (Unopened (tells base))
-  unbegun line xs base_told places spare stop text read same (turns.Unkept m of fault may asked is told) tells = subst (Left text) (sym is) (Unopened (tells base))
+      → IsUnbegun keeper source xs wanted places spare stop → ((d : List Deed) (n : ℕ) → TellsTo echo d n most text) → Left text spare
+  unbegun line xs base_told places spare stop text read same (turns.Unknown none asked is told) tells = subst (Left text) (sym is) (Unopened (tells [] base))
+  unbegun line xs base_told places spare stop text read same (turns.Unkept m of fault may asked is told) tells = subst (Left text) (sym is) (Unopened (tells [] base))
   unbegun line xs base_told places spare stop text read same (turns.NotMade m of fault k unmade found asked is told) tells =
       let setup_is : xs ≡ setup = ap (λ (p : List Node × Option ℕ). p.0) same in
       let reads = subst (λ (p : List Node × Option ℕ). numbered_setup_in line ≡ Ok p) same read in
       let member_is = only line m reads (subst (λ (l : List Node). IsMember l wanted m) setup_is of) in
-      subst (Left text) (sym is) (Opened k (subst (λ (m : Node). FedRun keeper source setup m lines base most text k) member_is (record {
+      subst (Left text) (sym is) (Opened k (subst (λ (m : Node). FedRun keeper source setup m lines base most echo text k) member_is (record {
         fresh = unmade.fresh;
         found = found;
         earlier = unmade.keeps.earlier;
         read = [];
-        tells = tells (base + length {A = List ℕ} []);
+        done = [];
+        tells = tells [] (base + length {A = List ℕ} []);
         leaves = λ honest was holds c over.
             let at : c ≡ keeper.content unmade.fresh = found_is honest c over in
             record {
@@ -391,6 +407,7 @@ module _ (held : ChangesAreHeld) (start : NodesCanStartAgain) {K : Type 0} (keep
               left = was;
               holds = subst (λ (b : Content). Holds b was) (sym at) holds;
               ran = NotBegun;
+              did = refl;
             };
       })))
     where

@@ -1,7 +1,7 @@
 mod Chain
 mod Ends
-mod Exactly
-mod Fed
+pub mod Exactly
+pub mod Fed
 mod Left
 mod Members
 mod Parts

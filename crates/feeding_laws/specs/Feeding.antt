@@ -4,7 +4,7 @@ use Rattle.std.specs.Prelude.{◌≡◌, ◌≢◌, ◌≤◌, ◌<◌, ℕ, suc
 use Rattle.line_runs.specs.declared.run.Turn.{Turn}
 use Rattle.node_core.specs.Members.{IsMadeOfRows}
 use Rattle.node_runs.specs.LineAnswers.{Answers}
-use Rattle.node_runs.specs.NumberedRuns.{Carries, Changed, Numbered}
+use Rattle.node_runs.specs.NumberedRuns.{Carries, Changed, Numbered, all_done}
 use Rattle.ocpi_types.specs.Setups.{party_of}
 use Rattle.ocpi_types.specs.declared.rows.Row.{Row}
 use Rattle.ocpi_types.specs.declared.setup.Node.{Node}
@@ -47,6 +47,12 @@ pub data Ran (setup : List Node) (member : Node) (lines : ℕ → List ℕ) (fou
       → (did : List Numbered) (now : NodeState) → Carries (party_of member) found.line base start read did now
       → Leaves (party_of member) lines found.line (base + length read) did now left changed → Ran setup member lines found base read changed left
 
+-- what a node did in a run for the lines that it answered
+abbrev pub did_in : {setup : List Node} {member : Node} {lines : ℕ → List ℕ} {found : Held} {base : ℕ} {read : List (List ℕ)} {changed : List ℕ} {left : Held}
+    → Ran setup member lines found base read changed left → List Deed
+did_in NotBegun = []
+did_in (Began start again are did now carries leaves) = all_done did
+
 -- Runs of a node one after another, each over what the one before left, and each under one of these setups, as that
 -- member of it. The first is told 1; each other is told at most the number of the last line that the one before
 -- answered, which is that of the last `done` that its feeder can have seen. The numbers are those of the lines by which
@@ -56,6 +62,12 @@ pub data AreRuns (setups : List (List Node × Node)) (lines : ℕ → List ℕ) 
   one_ran : {seen base : ℕ} {before changed : List ℕ} {found left : Held} {read : List (List ℕ)} (setup : List Node) (member : Node) → Contains setups (setup, member)
       → AreRuns setups lines first seen before found → 1 ≤ base → base ≤ seen → Ran setup member lines found base read changed left
       → AreRuns setups lines first (base + length read) (before ++ changed) left
+
+-- what it did in all of them, in order
+abbrev pub all_did : {setups : List (List Node × Node)} {lines : ℕ → List ℕ} {first : Held} {seen : ℕ} {changed : List ℕ} {left : Held}
+    → AreRuns setups lines first seen changed left → List Deed
+all_did none_ran = []
+all_did (one_ran setup member of_them runs some within ran) = all_did runs ++ did_in ran
 
 -- ---- what is so of them
 

@@ -2,7 +2,7 @@
 
 ghost use Rattle.stored_nodes.specs.Keepers.{keeper_of};
 ghost use Rattle.node_keepers.specs.Opening.{source_of};
-ghost use Rattle.feeding_laws.specs.Fed.{FedRunsAreExact, RunsAreFed};
+ghost use Rattle.feeding_laws.specs.Fed.{FedRunsAreExact, FedRunsAreTold, RunsAreFed};
 ghost use Rattle.feeding_laws.specs.Feeding.{FeedingIsExact};
 
 use node_keepers::Keeps;
@@ -36,3 +36,9 @@ pub fn fed_runs_are_exact<S: Keeps>()
     restarts_are_held();
     alike_are_classes();
 }
+
+/// They are runs of one node, and what it did in them for the lines that were answered is that of which alone they wrote. A
+/// line that changed no row may have come again, and then it is among what the node did each time.
+pub fn fed_runs_are_told<S: Keeps>()
+    ensures { FedRunsAreTold (keeper_of S.Kept.content S.Kept.is_honest S.Kept.refusals S.Kept.may_leave) (source_of S.may_refuse S.found) }
+{}

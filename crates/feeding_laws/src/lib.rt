@@ -16,6 +16,10 @@
 //!   seen the `done` of none. By the same: `tells`.
 //! - Such runs over one store, each over what the one before left, leave each line once and in order. By law
 //!   `fed_runs_are_exact`.
+//! - The answers that such a run writes, whole or in part, tell of nothing but what its node did in it for the lines that it
+//!   answered (`IsPiece`). So each packet that it prints was sent. With an echo a line of the input may look like a packet,
+//!   and nothing is said of that. By `runs_are_fed`: `tells`.
+//! - Such runs over one store are runs of one node, in which it did just that. By law `fed_runs_are_told`.
 #![tactic(auto)]
 
 pub mod laws;

@@ -1,22 +1,19 @@
 -- What a line of `play` gives, from what its parts give.
-use Rattle.std.proofs.Common.{◌≡◌, ◌≢◌, ◌∙◌, ℕ, List, [], Option, Some, None, Result, Ok, Err, IfErr, refl, sym, ap, subst}
+use Rattle.std.proofs.Common.{◌≡◌, ◌≢◌, ◌∙◌, ℕ, List, [], Option, Some, Result, Ok, IfErr, refl, ap, subst}
 use Rattle.std.proofs.lemmas.Result.{err_from_is_err_and}
 use Rattle.std.specs.Result.{IsErrAnd}
-use Rattle.json_text.specs.declared.fault.JsonFault.{JsonFault}
-use Rattle.ocpi_json.specs.EventForms.{event_in}
 use Rattle.ocpi_json.specs.SetupForms.{setup_in}
-use Rattle.ocpi_types.specs.declared.events.Event.{Event}
 use Rattle.ocpi_types.specs.declared.packet.Packet.{Packet}
 use Rattle.ocpi_types.specs.declared.rows.Change.{Change}
 use Rattle.ocpi_types.specs.declared.setup.Node.{Node}
 use Rattle.node_store.specs.declared.fault.StoreFault.{StoreFault}
-use Rattle.line_runs.specs.declared.run.Turn.TheVariants.{Taken, Ended}
+use Rattle.line_runs.specs.declared.run.Turn.TheVariants.{Taken}
 use Rattle.world.specs.Seen.{told}
 use Rattle.world.specs.declared.planned.Outcome.{Outcome}
 use Rattle.world.specs.declared.planned.Outcome.TheVariants.{Stepped, Skipped, Refused}
 use Rattle.world_steps.specs.World.{World, opened}
 use Rattle.node_keepers.specs.Keeping.{AreOpened, AreUnopened, Keeping}
-use Rattle.node_programs.specs.Play.{Opened, Playing, SetupTurn, Stage, changes_told, played_from}
+use Rattle.node_programs.specs.Play.{Opened, Playing, SetupTurn, changes_told, played_from}
 
 -- a world was opened, and its keepers
 pub opens : {K : Type 0} (keeping : Keeping K) (may_refuse : ℕ → StoreFault → Type 0) (stop : Option StoreFault) (line : List ℕ) (setup : List Node) (w : World) (p : Playing K) →

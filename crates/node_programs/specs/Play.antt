@@ -1,9 +1,10 @@
 -- What the program `play` writes for what it reads: a setup line, then events at its nodes, and at the end what is
 -- owed.
-use Rattle.std.specs.Prelude.{◌≡◌, ◌≢◌, ℕ, ℤ, List, [], ◌∷◌, ◌++◌, Option, None, Some, Ok, codes, flat_map}
+use Rattle.std.specs.Prelude.{◌≡◌, ◌≢◌, ℕ, ℤ, ◌+◌, min, Bool, cond, List, [], ◌∷◌, ◌++◌, Option, None, Some, Ok, codes, flat_map}
 use Rattle.ocpi_text.specs.Decimal.{sum_text}
 use Rattle.ocpi_text.specs.Text.{key}
 use Rattle.ocpi_types.specs.declared.events.Event.{Event}
+use Rattle.ocpi_types.specs.declared.packet.Packet.{Packet}
 use Rattle.ocpi_types.specs.declared.rows.Change.{Change}
 use Rattle.ocpi_types.specs.declared.setup.Node.{Node}
 use Rattle.ocpi_types.specs.declared.setup.Node.TheVariants as node
@@ -12,6 +13,7 @@ use Rattle.json_text.specs.declared.fault.JsonFault.TheVariants.{Syntax}
 use Rattle.json_text.specs.Fault.{Fails, fault_text as json_fault_text}
 use Rattle.ocpi_json.specs.EventForms.{event_in}
 use Rattle.ocpi_json.specs.SetupForms.{setup_in}
+use Rattle.node_steps.specs.declared.fault.NodeFault.{NodeFault}
 use Rattle.node_steps.specs.declared.fault.NodeFault.TheVariants.{Memory}
 use Rattle.node_steps.specs.FaultText.{fault_text as node_fault_text}
 use Rattle.world_steps.specs.Steps.{Gives, Outcome}
@@ -28,6 +30,7 @@ use Rattle.node_store.specs.declared.fault.StoreFault.{StoreFault}
 use Rattle.node_keepers.specs.Keeping.{AreOpened, AreUnopened, KeeperRefuses, KeeperTakes, Keeping}
 use Rattle.program_lines.specs.Writing.{packet_lines, refusal_line}
 use Rattle.node_keepers.specs.declared.keeping.KeptNode.{KeptNode}
+use Rattle.node_programs.specs.Done.{malformed_line, refused_line, skipped_line, step_line}
 
 -- a world, the setup that it was opened from, and the keepers of its nodes, which are of type K
 pub record Playing (K : Type 0) : Type 0 where
@@ -44,15 +47,46 @@ pub record Stage (K : Type 0) : Type 0 where
   pub playing : Option (Playing K)
   pub stop : Option StoreFault
 
--- before the first line
-abbrev pub opening : {K : Type 0} → Stage K
-opening = record { playing = None; stop = None }
+-- the same, and the number of the last line that held something: 0 before the first, and none without `--done`
+pub record Counted (K : Type 0) : Type 0 where
+  pub stage : Stage K
+  pub line : Option ℕ
 
--- what is written of an event: the packets that the node sent, that it was of no node, or why it was refused
-abbrev pub outcome_lines : Outcome → List ℕ
-outcome_lines (outcome.Stepped packets changes) = packet_lines packets
-outcome_lines outcome.Skipped = codes "skipped\n"
-outcome_lines (outcome.Refused fault) = refusal_line (node_fault_text fault)
+-- before the first line, with or without `--done`
+abbrev pub opening : {K : Type 0} → Bool → Counted K
+opening done = record { stage = record { playing = None; stop = None }; line = cond done (Some 0) None }
+
+-- the number of the next line, where lines are counted: the setup is line 1
+abbrev pub next_line : Option ℕ → Option ℕ
+next_line None = None
+next_line (Some line) = Some (min (line + 1) 18446744073709551615)
+
+-- Behind the packets of an event, where lines are counted: the line that says that the node did it.
+abbrev pub end_lines : Option ℕ → List Packet → List Change → List ℕ
+end_lines None packets changes = []
+end_lines (Some line) packets changes = step_line line packets changes
+
+-- that an event is of no node
+abbrev pub passed_lines : Option ℕ → List ℕ
+passed_lines None = codes "skipped\n"
+passed_lines (Some line) = skipped_line line
+
+-- why an event was refused
+abbrev pub event_refusal : Option ℕ → NodeFault → List ℕ
+event_refusal None fault = refusal_line (node_fault_text fault)
+event_refusal (Some line) fault = refused_line line fault
+
+-- why a line is no event
+abbrev pub line_refusal : Option ℕ → JsonFault → List ℕ
+line_refusal None fault = refusal_line (json_fault_text fault)
+line_refusal (Some line) fault = malformed_line line fault
+
+-- What is written of an event, with its line's number where lines are counted: the packets that the node sent, that it
+-- was of no node, or why it was refused.
+abbrev pub event_lines : Option ℕ → Outcome → List ℕ
+event_lines line (outcome.Stepped packets changes) = packet_lines packets ++ end_lines line packets changes
+event_lines line outcome.Skipped = passed_lines line
+event_lines line (outcome.Refused fault) = event_refusal line fault
 
 -- an event that was of no node is no refused line
 abbrev pub turn_of : Outcome → Turn
@@ -83,30 +117,32 @@ pub data SetupTurn {K : Type 0} (keeping : Keeping K) (may_refuse : ℕ → Stor
 -- Each other line is an event of the world, and the rows that it changes are kept. A line that is no event changes
 -- nothing, and neither does an event that is refused, by the node or for want of memory. Where there are changes, and
 -- the keeper of the node refuses them, nothing is written, the run ends, no keeper has anything of them, and the
--- keeper's fault is told.
-pub data EventTurn {K : Type 0} (keeping : Keeping K) (stop : Option StoreFault) (now : Playing K) (line : List ℕ) (turn : Turn) (out : List ℕ) (next : Stage K) : Type 0 where
+-- keeper's fault is told. What became of an event is said with its line's number, where lines are counted.
+pub data EventTurn {K : Type 0} (keeping : Keeping K) (number : Option ℕ) (stop : Option StoreFault) (now : Playing K) (line : List ℕ) (turn : Turn) (out : List ℕ) (next : Stage K) : Type 0 where
   Happened : (event : Event) → event_in line ≡ Ok event → (o : Outcome) → (v : World) → Gives now.world event o v
       → (kept : List (KeptNode K)) → KeeperTakes keeping event.node (changes_told o) now.kept kept
-      → turn ≡ turn_of o → out ≡ outcome_lines o → next ≡ record { playing = Some (record { setup = now.setup; world = v; kept = kept }); stop = stop }
-      → EventTurn keeping stop now line turn out next
+      → turn ≡ turn_of o → out ≡ event_lines number o → next ≡ record { playing = Some (record { setup = now.setup; world = v; kept = kept }); stop = stop }
+      → EventTurn keeping number stop now line turn out next
   Lost : (event : Event) → event_in line ≡ Ok event → (o : Outcome) → (v : World) → Gives now.world event o v → changes_told o ≢ []
       → (fault : StoreFault) → (kept : List (KeptNode K)) → KeeperRefuses keeping event.node fault now.kept kept
       → turn ≡ Ended → out ≡ [] → next ≡ record { playing = Some (record { setup = now.setup; world = v; kept = kept }); stop = Some fault }
-      → EventTurn keeping stop now line turn out next
+      → EventTurn keeping number stop now line turn out next
   Starved : (event : Event) → event_in line ≡ Ok event
-      → turn ≡ Refused → out ≡ refusal_line (node_fault_text Memory) → next ≡ record { playing = Some now; stop = stop }
-      → EventTurn keeping stop now line turn out next
+      → turn ≡ Refused → out ≡ event_refusal number Memory → next ≡ record { playing = Some now; stop = stop }
+      → EventTurn keeping number stop now line turn out next
   Unread : (fault : JsonFault) → Fails fault (event_in line)
-      → turn ≡ Refused → out ≡ refusal_line (json_fault_text fault) → next ≡ record { playing = Some now; stop = stop }
-      → EventTurn keeping stop now line turn out next
+      → turn ≡ Refused → out ≡ line_refusal number fault → next ≡ record { playing = Some now; stop = stop }
+      → EventTurn keeping number stop now line turn out next
 
 -- one line, with no world before the first
-abbrev pub PlayTurn : {K : Type 0} → Keeping K → (ℕ → StoreFault → Type 0) → Option (Playing K) → Option StoreFault → List ℕ → Turn → List ℕ → Stage K → Type 0
-PlayTurn keeping may_refuse None stop line turn out next = SetupTurn keeping may_refuse stop line turn out next
-PlayTurn keeping may_refuse (Some now) stop line turn out next = EventTurn keeping stop now line turn out next
+abbrev pub PlayTurn : {K : Type 0} → Keeping K → (ℕ → StoreFault → Type 0) → Option (Playing K) → Option ℕ → Option StoreFault → List ℕ → Turn → List ℕ → Stage K → Type 0
+PlayTurn keeping may_refuse None number stop line turn out next = SetupTurn keeping may_refuse stop line turn out next
+PlayTurn keeping may_refuse (Some now) number stop line turn out next = EventTurn keeping number stop now line turn out next
 
-abbrev pub PlayLineGives : {K : Type 0} → Keeping K → (ℕ → StoreFault → Type 0) → Stage K → List ℕ → Turn → List ℕ → Stage K → Type 0
-PlayLineGives keeping may_refuse s line turn out next = PlayTurn keeping may_refuse s.playing s.stop line turn out next
+-- the same, and the line is counted
+abbrev pub PlayLineGives : {K : Type 0} → Keeping K → (ℕ → StoreFault → Type 0) → Counted K → List ℕ → Turn → List ℕ → Counted K → Type 0
+PlayLineGives keeping may_refuse s line turn out next =
+    PlayTurn keeping may_refuse s.stage.playing (next_line s.line) s.stage.stop line turn out next.stage × (next.line ≡ next_line s.line)
 
 -- what a provider owes an operator in a currency
 abbrev pub debt_line : List ℕ → List ℕ → List ℕ → ℤ → List ℕ
@@ -132,32 +168,32 @@ abbrev pub PlayEnd : {K : Type 0} → Option (Playing K) → Ran → List ℕ �
 PlayEnd None ran out = (ran ≡ WithRefusals) × (out ≡ refusal_line (json_fault_text Syntax))
 PlayEnd (Some now) ran out = (ran ≡ Whole) × (out ≡ owed_lines now)
 
-abbrev pub PlayEndGives : {K : Type 0} → Stage K → Ran → List ℕ → Type 0
-PlayEndGives s ran out = PlayEnd s.playing ran out
+abbrev pub PlayEndGives : {K : Type 0} → Counted K → Ran → List ℕ → Type 0
+PlayEndGives s ran out = PlayEnd s.stage.playing ran out
 
 -- Where a reader tells its bytes, and a writer what it holds: what was written is an output of the input. At its end
 -- `stop` is why a store stopped the run, where one did: it is set by the line that ended the run alone (`Unkept`,
 -- `Lost`). `left` is the world, with its keepers, as the lines that were answered left it, so that each keeps what they
 -- made it keep and nothing else.
 pub record PlayOutputs {K : Type 0} (keeping : Keeping K) (may_refuse : ℕ → StoreFault → Type 0)
-    (text : Option (List ℕ)) (ran : Ran) (stop : Option StoreFault) (old new : Option (List ℕ)) (left : Option (Playing K)) : Type 0 where
-  pub last : Stage K
-  pub outputs : Outputs (PlayLineGives keeping may_refuse) PlayEndGives opening text ran old new last
-  pub stopped_by : last.stop ≡ stop
-  pub leaves : last.playing ≡ left
+    (done : Bool) (text : Option (List ℕ)) (ran : Ran) (stop : Option StoreFault) (old new : Option (List ℕ)) (left : Option (Playing K)) : Type 0 where
+  pub last : Counted K
+  pub outputs : Outputs (PlayLineGives keeping may_refuse) PlayEndGives (opening done) text ran old new last
+  pub stopped_by : last.stage.stop ≡ stop
+  pub leaves : last.stage.playing ≡ left
 
 -- The same of a run that reading or writing stopped: what was written is a beginning of an output. The world and its
 -- keepers are as the lines that were answered left them; where the answer to one was not written whole, as that one did.
 pub record PlayBegins {K : Type 0} (keeping : Keeping K) (may_refuse : ℕ → StoreFault → Type 0)
-    (text old new : Option (List ℕ)) (left : Option (Playing K)) : Type 0 where
-  pub last : Stage K
-  pub begins : Begins (PlayLineGives keeping may_refuse) PlayEndGives opening text old new last
-  pub leaves : last.playing ≡ left
+    (done : Bool) (text old new : Option (List ℕ)) (left : Option (Playing K)) : Type 0 where
+  pub last : Counted K
+  pub begins : Begins (PlayLineGives keeping may_refuse) PlayEndGives (opening done) text old new last
+  pub leaves : last.stage.playing ≡ left
 
 -- the same of one that reading stopped: what was written, and what the keepers keep, is what exactly the lines that
 -- were read whole give
-pub record PlayStops {K : Type 0} (keeping : Keeping K) (may_refuse : ℕ → StoreFault → Type 0) (fault : RunFault)
+pub record PlayStops {K : Type 0} (keeping : Keeping K) (may_refuse : ℕ → StoreFault → Type 0) (done : Bool) (fault : RunFault)
     (text rest old new : Option (List ℕ)) (left : Option (Playing K)) : Type 0 where
-  pub last : Stage K
-  pub stops : StopsReading (PlayLineGives keeping may_refuse) opening fault text rest old new last
-  pub leaves : last.playing ≡ left
+  pub last : Counted K
+  pub stops : StopsReading (PlayLineGives keeping may_refuse) (opening done) fault text rest old new last
+  pub leaves : last.stage.playing ≡ left

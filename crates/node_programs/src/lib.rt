@@ -4,7 +4,7 @@
 //! ```
 //! let mut input = LineReader::new(reader);
 //! let mut left = None;
-//! let ran = run_play(alloc, seed, &mut input, &mut writer, ListKeeps::new(alloc), &mut left);
+//! let ran = run_play(alloc, seed, &mut input, &mut writer, ListKeeps::new(alloc), false, &mut left);
 //! let status = status_after_play(ran);
 //! ```
 //!
@@ -20,6 +20,9 @@
 //!   keepers, each other is an event. By `run_play`: `output` (`specs/Play`).
 //! - An event gives the lines of the packets that the node sends, `skipped`, or its named refusal; then the world and
 //!   what the keepers keep are as they were. By `run_play`: `output`.
+//! - With `done` a line by the line's number says what became of each event: behind its packets, or in place of
+//!   `skipped` or its refusal. Without it all is written as before. By `run_play`: `output` (`event_lines`,
+//!   `specs/Done`).
 //! - At the end each provider's debt to each operator is a line. By `run_play`: `output`.
 //! - The rows that an event changes are committed to the keeper of its node. By `run_play`: `output`; `commit`.
 //! - Where the nodes of a setup get no keepers (`Unkept`), or a keeper refuses the rows of an event (`Lost`), the run
@@ -48,6 +51,7 @@
 
 mod answer;
 mod debts;
+mod done_lines;
 mod fault;
 mod play;
 mod settle;

@@ -5,20 +5,10 @@ ghost use Rattle.std.specs.Prelude.{IfOk, IfErr, IsOk, OnOk, codes, string_bytes
 ghost use Rattle.json_text.specs.Fault.{Fails};
 ghost use Rattle.ocpi_json.specs.EventForms.{event_in};
 ghost use Rattle.ocpi_json.specs.SetupForms.{setup_in};
-ghost use Rattle.ocpi_types.specs.declared.rows.Change.{Change as ChangeOf};
 ghost use Rattle.ocpi_types.specs.declared.setup.Node.{Node as NodeOf};
 ghost use Rattle.node_keepers.specs.Keeping.{AreOpened, AreUnopened, keeping_of};
 ghost use Rattle.node_programs.specs.Play.{EventTurn, PlayBegins, PlayEndGives, PlayLineGives, PlayOutputs, PlayStops};
-ghost use Rattle.node_programs.specs.Play.{
-  SetupTurn,
-  Stage,
-  opening,
-  outcome_lines,
-  owed_lines,
-  played_from,
-  turn_of,
-};
-ghost use Rattle.world.specs.Seen.{told};
+ghost use Rattle.node_programs.specs.Play.{SetupTurn, Stage, opening, owed_lines, played_from};
 ghost use Rattle.world_steps.specs.World.{opened};
 ghost use Rattle.line_runs.specs.Run.{ReadsFewLines};
 ghost use Rattle.line_runs.specs.declared.outcome.Ran.TheVariants.{WithRefusals};
@@ -26,19 +16,20 @@ ghost use Rattle.line_runs.specs.declared.run.Turn.{Turn as TurnOf};
 ghost use Rattle.node_programs.specs.Stops.{IfRun, IfStore};
 
 use crate::debts::write_all_debts;
+use crate::done_lines::{next_line, refuse_event, refuse_line, write_outcome};
 use crate::fault::PlayFault;
 use line_runs::{AnswerLines, LineReader, Ran, RunFault, Turn, run_whole};
 use node_keepers::{Keeps, KeptNode, commit, open_all};
 use node_steps::NodeFault;
 use node_store::{Keep, StoreFault};
 use ocpi_json::{JsonFault, Scratch, read_event, read_setup};
-use ocpi_types::{Event, Packet, Setup};
-use program_lines::{refuse, write_packets};
+use ocpi_types::{Event, Setup};
+use program_lines::refuse;
 use std::alloc::{AllocError, Global};
 use std::io::{BufRead, Write};
 use std::marker::Model;
 use tables::HashSeed;
-use world::{Outcome, World};
+use world::World;
 
 /// The world, the setup that it was opened from, and the keepers of its nodes.
 pub struct Played<K> {
@@ -81,7 +72,8 @@ impl<K> Played<K> {
     }
 }
 
-/// What the lines so far have made: a world, from the first on; and why a store stopped the run, where one did.
+/// What the lines so far have made: a world, from the first on; and why a store stopped the run, where one did. With
+/// `--done` also the number of the last line.
 #[derive(Drop)]
 struct Program<K, S> {
     alloc: Global,
@@ -90,24 +82,26 @@ struct Program<K, S> {
     keeps: S,
     played: Option<Played<K>>,
     stop: Option<StoreFault>,
+    line: Option<u64>,
 }
 
 impl<K, S> Model for Program<K, S> {
     ghost use Rattle.std.specs.Coded.{codes};
     ghost use Rattle.std.specs.FinMap as map;
-    ghost use Rattle.node_programs.specs.Play.{Stage};
+    ghost use Rattle.node_programs.specs.Play.{Counted};
 
-    ghost Value = { Stage K };
+    ghost Value = { Counted K };
 
     ghost coded = { Prim.hlevel (codes, map.code, K.code) };
 
-    ghost view = { λ p. record { playing = p.played; stop = p.stop } };
+    ghost view = { λ p. record { stage = record { playing = p.played; stop = p.stop }; line = p.line } };
 }
 
 impl<K, S> Program<K, S> {
-    fn new(alloc: Global, seed: HashSeed, keeps: S) -> Program<K, S>
-        ensures { result ≡ opening }
+    fn new(alloc: Global, seed: HashSeed, keeps: S, done: bool) -> Program<K, S>
+        ensures { result ≡ opening done }
     {
+        let line = if done { Some(0) } else { None };
         Program {
             alloc,
             seed,
@@ -115,6 +109,7 @@ impl<K, S> Program<K, S> {
             keeps,
             played: None,
             stop: None,
+            line,
         }
     }
 }
@@ -122,8 +117,8 @@ impl<K, S> Program<K, S> {
 impl<K, S: Drop> Program<K, S> {
     /// The world and its keepers as the lines left them, and why a store stopped the run.
     fn close(self) -> (Option<Played<K>>, Option<StoreFault>)
-        ensures played { result.0 ≡ self.playing }
-        ensures stop { result.1 ≡ self.stop }
+        ensures played { result.0 ≡ self.stage.playing }
+        ensures stop { result.1 ≡ self.stage.stop }
     {
         let Program {
             alloc: _,
@@ -132,6 +127,7 @@ impl<K, S: Drop> Program<K, S> {
             keeps,
             played,
             stop,
+            line: _,
         } = self;
         drop(scratch);
         drop(keeps);
@@ -147,6 +143,7 @@ impl<K: Keep + Drop, S: Keeps<Kept = K>> AnswerLines for Program<K, S> {
     ghost end_gives = { PlayEndGives };
 
     fn answer_line(&mut self, line: &[u8], output: &mut String) -> Result<Turn, AllocError> {
+        self.line = next_line(self.line);
         match &mut self.played {
             None => {}
             Some(played) => {
@@ -155,6 +152,7 @@ impl<K: Keep + Drop, S: Keeps<Kept = K>> AnswerLines for Program<K, S> {
                     &mut self.scratch,
                     played,
                     &mut self.stop,
+                    self.line,
                     line,
                     output,
                 );
@@ -256,52 +254,27 @@ fn play_setup<K: Keep + Drop, S: Keeps<Kept = K>>(
     }
 }
 
-/// Writes what came of an event: the packets that the node sent, that the event was of no node, or why it was refused.
-fn write_outcome(
-    alloc: Global,
-    outcome: Outcome,
-    packets: &[Packet],
-    output: &mut String,
-) -> Result<Turn, AllocError>
-    ensures { IfOk result (λ turn. (changes : List ChangeOf) → (turn ≡ turn_of (told outcome packets.now changes))
-        × (string_bytes output.new ≡ string_bytes output.old ++ outcome_lines (told outcome packets.now changes))) }
-{
-    match outcome {
-        Outcome::Stepped => {
-            write_packets(alloc, packets, output)?;
-            Ok(Turn::Taken)
-        }
-        Outcome::Skipped => {
-            output.push_str("skipped\n")?;
-            Ok(Turn::Taken)
-        }
-        Outcome::Refused(fault) => {
-            refuse(output, fault)?;
-            Ok(Turn::Refused)
-        }
-    }
-}
-
 /// Lets an event that was read happen, has its changes kept, and then writes what comes of it. Where memory runs out
 /// for it, it is refused. Where they are not kept, nothing is written, and the run ends.
 fn play_read<K: Keep>(
     alloc: Global,
     played: &mut Played<K>,
     stop: &mut Option<StoreFault>,
+    number: Option<u64>,
     event: &Event,
     output: &mut String,
 ) -> Result<Turn, AllocError>
     ensures ok { IfOk result (λ turn. (out : List ℕ) × (string_bytes output.new ≡ string_bytes output.old ++ out)
         × ((line : List ℕ) → event_in line ≡ Ok event.now
-        → EventTurn (keeping_of K.content K.is_honest K.refusals) stop.old played.old line turn out
+        → EventTurn (keeping_of K.content K.is_honest K.refusals) number stop.old played.old line turn out
         (record { playing = Some played.new; stop = stop.new }))) }
     ensures err { IfErr result (λ _. (turn : TurnOf) × (out : List ℕ)
         × ((line : List ℕ) → event_in line ≡ Ok event.now
-        → EventTurn (keeping_of K.content K.is_honest K.refusals) stop.old played.old line turn out
+        → EventTurn (keeping_of K.content K.is_honest K.refusals) number stop.old played.old line turn out
         (record { playing = Some played.new; stop = stop.new }))) }
 {
     let Ok(outcome) = played.world.step(event) else {
-        refuse(output, NodeFault::Memory)?;
+        refuse_event(number, NodeFault::Memory, output)?;
         return Ok(Turn::Refused);
     };
     match commit(&mut played.kept, &event.node, played.world.changes()) {
@@ -311,7 +284,15 @@ fn play_read<K: Keep>(
             return Ok(Turn::Ended);
         }
     }
-    write_outcome(alloc, outcome, played.world.packets(), output)
+    let packets = played.world.packets();
+    write_outcome(
+        alloc,
+        number,
+        outcome,
+        packets,
+        played.world.changes(),
+        output,
+    )
 }
 
 /// Reads a line's event and lets it happen.
@@ -320,20 +301,21 @@ fn play_event<K: Keep>(
     scratch: &mut Scratch,
     played: &mut Played<K>,
     stop: &mut Option<StoreFault>,
+    number: Option<u64>,
     line: &[u8],
     output: &mut String,
 ) -> Result<Turn, AllocError>
     ensures ok { IfOk result (λ turn. (out : List ℕ) × (string_bytes output.new ≡ string_bytes output.old ++ out)
-        × EventTurn (keeping_of K.content K.is_honest K.refusals) stop.old played.old line.now turn out
+        × EventTurn (keeping_of K.content K.is_honest K.refusals) number stop.old played.old line.now turn out
         (record { playing = Some played.new; stop = stop.new })) }
     ensures err { IfErr result (λ _. (turn : TurnOf) × (out : List ℕ)
-        × EventTurn (keeping_of K.content K.is_honest K.refusals) stop.old played.old line.now turn out
+        × EventTurn (keeping_of K.content K.is_honest K.refusals) number stop.old played.old line.now turn out
         (record { playing = Some played.new; stop = stop.new })) }
 {
     match read_event(alloc, scratch, line) {
-        Ok(event) => play_read(alloc, played, stop, &event, output),
+        Ok(event) => play_read(alloc, played, stop, number, &event, output),
         Err(fault) => {
-            refuse(output, fault)?;
+            refuse_line(number, fault, output)?;
             Ok(Turn::Refused)
         }
     }
@@ -366,6 +348,11 @@ fn ended(ran: Result<Ran, RunFault>, stop: Option<StoreFault>) -> Result<Ran, Pl
 /// as `skipped`. A line that is refused is written as `refused`, its number and its name, changes nothing, and the
 /// next follows; a refused or absent setup ends the run. At the end what each provider owes each operator is one line.
 ///
+/// With `done` one line more stands behind the packets of each event, or in place of `skipped` or `refused`. It says by
+/// the number of the line what became of it: `stepped` with how many packets, `idle`, `skipped`, `refused`, or
+/// `malformed` of a line that is no event. Lines that hold something are counted, the setup as 1. A refused setup, and
+/// what is owed, are written as without.
+///
 /// Each node has a keeper of its rows, opened once the setup was read, in its order, and the rows that an event changes
 /// are committed to it before the packets of the event are written (no clause says when). Where one of these is refused
 /// the run ends, of that line nothing is written, and `Store` tells the fault of the refusal, unless the last flush
@@ -384,22 +371,23 @@ pub fn run_play<R: BufRead, W: Write, S: Keeps + Drop>(
     input: &mut LineReader<R>,
     writer: &mut W,
     keeps: S,
+    done: bool,
     left: &mut Option<Played<S::Kept>>,
 ) -> Result<Ran, PlayFault>
-    ensures output { IfOk result (λ ran. PlayOutputs (keeping_of S.Kept.content S.Kept.is_honest S.Kept.refusals) S.may_refuse
+    ensures output { IfOk result (λ ran. PlayOutputs (keeping_of S.Kept.content S.Kept.is_honest S.Kept.refusals) S.may_refuse done
         (R.Read.remaining input.old.reader) ran None (W.contents writer.old) (W.contents writer.new) left.new) }
-    ensures begun { IfErr result (IfRun (λ fault. PlayBegins (keeping_of S.Kept.content S.Kept.is_honest S.Kept.refusals) S.may_refuse
+    ensures begun { IfErr result (IfRun (λ fault. PlayBegins (keeping_of S.Kept.content S.Kept.is_honest S.Kept.refusals) S.may_refuse done
         (R.Read.remaining input.old.reader) (W.contents writer.old) (W.contents writer.new) left.new)) }
     ensures stopped { IfErr result (IfRun (λ fault. fault ≢ RunFault.WriteFailed
-        → PlayStops (keeping_of S.Kept.content S.Kept.is_honest S.Kept.refusals) S.may_refuse fault
+        → PlayStops (keeping_of S.Kept.content S.Kept.is_honest S.Kept.refusals) S.may_refuse done fault
         (R.Read.remaining input.old.reader) (R.Read.remaining input.new.reader)
         (W.contents writer.old) (W.contents writer.new) left.new)) }
-    ensures store { IfErr result (IfStore (λ fault. PlayOutputs (keeping_of S.Kept.content S.Kept.is_honest S.Kept.refusals) S.may_refuse
+    ensures store { IfErr result (IfStore (λ fault. PlayOutputs (keeping_of S.Kept.content S.Kept.is_honest S.Kept.refusals) S.may_refuse done
         (R.Read.remaining input.old.reader) WithRefusals (Some fault) (W.contents writer.old) (W.contents writer.new) left.new)) }
     ensures failed { result ≡ Err (PlayFault.Run RunFault.ReadFailed) → input.new.failed ≡ true }
     ensures reads { ReadsFewLines (R.Read.remaining input.old.reader) (R.Read.remaining input.new.reader) }
 {
-    let mut playing: Program<S::Kept, S> = Program::new(alloc, seed, keeps);
+    let mut playing: Program<S::Kept, S> = Program::new(alloc, seed, keeps, done);
     let ran = run_whole(alloc, &mut playing, input, writer);
     let (played, stop) = playing.close();
     *left = played;

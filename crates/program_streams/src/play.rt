@@ -20,11 +20,11 @@ pub fn run_play_word(rt: &HostRuntime, seed: HashSeed, words: &PlayWords<'_>) ->
     let lines = lines_of(rt, Program::Play, telling, false);
     let watch = watch_in(&lines, telling);
     let ran = match words.folder {
-        None => play_buffered(rt, seed, watch, &mut told),
+        None => play_buffered(rt, seed, watch, words.done, &mut told),
         // With no buffer, what an event gives is written before the next event is carried out.
         Some(folder) => {
             let mut writer = WatchedWriter::new(io::writer(rt), watch);
-            play_in_files(rt, seed, &mut writer, watch, folder, &mut told)
+            play_in_files(rt, seed, &mut writer, watch, folder, words.done, &mut told)
         }
     };
     status_with(report(rt, ran, &told), telling, lines.into_inner())
@@ -35,10 +35,11 @@ fn play_buffered(
     rt: &HostRuntime,
     seed: HashSeed,
     watch: Option<&Lines<'_>>,
+    done: bool,
     told: &mut Told,
 ) -> Result<Ran, PlayFault> {
     match BufWriter::with_capacity(rt.alloc(), BUFFER_BYTES, io::writer(rt)) {
-        Ok(writer) => play_to(rt, seed, writer, watch, told),
+        Ok(writer) => play_to(rt, seed, writer, watch, done, told),
         Err(_) => Err(PlayFault::Run(RunFault::WriteFailed)),
     }
 }
@@ -49,10 +50,11 @@ fn play_to<W: Write + Drop>(
     seed: HashSeed,
     writer: W,
     watch: Option<&Lines<'_>>,
+    done: bool,
     told: &mut Told,
 ) -> Result<Ran, PlayFault> {
     let mut writer = WatchedWriter::new(writer, watch);
-    let ran = play_in_memory(rt, seed, &mut writer, watch, told);
+    let ran = play_in_memory(rt, seed, &mut writer, watch, done, told);
     drop(writer);
     ran
 }
@@ -92,6 +94,7 @@ fn play_in_memory<W: Write>(
     seed: HashSeed,
     writer: &mut W,
     watch: Option<&Lines<'_>>,
+    done: bool,
     told: &mut Told,
 ) -> Result<Ran, PlayFault> {
     play_input(
@@ -101,6 +104,7 @@ fn play_in_memory<W: Write>(
         watch,
         ListKeeps::new(rt.alloc()),
         "",
+        done,
         told,
     )
 }
@@ -112,6 +116,7 @@ fn play_in_files<W: Write>(
     writer: &mut W,
     watch: Option<&Lines<'_>>,
     folder: &str,
+    done: bool,
     told: &mut Told,
 ) -> Result<Ran, PlayFault> {
     play_input(
@@ -121,6 +126,7 @@ fn play_in_files<W: Write>(
         watch,
         FileKeeps::new(rt, folder),
         folder,
+        done,
         told,
     )
 }
@@ -147,6 +153,7 @@ fn play_input<W: Write, S: Keeps + Located + Drop>(
     watch: Option<&Lines<'_>>,
     keeps: S,
     folder: &str,
+    done: bool,
     told: &mut Told,
 ) -> Result<Ran, PlayFault> {
     tell_wait(
@@ -156,7 +163,7 @@ fn play_input<W: Write, S: Keeps + Located + Drop>(
     match BufReader::with_capacity(rt.alloc(), BUFFER_BYTES, rt.reader()) {
         Ok(reader) => {
             let reader = WatchedReader::new(reader, watch);
-            play_from(rt.alloc(), seed, reader, writer, keeps, folder, told)
+            play_from(rt.alloc(), seed, reader, writer, keeps, folder, done, told)
         }
         Err(_) => {
             drop(keeps);
@@ -173,12 +180,13 @@ fn play_from<R: BufRead + Drop, W: Write, S: Keeps + Located + Drop>(
     writer: &mut W,
     keeps: S,
     folder: &str,
+    done: bool,
     told: &mut Told,
 ) -> Result<Ran, PlayFault> {
     let mut input = LineReader::new(reader);
     let mut left = None;
     let mut keeps = keeps;
-    let ran = run_play(alloc, seed, &mut input, writer, &mut keeps, &mut left);
+    let ran = run_play(alloc, seed, &mut input, writer, &mut keeps, done, &mut left);
     drop(input);
     close_played(ran, keeps, kept_of(alloc, left), folder, told)
 }

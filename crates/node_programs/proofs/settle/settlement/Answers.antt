@@ -1,4 +1,4 @@
-use Rattle.std.proofs.Common.{◌≡◌, ◌++◌, ◌∙◌, List, ap, rules, subst, string_bytes}
+use Rattle.std.proofs.Common.{◌∙◌, List, rules, subst}
 use Rattle.handover.specs.Owed.{AreOwed}
 use Rattle.ocpi_types.specs.declared.cdrs.Cdr.{Cdr}
 use Rattle.tables.specs.Keys.{text_pair_cmp}

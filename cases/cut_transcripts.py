@@ -1,11 +1,11 @@
 #!/usr/bin/env python3
 """Weaves two transcripts of which one is cut at a byte, or lacks a line, or has a line twice: each in turn.
 
-    faults/cut_transcripts.py PROGRAM FILE FILE [--step 1] [--workers 4]
+    cases/cut_transcripts.py PROGRAM FILE FILE [--step 1] [--workers 4]
 
 PROGRAM is `ocpi_nodes`. Each answer must be a run (status 0: the setup line and an event a line), or one line that
 refuses (status 1). Standard error has nothing, but for the words that go with the refusals 1, 2 and 5. A run, and a refusal
-1, 2 or 3, must also be what tools/woven_run.py makes of the same files, where that knows. Memory that runs out is none
+1, 2 or 3, must also be what cases/woven_run.py makes of the same files, where that knows. Memory that runs out is none
 of them. With --step cuts come at each so many bytes. The last line says what was tried; the status is 0 where all is so.
 """
 
@@ -21,8 +21,7 @@ import tempfile
 import threading
 
 sys.dont_write_bytecode = True
-sys.path.insert(0, f"{os.path.dirname(os.path.dirname(os.path.abspath(__file__)))}/tools")
-import woven_run  # noqa: E402
+import woven_run
 
 PARTY, PLACE = r"[ -~]{2}/[ -~]{3}", r"[^\n]*:\d+"
 REFUSALS = [

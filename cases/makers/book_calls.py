@@ -10,13 +10,10 @@ kind; those of reading the line and writing the answer are among them, and are t
 It wants valgrind.
 """
 
-import pathlib
 import re
 import subprocess
 import sys
 import tempfile
-
-sys.path.insert(0, str(pathlib.Path(__file__).resolve().parent.parent / "cases" / "makers"))
 
 from book_values import cdr, location, moment, own_key, pending, push, reply, reservation, site_line, stop, text, token
 

@@ -1,7 +1,7 @@
 #!/usr/bin/env python3
 """Weaves transcripts by itself, as docs/PROTOCOL.md has it, for tests of `ocpi_nodes weave`.
 
-    tools/woven_run.py [--given PARTY].. [[--store STORE] FILE]..
+    cases/woven_run.py [--given PARTY].. [[--store STORE] FILE]..
 
 It prints the run, or the refusal 1, 2 or 3. It knows no node, so it takes what a node printed as right, also where a file
 begins with a STORE, which it never reads: the refusals of one file by itself are never told. Where only a node could say what a

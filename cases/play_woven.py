@@ -1,8 +1,8 @@
 #!/usr/bin/env python3
-"""Plays runs that `weave` makes: try_woven PROGRAM
+"""Plays runs that `weave` makes: cases/play_woven.py PROGRAM
 
 For each example in examples/weave whose status is 0 its transcripts are made and woven. The run must be what
-tools/woven_run.py makes of the files, where that knows. Where it is input of `play` it is handed to that: where no
+cases/woven_run.py makes of the files, where that knows. Where it is input of `play` it is handed to that: where no
 party is given, and it begins with a setup line. What `play` writes must be the packets of the transcripts, each as it
 was written there, those of a node in its order, and no others but what a stop kept from being written; and behind them
 what is owed. The last line is 'N runs as wanted, M not, of K the rules were not enough'; the status is 0 where M is 0.
@@ -88,7 +88,7 @@ def fault_of(program, example, run):
             return f"status {woven.returncode}, {woven.stdout[:200]!r}, {woven.stderr[:200]!r}", False
         wanted = modelled([(name, text, has_store) for (name, has_store), text in zip(names, texts)], given)
         if wanted not in (None, woven.stdout):
-            return "the run is not what tools/woven_run.py makes", True
+            return "the run is not what cases/woven_run.py makes", True
         if given or woven.stdout.startswith(b'{"done"'):
             return None, wanted is not None
         played = subprocess.run([program, "play"], input=woven.stdout, capture_output=True, check=False)
