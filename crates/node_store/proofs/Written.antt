@@ -15,7 +15,7 @@ use Rattle.ocpi_types.specs.declared.rows.Row.TheVariants as row
 use Rattle.ocpi_json.specs.RowKeys.{key_text}
 use Rattle.row_table.specs.Effects.{Edit}
 use Rattle.node_store.specs.Contents.{Content, RowPlace, changed, changed_all, place_of}
-use Rattle.node_store.specs.Editing.{counter_put, counter_of, edit_of, is_among, is_of, is_put, is_put_later, puts, written}
+use Rattle.node_store.specs.Editing.{CountersAreWrittenOnce, PutOnce, counter_put, counter_of, edit_of, is_among, is_of, is_put, is_put_later, puts, written}
 use Rattle.node_store.specs.Placing.{placed_of, set_text}
 use Rattle.node_store.proofs.Numbered.{one_place, same_place, sets_apart, set_over}
 use Rattle.node_store.proofs.Placed.{one_placed}
@@ -122,6 +122,41 @@ some_written (x ∷ xs) some none = by_later xs (is_put_later x xs) refl (λ mor
     by_later [] true later rest none = absurd (let e : true ≡ false = sym later ∙ none_later (counter_put x) in cc)
     by_later (y ∷ ys) true later rest none = rest (λ empty. absurd (let e = empty in cc)) none
     by_later ys false last rest none = absurd (let e = none in cc)
+
+-- ---- each counter is written once
+
+or_false : (a b : Bool) → (a || b) ≡ false → (a ≡ false) × (b ≡ false)
+or_false true b is = absurd (let e : true ≡ false = is in cc)
+or_false false b is = (refl, is)
+
+either_false : (a b : Bool) → a ≡ false → b ≡ false → (a || b) ≡ false
+either_false true b no_a no_b = no_a
+either_false false b no_a no_b = no_b
+
+never_written : (k : Counter) (xs : List Change) → puts k xs ≡ false → puts k (written xs) ≡ false
+never_written k [] is = refl
+never_written k (x ∷ xs) is =
+    let parts = or_false (is_put k x) (puts k xs) is in
+    by_later (is_put_later x xs) parts.0 (never_written k xs parts.1)
+  where
+    by_later : (b : Bool) → is_put k x ≡ false → puts k (written xs) ≡ false → puts k (cond b (written xs) (x ∷ written xs)) ≡ false
+    by_later true this rest = rest
+    by_later false this rest = either_false (is_put k x) (puts k (written xs)) this rest
+
+last_written : (o : Option Counter) (xs : List Change) → is_among o xs ≡ false → is_among o (written xs) ≡ false
+last_written None xs is = refl
+last_written (Some k) xs is = never_written k xs is
+
+put_once : (xs : List Change) → PutOnce (written xs)
+put_once [] = tt
+put_once (x ∷ xs) = by_later (is_put_later x xs) refl (put_once xs)
+  where
+    by_later : (b : Bool) → is_put_later x xs ≡ b → PutOnce (written xs) → PutOnce (cond b (written xs) (x ∷ written xs))
+    by_later true later rest = rest
+    by_later false last rest = (last_written (counter_put x) xs last, rest)
+
+pub counters_are_written_once : CountersAreWrittenOnce
+counters_are_written_once = record { same = all_written; once = put_once }
 
 -- ---- the loops
 

@@ -1,5 +1,5 @@
 -- Changes of rows as edits of texts.
-use Rattle.std.specs.Prelude.{Bool, false, cond, ◌||◌, List, [], ◌∷◌, Option, Some, None}
+use Rattle.std.specs.Prelude.{◌≡◌, Bool, false, cond, ◌||◌, List, [], ◌∷◌, Option, Some, None}
 use Rattle.std.specs.Str.{bytes_eq}
 use Rattle.ocpi_types.specs.Rows.{counter_name, key_of}
 use Rattle.ocpi_types.specs.declared.rows.Change.{Change}
@@ -9,7 +9,7 @@ use Rattle.ocpi_types.specs.declared.rows.Row.{Row}
 use Rattle.ocpi_types.specs.declared.rows.Row.TheVariants as row
 use Rattle.ocpi_json.specs.RowForms.{row_text}
 use Rattle.row_table.specs.Effects.{Edit}
-use Rattle.node_store.specs.Contents.{place_of}
+use Rattle.node_store.specs.Contents.{Content, changed_all, place_of}
 
 abbrev pub edit_of : Change → Edit
 edit_of (change.Put r) = (place_of (key_of r), Some (row_text r))
@@ -62,3 +62,13 @@ is_put_later x later = is_among (counter_put x) later
 abbrev pub written : List Change → List Change
 written [] = []
 written (x ∷ xs) = cond (is_put_later x xs) (written xs) (x ∷ written xs)
+
+-- no change puts a counter that a later one puts
+abbrev pub PutOnce : List Change → Type 0
+PutOnce [] = Unit {0}
+PutOnce (x ∷ xs) = (is_put_later x xs ≡ false) × PutOnce xs
+
+-- What is written makes of a content what all changes make of it, and has each counter once.
+pub record CountersAreWrittenOnce : Type 0 where
+  pub same : (c : Content) (changes : List Change) → changed_all c (written changes) ≡ changed_all c changes
+  pub once : (changes : List Change) → PutOnce (written changes)
