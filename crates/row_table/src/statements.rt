@@ -29,7 +29,7 @@ pub(crate) fn clear<S: Alter>(
     )
 }
 
-/// Puts the text under a kind and a name that have none.
+/// Puts the text under a kind and a name that have none: where they have one, it is refused.
 fn add<S: Alter>(
     tx: &mut Transaction<'_, S>,
     kind: &str,
@@ -39,7 +39,6 @@ fn add<S: Alter>(
     ensures same_reference { tx.new.conn.ghost_name ≡ tx.old.conn.ghost_name }
     ensures kept { HasCleanDisk (state S.Store tx.new.conn.now) → KeepsCommit (state S.Store tx.old.conn.now) (state S.Store tx.new.conn.now) }
     ensures made { HasCleanDisk (state S.Store tx.new.conn.now) → HadTables (state S.Store tx.old.conn.now)
-        → get (texts_of (state S.Store tx.old.conn.now).now.trees) (kind.now, name.now) ≡ None
         → OnOk result (HasMade (state S.Store tx.old.conn.now) (state S.Store tx.new.conn.now) (with_texts (content_of (state S.Store tx.old.conn.now).now.trees) (insert (texts_of (state S.Store tx.old.conn.now).now.trees) (kind.now, name.now) text.now))) }
     ensures survives { Survives (state S.Store tx.old.conn.now) (state S.Store tx.new.conn.now) (λ _. ⊥) }
 {
