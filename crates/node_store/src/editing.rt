@@ -1,6 +1,6 @@
 //! Changes of rows, and the number of their line, as edits of texts.
 
-ghost use Rattle.std.specs.Prelude.{◌≡◌, ◌++◌, All, IfOk, IfSome, IsTrue, map, string_bytes};
+ghost use Rattle.std.specs.Prelude.{◌≡◌, ◌++◌, All, IfOk, IfSome, IsTrue, Some, map, string_bytes};
 ghost use Rattle.ocpi_json.specs.RowKeys.{key_text, kind_of_key, row_kind_word};
 ghost use Rattle.ocpi_json.specs.RowForms.{row_text};
 ghost use Rattle.row_table.specs.Effects.{set_all};
@@ -21,6 +21,22 @@ fn kind_of(alloc: Global, key: &RowKey) -> Result<String, AllocError>
     String::from_str(alloc, RowKind::of_key(key).word())
 }
 
+/// Whether a row of this kind is put once, most likely: those that are put again and again are counters and sessions.
+fn is_put_once(row: &Row) -> bool {
+    !matches!(row, Row::Count { .. } | Row::Session { .. })
+}
+
+/// The edit that puts a text.
+fn put_text(row: &Row, kind: String, name: String, text: String) -> TextEdit
+    ensures { result ≡ ((string_bytes kind, string_bytes name), Some (string_bytes text)) }
+{
+    if is_put_once(row) {
+        TextEdit::likely_new(kind, name, text)
+    } else {
+        TextEdit::new(kind, name, Some(text))
+    }
+}
+
 /// The edit that a change is.
 fn edit_of(alloc: Global, change: &Change) -> Result<TextEdit, AllocError>
     ensures edit { IfOk result (λ e. e ≡ edit_of change.now) }
@@ -32,7 +48,7 @@ fn edit_of(alloc: Global, change: &Change) -> Result<TextEdit, AllocError>
             let kind = kind_of(alloc, &key)?;
             let name = write_key(alloc, &key)?;
             let text = write_row(alloc, row)?;
-            Ok(TextEdit::new(kind, name, Some(text)))
+            Ok(put_text(row, kind, name, text))
         }
         Change::Drop(key) => {
             let kind = kind_of(alloc, key)?;
