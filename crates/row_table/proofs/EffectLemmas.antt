@@ -1,5 +1,5 @@
 -- From what a statement does to what is then held.
-use Rattle.std.proofs.Common.{◌≡◌, inl, inr, ℕ, pos, List, [], ◌∷◌, map, Bool, true, false, cond, IsTrue, Option, Some, None, Ok, Err, Result, IsErr, OnErr, OnOk, refl, sym, ap, subst, ◌∙◌}
+use Rattle.std.proofs.Common.{◌≡◌, inl, inr, ℕ, pos, List, [], ◌∷◌, map, Bool, true, false, cond, IsTrue, Option, Some, None, Ok, Err, Result, OnErr, OnOk, refl, sym, ap, subst, ◌∙◌}
 use Rattle.std.proofs.lemmas.Bool.{cases_Bool}
 use Rattle.std.specs.FinMap.{get, insert, remove, get-insert, get-remove, same_map}
 use Rattle.std.specs.Ordering.{eq_by_cmp}
@@ -11,7 +11,6 @@ use Rattle.sqlite.specs.Edit.{next_rowid}
 use Rattle.sqlite.specs.Order.{Row, column}
 use Rattle.sqlite.specs.Tree.{Trees}
 use Rattle.sqlite_catalog.specs.Listing.{IsSound}
-use Rattle.sqlite.specs.Effect.{Database}
 use Rattle.sqlite.specs.State.{State, Shows, KeepsCommit, ExecutesInside}
 use Rattle.row_table.specs.Texts.{Place, Texts, texts_in, texts_of, text_row, IsTextRow, AreTexts}
 use Rattle.row_table.specs.Layout.{both_tables}
@@ -95,20 +94,6 @@ fails old new sql params (Err e) ended runs = elim (cases_Bool old.in_transactio
   ]
   | inr outside ↦ inr (ended outside)
 ]
-
--- what is made after a failure that changed nothing
-pub made_after : (old mid new : State) (p : Place) (body : List ℕ) (r : Result ℕ Error) → HadTables old → IsNotMade old mid → (mid.in_transaction ≡ false → IsErr r)
-    → (HadTables mid → OnOk r (HasMade mid new (with_texts (content_of mid.now.trees) (insert (texts_of mid.now.trees) p body)))) → OnOk r (HasMade old new (with_texts (content_of old.now.trees) (insert (texts_of old.now.trees) p body)))
-made_after old mid new p body (Err e) has left ended made = tt
-made_after old mid new p body (Ok count) has (inr over) ended made = absurd (let e = ended over in cc)
-made_after old mid new p body (Ok count) has (inl same) ended made =
-    let u = same.0 in
-    let m = made (λ _. subst HasTables (sym u.now_is) (has u.was_open)) in
-    record {
-      shown = record { was_open = u.was_open; is_open = m.shown.is_open; now_is = refl; committed_is = m.shown.committed_is ∙ u.committed_is; mode = m.shown.mode };
-      tables = m.tables;
-      holds = m.holds ∙ ap (λ (db : Database). with_texts (content_of db.trees) (insert (texts_of db.trees) p body)) u.now_is;
-    }
 
 pub shows_then : (a b c : State) → Shows a b b.now a.committed true → Shows b c c.now b.committed true → Shows a c c.now a.committed true
 shows_then a b c p q = record { was_open = p.was_open; is_open = q.is_open; now_is = refl; committed_is = q.committed_is ∙ p.committed_is; mode = q.mode }

@@ -197,7 +197,7 @@ deletes old new kind name (Ok count) has texts h =
 
 pub inserts : (old new : State) (kind name body : List ℕ) (r : Result ℕ Error) → old.now.schema ≡ both_tables → Executes insert_text (Text kind ∷ Text name ∷ Text body ∷ []) old new r
     → OnOk r (HasRows old.now.trees new.now (put_row (text_row (next_rowid (old.now.trees 1)) kind name body) (old.now.trees 1)) × (is_taken (old.now.trees 1) (text_row (next_rowid (old.now.trees 1)) kind name body) ≡ false)
-        × (next : Trees) × Fits both_tables next × (next 1 ≡ put_row (text_row (next_rowid (old.now.trees 1)) kind name body) (old.now.trees 1)))
+    × (next : Trees) × Fits both_tables next × (next 1 ≡ put_row (text_row (next_rowid (old.now.trees 1)) kind name body) (old.now.trees 1)))
 inserts old new kind name body (Err e) has h = tt
 inserts old new kind name body (Ok count) has h =
     let params = Text kind ∷ Text name ∷ Text body ∷ [] in

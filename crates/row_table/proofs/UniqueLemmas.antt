@@ -85,9 +85,9 @@ places_agree r new is it =
     ∙ ap (λ (b : Bool). is_eq (text_cmp it.kind is.kind) && (b && true)) second
     ∙ both_tied (text_cmp it.kind is.kind) (text_cmp it.name is.name)
     ∙ sym (ap (λ (k : List ℕ). is_eq (ordering_then (text_cmp k (bytes (column r 1))) (text_cmp (bytes (column new 2)) (bytes (column r 2))))) (ap bytes it.has_kind)
-        ∙ ap (λ (k : List ℕ). is_eq (ordering_then (text_cmp it.kind k) (text_cmp (bytes (column new 2)) (bytes (column r 2))))) (ap bytes is.has_kind)
-        ∙ ap (λ (n : List ℕ). is_eq (ordering_then (text_cmp it.kind is.kind) (text_cmp n (bytes (column r 2))))) (ap bytes it.has_name)
-        ∙ ap (λ (n : List ℕ). is_eq (ordering_then (text_cmp it.kind is.kind) (text_cmp it.name n))) (ap bytes is.has_name))
+    ∙ ap (λ (k : List ℕ). is_eq (ordering_then (text_cmp it.kind k) (text_cmp (bytes (column new 2)) (bytes (column r 2))))) (ap bytes is.has_kind)
+    ∙ ap (λ (n : List ℕ). is_eq (ordering_then (text_cmp it.kind is.kind) (text_cmp n (bytes (column r 2))))) (ap bytes it.has_name)
+    ∙ ap (λ (n : List ℕ). is_eq (ordering_then (text_cmp it.kind is.kind) (text_cmp it.name n))) (ap bytes is.has_name))
 
 pub alone : (next : Trees) (old : List Row) (new : Row) → Fits both_tables next → next 1 ≡ put_row new old → AreTexts old → IsTextRow new → is_taken old new ≡ false → (r : Row) → Has old r → is_at (place_in new) r ≡ false
 alone next old new fits rows texts is free r h =
