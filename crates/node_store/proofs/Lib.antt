@@ -2,6 +2,7 @@ pub mod Places
 pub mod Placed
 pub mod Numbered
 pub mod KeptRows
+pub mod Written
 pub mod Edited
 pub mod Alike
 pub mod MovedTexts

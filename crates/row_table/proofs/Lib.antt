@@ -12,3 +12,4 @@ pub mod MakeLemmas
 pub mod CheckLemmas
 pub mod OpenLemmas
 pub mod HistoryLemmas
+pub mod UniqueLemmas

@@ -40,6 +40,7 @@ use Rattle.std.proofs.lemmas.List.Sorted.{Contains-permutation}
 use Rattle.std.specs.Cmp.{eq_by_cmp_equiv}
 use Rattle.sqlite_value.proofs.OrderLemmas.{value_cmp-Text}
 use Rattle.sqlite_catalog.specs.Listing.{IsSound}
+use Rattle.sqlite_schema.specs.Rules.{Fits}
 use Rattle.tables.specs.Keys.{text_cmp, text_total}
 use Rattle.row_table.specs.Layout.{both_tables, row_table}
 use Rattle.row_table.specs.Texts.{text_row, IsTextRow, AreTexts}
@@ -101,14 +102,14 @@ tied Less = refl
 tied Equal = refl
 tied Greater = refl
 
-both_tied : (a b : Ordering) → (is_eq a && (is_eq b && true)) ≡ is_eq (ordering_then a b)
+pub both_tied : (a b : Ordering) → (is_eq a && (is_eq b && true)) ≡ is_eq (ordering_then a b)
 both_tied Less b = refl
 both_tied Equal Less = refl
 both_tied Equal Equal = refl
 both_tied Equal Greater = refl
 both_tied Greater b = refl
 
-equal_texts : (s t : List ℕ) → ops.is_true (ops.binary (binary.Compare compare.Eq collation.Binary) (Text s) (Text t)) ≡ is_eq (text_cmp t s)
+pub equal_texts : (s t : List ℕ) → ops.is_true (ops.binary (binary.Compare compare.Eq collation.Binary) (Text s) (Text t)) ≡ is_eq (text_cmp t s)
 unfolding ops.binary value_cmp
 equal_texts s t = tied (value_cmp (Text s) (Text t)) ∙ ap is_eq (value_cmp-Text s t) ∙ (eq_by_cmp_equiv text_total).symm s t
 
@@ -195,7 +196,8 @@ deletes old new kind name (Ok count) has texts h =
 -- ---- INSERT
 
 pub inserts : (old new : State) (kind name body : List ℕ) (r : Result ℕ Error) → old.now.schema ≡ both_tables → Executes insert_text (Text kind ∷ Text name ∷ Text body ∷ []) old new r
-    → OnOk r (HasRows old.now.trees new.now (put_row (text_row (next_rowid (old.now.trees 1)) kind name body) (old.now.trees 1)) × (is_taken (old.now.trees 1) (text_row (next_rowid (old.now.trees 1)) kind name body) ≡ false))
+    → OnOk r (HasRows old.now.trees new.now (put_row (text_row (next_rowid (old.now.trees 1)) kind name body) (old.now.trees 1)) × (is_taken (old.now.trees 1) (text_row (next_rowid (old.now.trees 1)) kind name body) ≡ false)
+    × (next : Trees) × Fits both_tables next × (next 1 ≡ put_row (text_row (next_rowid (old.now.trees 1)) kind name body) (old.now.trees 1)))
 inserts old new kind name body (Err e) has h = tt
 inserts old new kind name body (Ok count) has h =
     let params = Text kind ∷ Text name ∷ Text body ∷ [] in
@@ -219,6 +221,9 @@ inserts old new kind name body (Ok count) has h =
         rows_are = ap (λ (d : Database). d.trees 1) now ∙ ap (λ (t : Trees). t 1) trees ∙ step.rows ∙ ap (put_all (db 1)) news;
       },
       front_fresh (db 1) (text_row (next_rowid (db 1)) kind name body) (subst (λ (l : List Row). are_fresh (db 1) l ≡ true) news step.fresh),
+      written.0,
+      step.fits,
+      step.rows ∙ ap (put_all (db 1)) news,
     )
   where
     turned : (a b : Bool) → (not a && b) ≡ true → a ≡ false

@@ -1,9 +1,9 @@
 -- What the statements on the tables do to a connection.
-use Rattle.std.specs.Prelude.{◌≡◌, ℕ, true, List, [], ◌∷◌, Option, Some, None, IsTrue}
+use Rattle.std.specs.Prelude.{◌≡◌, ◌⊎◌, ℕ, true, false, List, [], ◌∷◌, Option, Some, None, IsTrue}
 use Rattle.std.specs.FinMap.{insert, remove}
 use Rattle.sqlite.specs.Tree.{Trees}
 use Rattle.sqlite.specs.Effect.{Database}
-use Rattle.sqlite.specs.State.{State, Shows}
+use Rattle.sqlite.specs.State.{State, IsUnchanged, Shows}
 use Rattle.sqlite_catalog.specs.Listing.{IsSound}
 use Rattle.row_table.specs.Layout.{both_tables}
 use Rattle.row_table.specs.Texts.{Place, Texts}
@@ -23,6 +23,10 @@ pub record HasMade (old new : State) (content : Content) : Type 0 where
   pub shown : Shows old new new.now old.committed true
   pub tables : HasTables new.now
   pub holds : content_of new.now.trees ≡ content
+
+-- a statement that failed left all as it was, or the transaction is over
+abbrev pub IsNotMade : State → State → Type 0
+IsNotMade old new = IsUnchanged old new ⊎ (new.in_transaction ≡ false)
 
 -- the transaction goes on, without a version
 pub record HasNoVersion (old new : State) : Type 0 where
