@@ -2,7 +2,6 @@
 use Rattle.std.proofs.Common.{ℕ, List, [], ◌∷◌, ◌++◌, Option, refl, sym, subst, append_assoc, append-nil}
 use Rattle.std.specs.Prelude.{Contains}
 use Rattle.feeding_laws.specs.Feeding.{CameOnce, next_came, none_came, starts}
-use Rattle.history_laws.proofs.Replaying.{operator_happens, provider_happens}
 use Rattle.network_laws.specs.Steps.{NodeHappens}
 use Rattle.node_laws.proofs.Runs.{run_join}
 use Rattle.node_laws.specs.Runs.{Run}
@@ -12,18 +11,10 @@ use Rattle.reopening_laws.proofs.Nodes.{nodes_reopen, nodes_stay}
 use Rattle.reopening_laws.specs.Nodes.{IsAlike, IsNodeOf, start_of}
 use Rattle.stored_laws.specs.Nodes.{CanStartAgain, NodesCanStartAgain, OpeningsCanStartAgain}
 use Rattle.world_laws.specs.Laws.{IsSetup}
-use Rattle.world_steps.specs.Steps.{AtOperator, AtProvider, NodeEvent, NodeStep}
-use Rattle.world_steps.specs.World.{NodeState, Operates, Provides, opening_of}
+use Rattle.world_networks.proofs.Networks.{happens}
+use Rattle.world_steps.specs.Steps.{NodeEvent, NodeStep}
+use Rattle.world_steps.specs.World.{NodeState, opening_of}
 use Rattle.fed_networks.specs.Lives.{Life, events_of}
-
--- what a node does in a world happens in a network
-happens : (s : NodeState) (x : NodeEvent) (t : NodeState) → NodeStep s x t → NodeHappens s x t
-happens (Operates s) (AtOperator e) (Operates t) step = operator_happens s e t step
-happens (Operates s) (AtOperator e) (Provides t) step = absurd step
-happens (Operates s) (AtProvider e) t step = absurd step
-happens (Provides s) (AtProvider e) (Provides t) step = provider_happens s e t step
-happens (Provides s) (AtProvider e) (Operates t) step = absurd step
-happens (Provides s) (AtOperator e) t step = absurd step
 
 -- what is so behind events
 pub record Lived (member : Node) (first : NodeState) (es : List NodeEvent) (now : NodeState) : Type 0 where

@@ -1,5 +1,7 @@
 -- From the lives of nodes to a run of their network.
-use Rattle.std.proofs.Common.{◌≡◌, ℕ, zero, suc, List, [], ◌∷◌, ◌++◌, length, map, inl, inr, refl, sym, ap, subst, ◌∙◌, arith, append_assoc, append-nil, length-set}
+use Rattle.std.proofs.Common.{◌≡◌, ℕ, List, [], ◌∷◌, ◌++◌, length, map, option_map, inl, inr, refl, sym, ap, subst, ◌∙◌, arith, append_assoc, append-nil, length-set}
+use Rattle.std.proofs.lemmas.List.{length-map}
+use Rattle.std.proofs.lemmas.Option.{slice_get-map}
 use Rattle.std.specs.Prelude.{Some, Contains, slice_get, slice_set}
 use Rattle.std.proofs.lemmas.Bool.{cases_eq}
 use Rattle.std.proofs.lemmas.List.Elements.{Contains-append_right}
@@ -18,8 +20,7 @@ use Rattle.ocpi_types.specs.declared.setup.Node.TheVariants as node
 use Rattle.stored_laws.specs.Nodes.{NodesCanStartAgain, OpeningsCanStartAgain}
 use Rattle.tables.proofs.Elements.{in_front}
 use Rattle.histories.proofs.Lists.{place_in}
-use Rattle.world_laws.proofs.Setups.{are_peers_of, by_form_of}
-use Rattle.world_laws.specs.Laws.{IsSetup}
+use Rattle.world_networks.proofs.Networks.{own_form, own_name}
 use Rattle.world_steps.specs.Steps.{NodeEvent, packets_of, versions_of}
 use Rattle.world_steps.specs.Traces.{Brings, sent}
 use Rattle.world_steps.specs.World.{NodeState, Place, World, opening_of}
@@ -33,22 +34,8 @@ opens_own : (setup : List Node) (n : Node) → networks.opening_of (setup_of set
 opens_own setup (node.Operator party site) = refl
 opens_own setup (node.Provider party) = refl
 
-named_own : (setup : List Node) (n : Node) → name_of (setup_of setup n) ≡ party_of n
-named_own setup (node.Operator party site) = refl
-named_own setup (node.Provider party) = refl
-
-own_form : (setup : List Node) → IsSetup setup → (i : ℕ) (n : Node) → slice_get setup i ≡ Some n → IsOwnSetup (setup_of setup n)
-own_form setup is_setup i (node.Operator party site) at = by_form_of setup is_setup i (node.Operator party site) at
-own_form setup is_setup i (node.Provider party) at = are_peers_of setup is_setup i party at
-
-mapped_size : {X Y : Type 0} (f : X → Y) (xs : List X) → length (map f xs) ≡ length xs
-mapped_size f [] = refl
-mapped_size f (x ∷ xs) = ap suc (mapped_size f xs)
-
 mapped_at : {X Y : Type 0} (f : X → Y) (xs : List X) (i : ℕ) (x : X) → slice_get xs i ≡ Some x → slice_get (map f xs) i ≡ Some (f x)
-mapped_at f [] i x at = absurd (cc at)
-mapped_at f (y ∷ ys) zero x at = cc at
-mapped_at f (y ∷ ys) (suc i) x at = mapped_at f ys i x at
+mapped_at f xs i x at = slice_get-map f xs i ∙ ap (option_map f) at
 
 -- each history is a run of its node
 abbrev pub Running : List History → Type 0
@@ -152,7 +139,7 @@ module _ (lives : List History) (all : List Happening) (runs : Running lives) (a
       subst (λ (z : Place). Stands i z [] all) is (record {
         life = l;
         of = of;
-        party = ap name_of (sym is_s) ∙ named_own l.of.setup l.of.member;
+        party = ap name_of (sym is_s) ∙ own_name l.of.setup l.of.member;
         run = subst (λ (n : NodeState). Run NodeHappens n (history all i) l.now) (sym (opens_own l.of.setup l.of.member) ∙ ap networks.opening_of is_s)
             (subst (λ (es : List NodeEvent). Run NodeHappens (opening_of l.of.setup l.of.member) es l.now) (sym (happened.each i l of)) run);
         sent_is = refl;
@@ -173,10 +160,10 @@ module _ (lives : List History) (all : List Happening) (runs : Running lives) (a
       apart i j n m at there same =
           let (l, of, is) = setup_at i n at in
           let (k, of_k, is_k) = setup_at j m there in
-          are.apart i j l.of k.of (mapped_at (λ (x : History). x.of) lives i l of) (mapped_at (λ (x : History). x.of) lives j k of_k) (ap key (sym (named_own l.of.setup l.of.member) ∙ ap name_of is) ∙ same ∙ ap key (sym (ap name_of is_k) ∙ named_own k.of.setup k.of.member))
+          are.apart i j l.of k.of (mapped_at (λ (x : History). x.of) lives i l of) (mapped_at (λ (x : History). x.of) lives j k of_k) (ap key (sym (own_name l.of.setup l.of.member) ∙ ap name_of is) ∙ same ∙ ap key (sym (ap name_of is_k) ∙ own_name k.of.setup k.of.member))
 
   whole : Went (opened (setups_of lives)) all
-  whole = go all [] (opened (setups_of lives)) refl (mapped_size place_of (setups_of lives) ∙ mapped_size (λ (l : History). setup_of l.of.setup l.of.member) lives) standing_first
+  whole = go all [] (opened (setups_of lives)) refl (length-map (setups_of lives) place_of ∙ length-map lives (λ (l : History). setup_of l.of.setup l.of.member)) standing_first
 
   pub is_network : IsNetworkOf lives all
   is_network = record {
