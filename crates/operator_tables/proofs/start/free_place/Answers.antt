@@ -20,5 +20,5 @@ returns-else-not-is_free-clause-found c =
     let s = c.args.site.now in
     let free = (c.is_free.ensures.0 (cc)).1 in
     let first = named_first s _ _ c.args.command.now.evse_uid _ p.0 c.requires.found c.in-Some.is (record { listed = p.2.listed; named = p.2.named }) c.evses_differ.ensures
-        (subst (λ k. IsTrue (is_free s.claims s.out_of_service k)) (c.key.ensures ∙ ap (λ (x : Place). key x.evse_uid) p.3) free) in
+    (subst (λ k. IsTrue (is_free s.claims s.out_of_service k)) (c.key.ensures ∙ ap (λ (x : Place). key x.evse_uid) p.3) free) in
     record { evse = p.0; connector = p.1; fits = p.2; free = first.free; first = first.first; place_is = p.3 }
