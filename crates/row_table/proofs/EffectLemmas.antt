@@ -27,12 +27,12 @@ use Rattle.row_table.proofs.VersionLemmas.{deletes_version, inserts_version}
 abbrev pub content : List Value → Texts → Content
 content vs ts = record { versions = vs; texts = ts }
 
-same_content : (old new : Trees) → new 0 ≡ old 0 → (t : Texts) → texts_of new ≡ t → content_of new ≡ with_texts (content_of old) t
+pub same_content : (old new : Trees) → new 0 ≡ old 0 → (t : Texts) → texts_of new ≡ t → content_of new ≡ with_texts (content_of old) t
 same_content old new same t is =
     ap (λ (rows : List Row). content (map (λ (r : Row). column r 1) rows) (texts_of new)) same ∙ ap (content (versions old)) is
 
 -- the tables and the version stay
-still : (old new : State) → new.now.schema ≡ both_tables → IsSound both_tables new.now.trees → HasTables old.now → new.now.trees 0 ≡ old.now.trees 0 → AreTexts (new.now.trees 1) → HasTables new.now
+pub still : (old new : State) → new.now.schema ≡ both_tables → IsSound both_tables new.now.trees → HasTables old.now → new.now.trees 0 ≡ old.now.trees 0 → AreTexts (new.now.trees 1) → HasTables new.now
 still old new schema listed it same texts = record {
   schema = schema;
   whole = record { listed = listed; version = it.whole.version; has_version = subst (IsNumbered it.whole.version) (sym same) it.whole.has_version; are_texts = texts };
@@ -76,7 +76,7 @@ adds old new kind name body (Ok count) has ended runs = elim (cases_Bool old.in_
   | inr outside ↦ absurd (let e = (ended outside).1 in cc)
 ]
 
-put_back : (t : Texts) (p : Place) (body : List ℕ) → insert (remove t p) p body ≡ insert t p body
+pub put_back : (t : Texts) (p : Place) (body : List ℕ) → insert (remove t p) p body ≡ insert t p body
 put_back t p body = same_map text_pair_total text_pair_exact _ _ (λ q. get-insert text_pair_total (remove t p) p body q ∙ ap (cond (eq_by_cmp text_pair_cmp q p) (Some body)) (get-remove text_pair_total t p q)
     ∙ chosen (eq_by_cmp text_pair_cmp q p) (get t q) ∙ sym (get-insert text_pair_total t p body q))
   where
@@ -97,14 +97,6 @@ fails old new sql params (Err e) ended runs = elim (cases_Bool old.in_transactio
 
 pub shows_then : (a b c : State) → Shows a b b.now a.committed true → Shows b c c.now b.committed true → Shows a c c.now a.committed true
 shows_then a b c p q = record { was_open = p.was_open; is_open = q.is_open; now_is = refl; committed_is = q.committed_is ∙ p.committed_is; mode = q.mode }
-
-pub puts : (old mid new : State) (p : Place) (body : List ℕ) → HasMade old mid (with_texts (content_of old.now.trees) (remove (texts_of old.now.trees) p))
-    → HasMade mid new (with_texts (content_of mid.now.trees) (insert (texts_of mid.now.trees) p body)) → HasMade old new (with_texts (content_of old.now.trees) (insert (texts_of old.now.trees) p body))
-puts old mid new p body first second = record {
-  shown = shows_then old mid new first.shown second.shown;
-  tables = second.tables;
-  holds = second.holds ∙ ap (λ (c : Content). with_texts c (insert c.texts p body)) first.holds ∙ ap (with_texts (content_of old.now.trees)) (put_back (texts_of old.now.trees) p body);
-}
 
 -- ---- the version
 

@@ -1,5 +1,6 @@
 pub mod Meanings
 pub mod RowLemmas
+pub mod ReplaceLemmas
 pub mod StatementLemmas
 pub mod VersionLemmas
 pub mod EffectLemmas

@@ -7,7 +7,7 @@ ghost use Rattle.sqlite.specs.Held.{state};
 ghost use Rattle.row_table.specs.Layout.{both_tables};
 ghost use Rattle.row_table.specs.Texts.{texts_of};
 ghost use Rattle.row_table.specs.Contents.{at_version, content_of, with_texts};
-ghost use Rattle.row_table.specs.Effects.{HadTables, HasMade, HasNoVersion, HasNumbered, IsNotMade};
+ghost use Rattle.row_table.specs.Effects.{HadTables, HasMade, HasNoVersion, HasNumbered, IsNotMade, IsReplaced};
 
 use sqlite::{Alter, Error, ErrorCode, Row, Transaction, params};
 
@@ -50,6 +50,26 @@ fn add<S: Alter>(
     )
 }
 
+/// Puts the text in place of that under the kind and the name, and answers how many it replaced.
+fn replace<S: Alter>(
+    tx: &mut Transaction<'_, S>,
+    kind: &str,
+    name: &str,
+    text: &str,
+) -> Result<usize, Error>
+    ensures same_reference { tx.new.conn.ghost_name ≡ tx.old.conn.ghost_name }
+    ensures kept { HasCleanDisk (state S.Store tx.new.conn.now) → KeepsCommit (state S.Store tx.old.conn.now) (state S.Store tx.new.conn.now) }
+    ensures made { HasCleanDisk (state S.Store tx.new.conn.now) → HadTables (state S.Store tx.old.conn.now)
+        → IfOk result (IsReplaced kind.now name.now text.now (state S.Store tx.old.conn.now) (state S.Store tx.new.conn.now)) }
+    ensures survives { Survives (state S.Store tx.old.conn.now) (state S.Store tx.new.conn.now) (λ _. ⊥) }
+    ensures ended { (state S.Store tx.old.conn.now).in_transaction ≡ false → IsErr result }
+{
+    tx.execute(
+        "UPDATE row_text SET body = ?3 WHERE kind = ?1 AND name = ?2",
+        params![kind, name, text],
+    )
+}
+
 /// Puts the text under the kind and the name, in place of any other.
 pub(crate) fn put<S: Alter>(
     tx: &mut Transaction<'_, S>,
@@ -64,11 +84,14 @@ pub(crate) fn put<S: Alter>(
     ensures survives { Survives (state S.Store tx.old.conn.now) (state S.Store tx.new.conn.now) (λ _. ⊥) }
     ensures ended { (state S.Store tx.old.conn.now).in_transaction ≡ false → IsErr result }
 {
-    clear(tx, kind, name)?;
-    add(tx, kind, name, text)
+    match replace(tx, kind, name, text)? {
+        0 => add(tx, kind, name, text),
+        1 => Ok(1),
+        _ => Err(Error::SqliteFailure(ErrorCode::DatabaseCorrupt)),
+    }
 }
 
-/// The same for a kind and a name that most likely have no text: one statement where they have none, else three.
+/// The same for a kind and a name that most likely have no text: one statement where they have none, else two.
 pub(crate) fn put_new<S: Alter>(
     tx: &mut Transaction<'_, S>,
     kind: &str,
