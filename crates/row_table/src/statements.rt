@@ -84,10 +84,14 @@ pub(crate) fn put<S: Alter>(
     ensures survives { Survives (state S.Store tx.old.conn.now) (state S.Store tx.new.conn.now) (λ _. ⊥) }
     ensures ended { (state S.Store tx.old.conn.now).in_transaction ≡ false → IsErr result }
 {
-    match replace(tx, kind, name, text)? {
-        0 => add(tx, kind, name, text),
-        1 => Ok(1),
-        _ => Err(Error::SqliteFailure(ErrorCode::DatabaseCorrupt)),
+    let count = replace(tx, kind, name, text)?;
+    if count == 0 {
+        return add(tx, kind, name, text);
+    }
+    if count == 1 {
+        Ok(count)
+    } else {
+        Err(Error::SqliteFailure(ErrorCode::DatabaseCorrupt))
     }
 }
 
