@@ -101,14 +101,13 @@ module _ (kind name body : List ℕ) where
       let at : is_at (kind, name) r.0 ≡ true = sym (tests_are kind name (Text body ∷ []) r.0 is) ∙ r.2 in
       let place : (kind, name) ≡ place_in r.0 = same_place (kind, name) (place_in r.0) at in
       let first : kind ≡ is.kind = ap (λ (p : Place). p.0) place ∙ ap bytes is.has_kind in
-      let second : name ≡ is.name = ap (λ (p : Place). p.1) place ∙ ap bytes is.has_name in
-      (
+      let second : name ≡ is.name = ap (λ (p : Place). p.1) place ∙ ap bytes is.has_name in (
         is.id,
         ap (λ (y : Row). cast_row row_table (drop 1 y)) r.3
-        ∙ ap (λ (v : Value). cast_of v (column r.0 1) (column r.0 2)) is.has_id
-        ∙ ap (λ (v : Value). cast_of (Int is.id) v (column r.0 2)) (is.has_kind ∙ ap Text (sym first))
-        ∙ ap (cast_of (Int is.id) (Text kind)) (is.has_name ∙ ap Text (sym second))
-        ∙ ap (λ (v : Value). v ∷ Text kind ∷ Text name ∷ Text body ∷ []) (cast_id is.id),
+            ∙ ap (λ (v : Value). cast_of v (column r.0 1) (column r.0 2)) is.has_id
+            ∙ ap (λ (v : Value). cast_of (Int is.id) v (column r.0 2)) (is.has_kind ∙ ap Text (sym first))
+            ∙ ap (cast_of (Int is.id) (Text kind)) (is.has_name ∙ ap Text (sym second))
+            ∙ ap (λ (v : Value). v ∷ Text kind ∷ Text name ∷ Text body ∷ []) (cast_id is.id),
       )
 
   -- a text that stood is this now, in a row of the same rowid
@@ -157,14 +156,13 @@ module _ (kind name body : List ℕ) where
       split db after count (x ∷ []) answer texts long fresh all =
           let put = put_in (overlay db []) x answer texts in
           let left = renewed_ids (overlay db []) (x ∷ []) answer texts in
-          let row = text_row put.0 kind name body in
-          (
+          let row = text_row put.0 kind name body in (
             λ none. absurd (omega (arith, long, none)),
             λ _. record {
               id = put.0;
               rows = all (put_row row (rest (kind, name) (db 1))) (ap (λ (y : Row). put_row y (without_all (db 1) (ids_of (x ∷ [])))) put.1 ∙ ap (put_row row) left);
               free = subst (λ (l : List Row). is_taken l row ≡ false) left (turned (is_taken (without_all (db 1) (ids_of (x ∷ []))) row) _
-                (subst (λ (y : Row). are_fresh (without_all (db 1) (ids_of (x ∷ []))) (y ∷ []) ≡ true) put.1 fresh));
+                  (subst (λ (y : Row). are_fresh (without_all (db 1) (ids_of (x ∷ []))) (y ∷ []) ≡ true) put.1 fresh));
             },
           )
       split db after count (x ∷ y ∷ more) answer texts long fresh all = (λ none. absurd (omega (arith, long, none)), λ one. absurd (omega (arith, long, one)))
@@ -179,8 +177,7 @@ module _ (kind name body : List ℕ) where
         let rows = old.now.trees 1 in
         let texts = it.whole.are_texts in
         let left = rest (kind, name) rows in
-        let both = updates old new (Ok count) it.schema texts ran.0 in
-        (
+        let both = updates old new (Ok count) it.schema texts ran.0 in (
           λ none.
               let after = both.0 none in
               record {
@@ -197,7 +194,7 @@ module _ (kind name body : List ℕ) where
                 shown = ran.1;
                 tables = still old new after.schema after.listed it after.layout_is (subst AreTexts (sym after.rows_are) (are_put row left (are_rest (kind, name) rows texts) is made.free));
                 holds = same_content old.now.trees new.now.trees after.layout_is _ (ap texts_in after.rows_are ∙ texts_put row left (none_at (kind, name) rows) made.free
-                  ∙ ap (λ (t : Texts). insert t (kind, name) body) (texts_rest (kind, name) rows) ∙ put_back (texts_in rows) (kind, name) body);
+                    ∙ ap (λ (t : Texts). insert t (kind, name) body) (texts_rest (kind, name) rows) ∙ put_back (texts_in rows) (kind, name) body);
               },
         )
     | inr outside ↦ absurd (let e = (ended outside).1 in cc)
