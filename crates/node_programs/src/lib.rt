@@ -4,7 +4,7 @@
 //! ```
 //! let mut input = LineReader::new(reader);
 //! let mut left = None;
-//! let ran = run_play(alloc, seed, &mut input, &mut writer, ListKeeps::new(alloc), false, &mut left);
+//! let ran = run_play(alloc, seed, &mut input, &mut writer, ListKeeps::new(alloc, seed), false, &mut left);
 //! let status = status_after_play(ran);
 //! ```
 //!

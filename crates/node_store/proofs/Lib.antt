@@ -1,6 +1,7 @@
 pub mod Places
 pub mod Placed
 pub mod Numbered
+pub mod Listed
 pub mod KeptRows
 pub mod Written
 pub mod Edited

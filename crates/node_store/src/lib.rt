@@ -2,7 +2,7 @@
 //! hold.
 //!
 //! ```
-//! let mut keep = ListKeep::new(alloc);
+//! let mut keep = ListKeep::new(alloc, seed);
 //! keep.commit(world.changes(), LineNumber::new(number))?;
 //! let Kept { rows, line } = keep.load()?;
 //! ```

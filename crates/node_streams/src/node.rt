@@ -66,7 +66,7 @@ fn run_one_node(
             words,
             watch,
             transcript,
-            ListKeeps::new(rt.alloc()),
+            ListKeeps::new(rt.alloc(), seed),
             besides,
         ),
     }

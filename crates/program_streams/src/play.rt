@@ -102,7 +102,7 @@ fn play_in_memory<W: Write>(
         seed,
         writer,
         watch,
-        ListKeeps::new(rt.alloc()),
+        ListKeeps::new(rt.alloc(), seed),
         "",
         done,
         told,
