@@ -1,15 +1,14 @@
 -- The places at which something is kept, in order.
-use Rattle.std.proofs.Common.{◌≡◌, ◌≢◌, List, [], ◌∷◌, ◌++◌, map, drop, length, ◌<◌, get_or, inl, inr, refl, sym, ap, subst, ◌∙◌}
+use Rattle.std.proofs.Common.{◌≡◌, ◌≢◌, ℕ, true, false, cond, ◌+◌, List, [], ◌∷◌, ◌++◌, map, drop, length, ◌<◌, get_or, inl, inr, refl, sym, ap, subst, ◌∙◌}
 use Rattle.std.specs.Prelude.{Option, Some, None, Contains}
 use Rattle.std.specs.List.{AllPairs}
 use Rattle.std.specs.List.Sorted.{IsPermutation, IsSorted, IsStrictlySortedBy}
-use Rattle.std.specs.Ordering.{is_eq}
 use Rattle.std.specs.declared.cmp.Ordering.{Ordering}
 use Rattle.std.specs.declared.cmp.Ordering.TheVariants.{Less}
 use Rattle.std.specs.Cmp.{IsTotalOrder}
-use Rattle.std.specs.FinMap.{FinMap, entries, get}
-use Rattle.std.specs.Map.{keys_of}
-use Rattle.std.proofs.lemmas.List.Elements.{recursion_from_All, Contains-append_right}
+use Rattle.std.specs.FinMap.{entries, get}
+use Rattle.std.proofs.lemmas.List.{drop_more}
+use Rattle.std.proofs.lemmas.List.Elements.{recursion_from_All}
 use Rattle.std.proofs.lemmas.List.Sorted.{Contains-permutation, IsPermutation-sym}
 use Rattle.std.proofs.lemmas.Map.Keys.{sorted_tail}
 use Rattle.tables.specs.Keys.{text_pair_cmp, text_pair_total, text_pair_exact}
@@ -19,6 +18,7 @@ use Rattle.tables.proofs.Elements.{first_below, first_pairs, in_front, in_later,
 use Rattle.tables.proofs.Entries.{apart_of_less, keys_in_order, listed, listed_only}
 use Rattle.tables.proofs.Listings.{listed_apart}
 use Rattle.node_store.specs.Contents.{Content, RowPlace}
+use Rattle.node_store.specs.Numbers.{is_line_place, others}
 use Rattle.node_store.specs.Placing.{entries_at, entry_before, places_of}
 
 module _ {K : Type 0} {R : K → K → Ordering} (o : IsTotalOrder R) where
@@ -87,3 +87,23 @@ each_at c (e ∷ es) h =
 -- the entries at all places are all entries
 pub at_places : (c : Content) (places : List RowPlace) → places ≡ places_of c → entries_at c places ≡ entries c
 at_places c places are = ap (entries_at c) are ∙ each_at c (entries c) (λ e i. listed_only text_pair_total text_pair_exact c e.0 e.1 i)
+
+-- the place in turn
+module _ (c : Content) (ps : List RowPlace) (i : ℕ) (p : RowPlace) (within : i < length ps) (is : p ≡ get_or ps i p) where
+  next_at : entries_at c (drop i ps) ≡ entry_before p (get c p) (entries_at c (drop (i + 1) ps))
+  next_at = ap (entries_at c) (drop_more ps i p within ∙ ap (λ (q : RowPlace). q ∷ drop (i + 1) ps) (sym is))
+
+  past_line : (o : Option (List ℕ)) (rest : List (RowPlace × List ℕ)) → is_line_place p ≡ true → others (entry_before p o rest) ≡ others rest
+  past_line None rest at = refl
+  past_line (Some t) rest at = ap (λ b. cond b (others rest) ((p, t) ∷ others rest)) at
+
+  pub line_passed : is_line_place p ≡ true → others (entries_at c (drop i ps)) ≡ others (entries_at c (drop (i + 1) ps))
+  line_passed at = ap others next_at ∙ past_line (get c p) (entries_at c (drop (i + 1) ps)) at
+
+  pub none_passed : get c p ≡ None → others (entries_at c (drop i ps)) ≡ others (entries_at c (drop (i + 1) ps))
+  none_passed none = ap others (next_at ∙ ap (λ (o : Option (List ℕ)). entry_before p o (entries_at c (drop (i + 1) ps))) none)
+
+  pub next_row : (t : List ℕ) → is_line_place p ≡ false → get c p ≡ Some t → others (entries_at c (drop i ps)) ≡ (p, t) ∷ others (entries_at c (drop (i + 1) ps))
+  next_row t at some =
+      ap others (next_at ∙ ap (λ (o : Option (List ℕ)). entry_before p o (entries_at c (drop (i + 1) ps))) some)
+      ∙ ap (λ b. cond b (others (entries_at c (drop (i + 1) ps))) ((p, t) ∷ others (entries_at c (drop (i + 1) ps)))) at
