@@ -1,6 +1,6 @@
 -- The places at which something is kept, in order.
-use Rattle.std.proofs.Common.{◌≡◌, ◌≢◌, ℕ, true, false, cond, ◌+◌, List, [], ◌∷◌, ◌++◌, map, drop, length, ◌<◌, get_or, inl, inr, refl, sym, ap, subst, ◌∙◌}
-use Rattle.std.specs.Prelude.{Option, Some, None, Contains}
+use Rattle.std.proofs.Common.{◌≡◌, ◌≢◌, ℕ, false, cond, ◌+◌, List, [], ◌∷◌, ◌++◌, map, drop, length, ◌<◌, get_or, inl, inr, refl, sym, ap, subst, ◌∙◌}
+use Rattle.std.specs.Prelude.{Option, Some, None, Result, Ok, Err, Contains}
 use Rattle.std.specs.List.{AllPairs}
 use Rattle.std.specs.List.Sorted.{IsPermutation, IsSorted, IsStrictlySortedBy}
 use Rattle.std.specs.declared.cmp.Ordering.{Ordering}
@@ -9,6 +9,8 @@ use Rattle.std.specs.Cmp.{IsTotalOrder}
 use Rattle.std.specs.FinMap.{entries, get}
 use Rattle.std.proofs.lemmas.List.{drop_more}
 use Rattle.std.proofs.lemmas.List.Elements.{recursion_from_All}
+use Rattle.std.specs.Result.{IfErr, IsErrAnd}
+use Rattle.std.proofs.lemmas.Result.{err_from_is_err_and}
 use Rattle.std.proofs.lemmas.List.Sorted.{Contains-permutation, IsPermutation-sym}
 use Rattle.std.proofs.lemmas.Map.Keys.{sorted_tail}
 use Rattle.tables.specs.Keys.{text_pair_cmp, text_pair_total, text_pair_exact}
@@ -17,9 +19,14 @@ use Rattle.tables.proofs.DueFront.{rise}
 use Rattle.tables.proofs.Elements.{first_below, first_pairs, in_front, in_later, in_none, in_map, later_pairs, of_cons, of_map}
 use Rattle.tables.proofs.Entries.{apart_of_less, keys_in_order, listed, listed_only}
 use Rattle.tables.proofs.Listings.{listed_apart}
-use Rattle.node_store.specs.Contents.{Content, RowPlace}
+use Rattle.json_text.specs.Fault.{Read}
+use Rattle.ocpi_types.specs.declared.rows.Row.{Row}
+use Rattle.ocpi_json.specs.RowForms.{row_in}
+use Rattle.node_store.specs.Contents.{AnswersRow, Content, RowPlace, after_row, rows_after}
 use Rattle.node_store.specs.Numbers.{is_line_place, others}
 use Rattle.node_store.specs.Placing.{entries_at, entry_before, places_of}
+use Rattle.node_store.specs.declared.fault.StoreFault.{StoreFault}
+use Rattle.node_store.specs.declared.fault.StoreFault.TheVariants.{BadRow}
 
 module _ {K : Type 0} {R : K → K → Ordering} (o : IsTotalOrder R) where
   from_pairs : (ks : List K) → AllPairs (λ a b. R a b ≡ Less) ks → IsStrictlySortedBy R ks
@@ -54,8 +61,8 @@ module _ {K : Type 0} {R : K → K → Ordering} (o : IsTotalOrder R) where
   same_members (x ∷ xs) (y ∷ ys) up down to from =
       let same = same_first x y xs ys up down (to x (in_front x xs)) (from y (in_front y ys)) in
       let rest = same_members xs ys (sorted_tail R x xs up) (sorted_tail R y ys down)
-          (λ k i. in_rest x y k xs ys same up i (to k (in_later x xs k i)))
-          (λ k i. in_rest y x k ys xs (sym same) down i (from k (in_later y ys k i))) in
+      (λ k i. in_rest x y k xs ys same up i (to k (in_later x xs k i)))
+      (λ k i. in_rest y x k ys xs (sym same) down i (from k (in_later y ys k i))) in
       λ i. same i ∷ rest i
 
 module _ (c : Content) (list : List (RowPlace × List ℕ)) (h : IsListing c list) where
@@ -88,22 +95,48 @@ each_at c (e ∷ es) h =
 pub at_places : (c : Content) (places : List RowPlace) → places ≡ places_of c → entries_at c places ≡ entries c
 at_places c places are = ap (entries_at c) are ∙ each_at c (entries c) (λ e i. listed_only text_pair_total text_pair_exact c e.0 e.1 i)
 
--- the place in turn
-module _ (c : Content) (ps : List RowPlace) (i : ℕ) (p : RowPlace) (within : i < length ps) (is : p ≡ get_or ps i p) where
-  next_at : entries_at c (drop i ps) ≡ entry_before p (get c p) (entries_at c (drop (i + 1) ps))
-  next_at = ap (entries_at c) (drop_more ps i p within ∙ ap (λ (q : RowPlace). q ∷ drop (i + 1) ps) (sym is))
+-- ---- the row at a place
 
-  past_line : (o : Option (List ℕ)) (rest : List (RowPlace × List ℕ)) → is_line_place p ≡ true → others (entry_before p o rest) ≡ others rest
-  past_line None rest at = refl
-  past_line (Some t) rest at = ap (λ b. cond b (others rest) ((p, t) ∷ others rest)) at
+bad_read : (read : Read Row) (f : Row → Option (List Row)) → after_row read Some ≡ None → after_row read f ≡ None
+bad_read (Ok r) f h = absurd cc
+bad_read (Err e) f h = refl
 
-  pub line_passed : is_line_place p ≡ true → others (entries_at c (drop i ps)) ≡ others (entries_at c (drop (i + 1) ps))
-  line_passed at = ap others next_at ∙ past_line (get c p) (entries_at c (drop (i + 1) ps)) at
+no_row : (answer : Result Row StoreFault) (fault : StoreFault) (read : Read Row) (f : Row → Option (List Row)) → AnswersRow answer read → answer ≡ Err fault → fault ≡ BadRow → after_row read f ≡ None
+no_row answer fault read f h is bad = bad_read read f (subst (λ (a : Result Row StoreFault). AnswersRow a read) (is ∙ ap Err bad) h)
 
-  pub none_passed : get c p ≡ None → others (entries_at c (drop i ps)) ≡ others (entries_at c (drop (i + 1) ps))
-  none_passed none = ap others (next_at ∙ ap (λ (o : Option (List ℕ)). entry_before p o (entries_at c (drop (i + 1) ps))) none)
+-- what the exit of a `?` returns
+pub err_one : {T : Type 0} (P : StoreFault → Type 0) (r : Result T StoreFault) (fault : StoreFault) → IsErrAnd r (λ e. e ≡ fault) → P fault → IfErr r P
+err_one P r fault is h = let p = err_from_is_err_and r is in rw (p.1, p.2) h
 
-  pub next_row : (t : List ℕ) → is_line_place p ≡ false → get c p ≡ Some t → others (entries_at c (drop i ps)) ≡ (p, t) ∷ others (entries_at c (drop (i + 1) ps))
-  next_row t at some =
-      ap others (next_at ∙ ap (λ (o : Option (List ℕ)). entry_before p o (entries_at c (drop (i + 1) ps))) some)
-      ∙ ap (λ b. cond b (others (entries_at c (drop (i + 1) ps))) ((p, t) ∷ others (entries_at c (drop (i + 1) ps)))) at
+-- at the place in turn, which is not that of the number, a text is kept
+module _ (c : Content) (ps : List RowPlace) (i : ℕ) (p : RowPlace) (within : i < length ps) (is : p ≡ get_or ps i p)
+    (t kind name : List ℕ) (own_kind : kind ≡ p.0) (own_name : name ≡ p.1) (row_place : is_line_place (kind, name) ≡ false) (some : get c p ≡ Some t) where
+  other_place : is_line_place p ≡ false
+  other_place = ap is_line_place (λ j. (sym own_kind j, sym own_name j)) ∙ row_place
+
+  at_place : entries_at c (drop i ps) ≡ (p, t) ∷ entries_at c (drop (i + 1) ps)
+  at_place =
+      ap (entries_at c) (drop_more ps i p within ∙ ap (λ (q : RowPlace). q ∷ drop (i + 1) ps) (sym is))
+      ∙ ap (λ (o : Option (List ℕ)). entry_before p o (entries_at c (drop (i + 1) ps))) some
+
+  next_entry : others (entries_at c (drop i ps)) ≡ (p, t) ∷ others (entries_at c (drop (i + 1) ps))
+  next_entry = ap others at_place ∙ ap (λ b. cond b (others (entries_at c (drop (i + 1) ps))) ((p, t) ∷ others (entries_at c (drop (i + 1) ps)))) other_place
+
+  module _ (rows : List Row) (as_kind as_name text : List ℕ) (is_kind : as_kind ≡ p.0) (is_name : as_name ≡ p.1) (is_text : text ≡ t) where
+    next_read : rows_after rows (others (entries_at c (drop i ps))) ≡ after_row (row_in as_kind as_name text) (λ r. rows_after (rows ++ r ∷ []) (others (entries_at c (drop (i + 1) ps))))
+    next_read =
+        ap (rows_after rows) next_entry
+        ∙ λ j. after_row (row_in (sym is_kind j) (sym is_name j) (sym is_text j)) (λ r. rows_after (rows ++ r ∷ []) (others (entries_at c (drop (i + 1) ps))))
+
+    -- and is read as a row, which is put after those before
+    pub next_row : (r : Row) (now : List Row) (all : Option (List Row)) → row_in as_kind as_name text ≡ Ok r → now ≡ rows ++ r ∷ [] → rows_after rows (others (entries_at c (drop i ps))) ≡ all
+        → rows_after now (others (entries_at c (drop (i + 1) ps))) ≡ all
+    next_row r now all read grown so_far =
+        ap (λ (rs : List Row). rows_after rs (others (entries_at c (drop (i + 1) ps)))) grown
+        ∙ sym (ap (λ (x : Read Row). after_row x (λ q. rows_after (rows ++ q ∷ []) (others (entries_at c (drop (i + 1) ps))))) read) ∙ sym next_read ∙ so_far
+
+    -- or as none
+    pub none_there : (answer : Result Row StoreFault) (fault : StoreFault) (all : Option (List Row)) → AnswersRow answer (row_in as_kind as_name text) → answer ≡ Err fault → rows_after rows (others (entries_at c (drop i ps))) ≡ all
+        → fault ≡ BadRow → all ≡ None
+    none_there answer fault all answers failed so_far bad =
+        sym so_far ∙ next_read ∙ no_row answer fault (row_in as_kind as_name text) (λ r. rows_after (rows ++ r ∷ []) (others (entries_at c (drop (i + 1) ps)))) answers failed bad

@@ -1,6 +1,5 @@
 use Rattle.std.proofs.Common.{◌≡◌, map, ap, ◌∙◌}
 use Rattle.tables.proofs.Elements.{none_left}
-use Rattle.node_store.specs.Contents.{RowPlace}
 use Rattle.node_store.specs.Placing.{kept}
 use Rattle.node_store.proofs.Listed.{sorted_places}
 use Rattle.node_store.proofs.list_keep.places_of.Goals as goal
