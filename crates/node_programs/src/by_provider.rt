@@ -30,21 +30,21 @@ type Debt = (PartyKey, (PartyKey, Currency));
 /// A sum for each debt, in ten-thousandths of the currency.
 type Debts = Table<Debt, i128>;
 
-/// The sum of a debt, 0 where there is none.
-fn debt_in(debts: &Debts, debt: Debt) -> i128
-    ensures { result ≡ debt_at (shown_of debt_cmp debts.now) debt }
-{
-    match debts.get(debt) {
-        Some(sum) => *sum,
-        None => 0,
-    }
-}
-
 /// Whose token a record is of, and to whom it is owed in which currency.
 fn debt_of(cdr: &Cdr) -> Debt
     ensures { result ≡ debt_of cdr.now }
 {
     (cdr.cdr_token.party.key(), (cdr.party.key(), cdr.currency))
+}
+
+/// The sum of the debt that a record is of, 0 where there is none yet.
+fn sum_so_far(debts: &Debts, cdr: &Cdr) -> i128
+    ensures { result ≡ debt_at (shown_of debt_cmp debts.now) (debt_of cdr.now) }
+{
+    match debts.get(debt_of(cdr)) {
+        Some(sum) => *sum,
+        None => 0,
+    }
 }
 
 /// The cost of a record, in ten-thousandths. It may be negative, as that of a credit is.
@@ -70,9 +70,8 @@ fn debts_by(alloc: Global, cdrs: &[Boxed<Cdr>]) -> Result<Debts, AllocError>
     let mut debts = Table::new(alloc);
     for cdr in cdrs {
         let seen = &**cdr;
-        let debt = debt_of(seen);
-        let sum = debt_in(&debts, debt) + i128::from(cost_of(seen));
-        debts.insert(debt, sum)?;
+        let sum = sum_so_far(&debts, seen) + i128::from(cost_of(seen));
+        debts.insert(debt_of(seen), sum)?;
     }
     Ok(debts)
 }

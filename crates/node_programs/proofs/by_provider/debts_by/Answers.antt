@@ -2,6 +2,7 @@ use Rattle.std.proofs.Common.{refl, subst, ◌^◌, arith}
 use Rattle.std.specs.Prelude.{◌<◌, unsigned_abs}
 use Rattle.std.proofs.lemmas.Option.{slice_get_read}
 use Rattle.node_programs.proofs.Owing.{owed_start, small_start, owing_more, cost_sum}
+use Rattle.node_programs.specs.ByProvider.{debt_of}
 use Rattle.ocpi_text.specs.Decimal.{e4_limit}
 use Rattle.node_programs.proofs.by_provider.debts_by.Goals as goal
 
@@ -15,8 +16,9 @@ loop-cdr-preserved c =
     let counted = c.number_of-count.ensures in
     let few = c.number_of-count.type_inv in
     let count : c.loop-cdr.cdr-index < 2 ^ 64 = omega arith in
-    owing_more c.args.cdrs.now c.loop-cdr.cdr-index c.cdr-item.result _ _ c.debt_of-debt.result _
+    let of = rw c.deref-seen.ensures at c.debt_of.ensures in
+    owing_more c.args.cdrs.now c.loop-cdr.cdr-index c.cdr-item.result _ _ (debt_of c.cdr-item.result) _
     (slice_get_read _ _ c.loop-cdr.cdr-index c.cdr-item.result refl c.loop-cdr-test.true c.cdr-item.is)
-    (rw c.deref-seen.ensures at c.debt_of-debt.ensures)
-    (cost_sum _ c.debt_in.result _ c.from.result c.cost_of.result c.loop-cdr.cdr-index c.debt_in.ensures c.from.ensures (rw c.deref-seen.ensures at c.cost_of.ensures.value) small (c.loop-cdr.invariant.1 c.debt_of-debt.result) count)
-    small c.in_ok-insert.ensures.shown c.loop-cdr.invariant.0 c.loop-cdr.invariant.1
+    refl
+    (cost_sum _ c.sum_so_far.result _ c.from.result c.cost_of.result c.loop-cdr.cdr-index (rw c.deref-seen.ensures at c.sum_so_far.ensures) c.from.ensures (rw c.deref-seen.ensures at c.cost_of.ensures.value) small (c.loop-cdr.invariant.1 (debt_of c.cdr-item.result)) count)
+    small (rw of at c.in_ok-insert.ensures.shown) c.loop-cdr.invariant.0 c.loop-cdr.invariant.1
