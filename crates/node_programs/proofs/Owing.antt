@@ -11,7 +11,7 @@ use Rattle.std.specs.Ordering.{eq_by_cmp, is_eq, ordering_then}
 use Rattle.std.specs.Prelude.{◌&&◌, ◌||◌, ℤ, pos, ◌+ℤ◌, unsigned_abs, Some, None, unwrap_or, slice_get, take}
 use Rattle.std.specs.declared.cmp.Ordering.{Ordering}
 use Rattle.std.specs.declared.cmp.Ordering.TheVariants.{Less, Equal, Greater}
-use Rattle.handover.specs.Owed.{Account, account_of, cost_in, is_account, is_among, owed, total}
+use Rattle.handover.specs.Owed.{Account, account_of, cost_in, is_account, is_among, owed}
 use Rattle.node_programs.specs.ByProvider.{AreOwedBy, Debt, debt_at, debt_cmp, debt_of, is_of, records_of}
 use Rattle.ocpi_text.specs.Decimal.{e4_limit}
 use Rattle.ocpi_types.specs.declared.cdrs.Cdr.{Cdr}
