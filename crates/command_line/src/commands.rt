@@ -1,7 +1,7 @@
 //! The commands of the program, as clap takes them.
 
 use crate::help;
-use clap::{Arg, ArgAction, Command, Error};
+use clap::{Arg, ArgAction, Command, Error, value_parser};
 use std::alloc::Global;
 
 /// The program with its commands.
@@ -68,9 +68,18 @@ fn play<'a>(alloc: Global) -> Result<Command<'a>, Error> {
     let command = Command::new(alloc, "play")
         .about("Apply the events of standard input at the operators and providers of a setup")
         .after_help(help::PLAY);
+    let command = with_arg(command, setup(alloc))?;
     let command = with_arg(command, folder(alloc))?;
     let command = with_arg(command, done(alloc))?;
     with_telling(alloc, command)
+}
+
+/// The file of the setup of `play` or `node`.
+fn setup<'a>(alloc: Global) -> Arg<'a> {
+    Arg::new(alloc, "setup")
+        .long("setup")
+        .value_name("FILE")
+        .help("Read the setup from this file, over several lines; standard input has events alone")
 }
 
 /// The folder of the stores of `play`.
@@ -93,6 +102,8 @@ fn node<'a>(alloc: Global) -> Result<Command<'a>, Error> {
         .about("Apply the events of standard input at one node of a setup")
         .after_help(help::NODE);
     let command = with_arg(command, party(alloc))?;
+    let command = with_arg(command, setup(alloc))?;
+    let command = with_made(command, line(alloc))?;
     let command = with_arg(command, store(alloc))?;
     let command = with_made(command, existing(alloc))?;
     let command = with_arg(command, echo(alloc))?;
@@ -105,6 +116,16 @@ fn party<'a>(alloc: Global) -> Arg<'a> {
         .value_name("PARTY")
         .required(true)
         .help("The node's party, as BE/BEC")
+}
+
+/// Goes with `setup` alone.
+fn line<'a>(alloc: Global) -> Result<Arg<'a>, Error> {
+    let arg = Arg::new(alloc, "line")
+        .long("line")
+        .value_name("N")
+        .value_parser(value_parser!(u64))
+        .help("Give the setup the member `line`: the number of the last line whose `done` was seen");
+    Ok(arg.requires_arg("setup")?)
 }
 
 /// The store of `node`.
