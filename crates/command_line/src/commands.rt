@@ -79,7 +79,7 @@ fn setup<'a>(alloc: Global) -> Arg<'a> {
     Arg::new(alloc, "setup")
         .long("setup")
         .value_name("FILE")
-        .help("Read the setup from this file, over several lines; standard input has events alone")
+        .help("Read the setup from this file; standard input has the lines after it")
 }
 
 /// The folder of the stores of `play`.
@@ -124,7 +124,7 @@ fn line<'a>(alloc: Global) -> Result<Arg<'a>, Error> {
         .long("line")
         .value_name("N")
         .value_parser(value_parser!(u64))
-        .help("Give the setup the member `line`: the number of the last line whose `done` was seen");
+        .help("The setup's member `line`: the number of the last line whose `done` you saw");
     Ok(arg.requires_arg("setup")?)
 }
 

@@ -1,9 +1,8 @@
 -- The setup of a run, read from its file.
-use Rattle.std.proofs.Common.{◌≡◌, ◌<◌, ◌≤◌, ◌+◌, ◌++◌, ℕ, List, [], Result, Ok, Err, IfOk, Option, None, Some, IfSome, length, take, ap, subst, ◌∙◌, arith, take_all}
+use Rattle.std.proofs.Common.{◌≡◌, ◌<◌, ◌≤◌, ◌+◌, ◌++◌, ℕ, List, [], Result, Ok, Err, IfOk, Option, None, Some, IfSome, length, option_map, take, ap, subst, ◌∙◌, arith, take_all}
 use Rattle.std.proofs.lemmas.List.{length-take}
 use Rattle.std.specs.Io.Take.{take_remaining}
 use Rattle.std.specs.declared.io.traits.Take.{Take}
-use Rattle.core.specs.Option.{option_map}
 
 -- all that a known reader gives, up to a limit
 part_of : (known : Option (List ℕ)) (n : ℕ) (old new : List ℕ) → old ≡ [] → IfSome (option_map (take n) known) (λ xs. new ≡ old ++ xs)

@@ -192,8 +192,8 @@ pub fn words_for_unread(kind: ErrorKind) -> &'static str {
 pub(crate) fn words_for_setup(fault: SetupFault) -> &'static str {
     match fault {
         SetupFault::Unread(kind) => words_for_unread_setup(kind),
-        SetupFault::Empty => "it is empty: name the file of a setup, which is a JSON object",
         SetupFault::TooLong => "it has more than 1048576 bytes: name the file of a setup",
+        SetupFault::NoObject => "it does not begin with {: name the file of a setup, a JSON object",
     }
 }
 

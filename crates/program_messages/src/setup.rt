@@ -1,8 +1,8 @@
 //! The setup of a run is read from its file.
 
-ghost use Rattle.std.specs.Prelude.{◌≡◌, ◌≢◌, ◌<◌, ◌≤◌, ◌++◌, ◌+◌, ◌∷◌, [], Err, None, Some, IfOk, IfSome, IsOkAnd, OnOk, length, map, take};
+ghost use Rattle.std.specs.Prelude.{◌≡◌, ◌<◌, ◌≤◌, ◌++◌, ◌+◌, ◌∷◌, [], Err, None, IfOk, IfSome, IsOkAnd, OnOk, false, length, map, take, true};
 ghost use Rattle.std.specs.Io.BufRead.{strip_last};
-ghost use Rattle.program_messages.specs.SetupFiles.{in_line, line_member, line_of, numbered, with_member, without_end};
+ghost use Rattle.program_messages.specs.SetupFiles.{begins_object, in_line, line_member, line_of, numbered};
 
 use std::alloc::{AllocError, Global};
 use std::fs::File;
@@ -16,10 +16,10 @@ pub const SETUP_BYTES: usize = 1_048_576;
 pub enum SetupFault {
     /// It was not read.
     Unread(ErrorKind),
-    /// It has nothing but the end of a line.
-    Empty,
     /// It has more than `SETUP_BYTES` bytes.
     TooLong,
+    /// Its first byte is no brace that opens an object, or it has none.
+    NoObject,
 }
 
 /// The line that the file at a path makes, with that number as its member `line`, where one is given, and its line
@@ -41,17 +41,17 @@ pub fn read_setup(
 }
 
 /// The line that the text of a file makes, with its line feed: each end of a line within it becomes a space. A text of
-/// JSON has none in its strings, so the line spells the same value. Where a number is given, that is the member `line`
-/// of the first object, before its others.
+/// JSON has none in its strings, so the line spells the same value. Where a number is given, that is the first member of
+/// the object, as `line`.
 pub fn setup_line<R: Read + Drop>(
     alloc: Global,
     file: R,
     number: Option<u64>,
 ) -> Result<Vec<u8>, SetupFault>
     ensures line { IfOk result (λ line. IfSome (R.remaining file) (λ text. line.items ≡ line_of number text)) }
-    ensures bounds { IfOk result (λ line. IfSome (R.remaining file) (λ text. (without_end text ≢ []) × (length text ≤ SETUP_BYTES))) }
-    ensures empty { result ≡ Err SetupFault.Empty → IfSome (R.remaining file) (λ text. without_end text ≡ []) }
+    ensures bounds { IfOk result (λ line. IfSome (R.remaining file) (λ text. (begins_object text ≡ true) × (length text ≤ SETUP_BYTES))) }
     ensures long { result ≡ Err SetupFault.TooLong → IfSome (R.remaining file) (λ text. SETUP_BYTES < length text) }
+    ensures other { result ≡ Err SetupFault.NoObject → IfSome (R.remaining file) (λ text. begins_object text ≡ false) }
 {
     match read_at_most(alloc, file) {
         Ok(text) => line_of(alloc, text.as_slice(), number),
@@ -76,21 +76,28 @@ fn read_at_most<R: Read + Drop>(alloc: Global, file: R) -> Result<Vec<u8>, Error
 /// The line of a text.
 fn line_of(alloc: Global, text: &[u8], number: Option<u64>) -> Result<Vec<u8>, SetupFault>
     ensures line { IfOk result (λ line. line.items ≡ line_of number text.now) }
-    ensures bounds { IfOk result (λ line. (without_end text.now ≢ []) × (length text.now ≤ SETUP_BYTES)) }
-    ensures empty { result ≡ Err SetupFault.Empty → (without_end text.now ≡ []) × (length text.now ≤ SETUP_BYTES) }
+    ensures bounds { IfOk result (λ line. (begins_object text.now ≡ true) × (length text.now ≤ SETUP_BYTES)) }
     ensures long { result ≡ Err SetupFault.TooLong → SETUP_BYTES < length text.now }
+    ensures other { result ≡ Err SetupFault.NoObject → (begins_object text.now ≡ false) × (length text.now ≤ SETUP_BYTES) }
 {
     if text.len() > SETUP_BYTES {
         return Err(SetupFault::TooLong);
     }
-    let kept = without_last(without_last(text, b'\n'), b'\r');
-    if kept.is_empty() {
-        return Err(SetupFault::Empty);
+    if !begins_object(text) {
+        return Err(SetupFault::NoObject);
     }
+    let kept = without_last(without_last(text, b'\n'), b'\r');
     match in_one_line(alloc, kept, number) {
         Ok(line) => Ok(line),
         Err(_) => Err(SetupFault::Unread(ErrorKind::OutOfMemory)),
     }
+}
+
+/// Whether the first byte is a brace that opens an object.
+fn begins_object(text: &[u8]) -> bool
+    ensures { result ≡ begins_object text.now }
+{
+    text.first() == Some(&b'{')
 }
 
 /// The text without its last byte, where that is `byte`.
@@ -107,41 +114,30 @@ fn without_last(text: &[u8], byte: u8) -> &[u8]
 fn in_one_line(alloc: Global, text: &[u8], number: Option<u64>) -> Result<Vec<u8>, AllocError>
     ensures { IfOk result (λ line. line.items ≡ numbered number text.now ++ (10 ∷ [])) }
 {
+    let first = text.len().min(1);
     let mut line = Vec::new(alloc);
-    match number {
-        None => push_in_line(text, &mut line)?,
-        Some(number) => push_numbered(alloc, text, number, &mut line)?,
-    }
+    push_in_line(&text[..first], &mut line)?;
+    push_member(alloc, number, &mut line)?;
+    push_in_line(&text[first..], &mut line)?;
     line.push(b'\n')?;
     Ok(line)
 }
 
-/// Adds the text as one line, with the member `line` of that number after its first brace.
-fn push_numbered(
+/// Adds the member `line`, where its number is given.
+fn push_member(
     alloc: Global,
-    text: &[u8],
-    number: u64,
+    number: Option<u64>,
     line: &mut Vec<u8>,
 ) -> Result<(), AllocError>
-    ensures { OnOk result (line.new.items ≡ line.old.items ++ with_member (line_member number) text.now) }
+    ensures { OnOk result (line.new.items ≡ line.old.items ++ line_member number) }
 {
-    let member = format!(in alloc; "\"line\":{number},")?;
-    push_with_member(text, member.as_bytes(), line)
-}
-
-/// Adds the text as one line, with a member after its first brace.
-fn push_with_member(text: &[u8], member: &[u8], line: &mut Vec<u8>) -> Result<(), AllocError>
-    ensures { OnOk result (line.new.items ≡ line.old.items ++ with_member member.now text.now) }
-{
-    let mut is_in = false;
-    for byte in text {
-        line.push(in_line(*byte))?;
-        if !is_in && *byte == b'{' {
-            line.extend_from_slice(member)?;
-            is_in = true;
+    match number {
+        None => Ok(()),
+        Some(number) => {
+            let member = format!(in alloc; "\"line\":{number},")?;
+            line.extend_from_slice(member.as_bytes())
         }
     }
-    Ok(())
 }
 
 /// Adds the text with spaces in place of the ends of its lines.

@@ -1,5 +1,5 @@
-use Rattle.std.proofs.Common.{◌≡◌, ◌≢◌, ◌≤◌, [], length}
-use Rattle.program_messages.specs.SetupFiles.{line_of, without_end}
+use Rattle.std.proofs.Common.{◌≡◌, ◌≤◌, false, length, true}
+use Rattle.program_messages.specs.SetupFiles.{begins_object, line_of}
 use Rattle.program_messages.specs.declared.setup.TheConstants.{SETUP_BYTES}
 use Rattle.program_messages.proofs.SetupLemmas.{longer_text, of_result, of_text}
 use Rattle.program_messages.proofs.setup.setup_line.Goals as goal
@@ -10,13 +10,13 @@ returns-in-Ok-clause-line g c =
 
 pub returns-in-Ok-clause-bounds : goal.returns-in-Ok-clause-bounds
 returns-in-Ok-clause-bounds g c =
-    of_result (λ line text. (without_end text ≢ []) × (length text ≤ SETUP_BYTES)) SETUP_BYTES _ _ c.line_of.result c.in-Ok.ensures c.line_of.ensures.bounds
+    of_result (λ line text. (begins_object text ≡ true) × (length text ≤ SETUP_BYTES)) SETUP_BYTES _ _ c.line_of.result c.in-Ok.ensures c.line_of.ensures.bounds
       c.line_of.ensures.bounds
-
-pub returns-in-Ok-clause-empty : goal.returns-in-Ok-clause-empty
-returns-in-Ok-clause-empty g c = λ refused.
-    let is = c.line_of.ensures.empty refused in
-    of_text (λ text. without_end text ≡ []) SETUP_BYTES _ _ c.in-Ok.ensures is.1 is.0
 
 pub returns-in-Ok-clause-long : goal.returns-in-Ok-clause-long
 returns-in-Ok-clause-long g c = λ refused. longer_text SETUP_BYTES _ _ c.in-Ok.ensures (c.line_of.ensures.long refused)
+
+pub returns-in-Ok-clause-other : goal.returns-in-Ok-clause-other
+returns-in-Ok-clause-other g c = λ refused.
+    let is = c.line_of.ensures.other refused in
+    of_text (λ text. begins_object text ≡ false) SETUP_BYTES _ _ c.in-Ok.ensures is.1 is.0
