@@ -36,8 +36,14 @@ longer_text n (Some text) read e long =
     let part = ap length e ∙ length-take (n + 1) text in
     omega (arith, part, long)
 
+-- the same, of what is shown of what was read
+pub shown_text : (n : ℕ) (known : Option (List ℕ)) (read shown : List ℕ) → shown ≡ read → IfSome known (λ text. read ≡ take (n + 1) text)
+    → IfSome known (λ text. shown ≡ take (n + 1) text)
+shown_text n None read shown is e = tt
+shown_text n (Some text) read shown is e = is ∙ e
+
 -- what a result says of what was read, which is short, it says of the text
-pub of_result : {V E A : Type 0} (P : V → List ℕ → Type 0) (n : ℕ) (known : Option (List ℕ)) (read : List ℕ) (r : Result V E)
+pub of_result : {V E : Type 0} (A : Type 0) (P : V → List ℕ → Type 0) (n : ℕ) (known : Option (List ℕ)) (read : List ℕ) (r : Result V E)
     → IfSome known (λ text. read ≡ take (n + 1) text) → IfOk r (λ v. A × (length read ≤ n)) → IfOk r (λ v. P v read) → IfOk r (λ v. IfSome known (P v))
-of_result P n known read (Ok v) e short p = of_text (P v) n known read e short.1 p
-of_result P n known read (Err f) e short p = tt
+of_result A P n known read (Ok v) e short p = of_text (P v) n known read e short.1 p
+of_result A P n known read (Err f) e short p = tt
