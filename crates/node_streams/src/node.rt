@@ -28,12 +28,7 @@ pub fn run_node_word(rt: &HostRuntime, seed: HashSeed, words: &NodeWords<'_>) ->
 
 /// Runs one node behind the line of its setup, if that was read from a file, says what stopped it, and answers the exit
 /// status.
-fn run_behind_setup(
-    rt: &HostRuntime,
-    seed: HashSeed,
-    words: &NodeWords<'_>,
-    setup: &[u8],
-) -> u8 {
+fn run_behind_setup(rt: &HostRuntime, seed: HashSeed, words: &NodeWords<'_>, setup: &[u8]) -> u8 {
     match words.transcript {
         None => run_and_report(rt, seed, words, setup, None),
         Some(path) => match open_transcript(rt, path, words.store) {

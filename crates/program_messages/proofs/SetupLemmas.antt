@@ -15,7 +15,7 @@ pub read_part : {R : Type 0} (remaining : R → Option (List ℕ)) (t : Take R) 
 read_part remaining t n file old new limit inner none all =
     let part = part_of (remaining t.inner) t.limit old new none all in
     subst (λ r. IfSome (remaining r) (λ text. new ≡ take n text)) inner
-      (subst (λ k. IfSome (remaining t.inner) (λ text. new ≡ take k text)) limit part)
+    (subst (λ k. IfSome (remaining t.inner) (λ text. new ≡ take k text)) limit part)
 
 -- a known text is what was read of it, where more would have been read of a longer one
 whole_text : (n : ℕ) (text read : List ℕ) → read ≡ take (n + 1) text → length read ≤ n → read ≡ text

@@ -124,11 +124,7 @@ fn in_one_line(alloc: Global, text: &[u8], number: Option<u64>) -> Result<Vec<u8
 }
 
 /// Adds the member `line`, where its number is given.
-fn push_member(
-    alloc: Global,
-    number: Option<u64>,
-    line: &mut Vec<u8>,
-) -> Result<(), AllocError>
+fn push_member(alloc: Global, number: Option<u64>, line: &mut Vec<u8>) -> Result<(), AllocError>
     ensures { OnOk result (line.new.items ≡ line.old.items ++ line_member number) }
 {
     match number {

@@ -8,8 +8,7 @@ pub const BUFFER_BYTES: usize = 65_536;
 /// Says what a command waits for, where a person is to type it.
 pub fn tell_wait(rt: &HostRuntime, command: &str, wanted: &str) {
     if rt.stdin().is_terminal() {
-        let _ = eprintln!(
-            rt;
+        let _ = eprintln!(rt;
             "ocpi_nodes: waiting for lines of JSON on standard input: {wanted}. `ocpi_nodes help {command}` says more"
         );
     }

@@ -25,12 +25,7 @@ pub fn run_play_word(rt: &HostRuntime, seed: HashSeed, words: &PlayWords<'_>) ->
 
 /// Runs `play` behind the line of its setup, if that was read from a file, says what stopped it, and answers the exit
 /// status.
-fn play_behind_setup(
-    rt: &HostRuntime,
-    seed: HashSeed,
-    words: &PlayWords<'_>,
-    setup: &[u8],
-) -> u8 {
+fn play_behind_setup(rt: &HostRuntime, seed: HashSeed, words: &PlayWords<'_>, setup: &[u8]) -> u8 {
     let telling = words.telling;
     let mut told = Told::new(rt.alloc());
     let lines = lines_of(rt, Program::Play, telling, false);

@@ -11,7 +11,7 @@ returns-in-Ok-clause-line g c =
     let known = g.R.Read.remaining c.args.file in
     let read = shown_text SETUP_BYTES known c.in-Ok.text.items shown is c.in-Ok.ensures in
     of_result (begins_object shown ≡ true) (λ line text. line.items ≡ line_of c.args.number text) SETUP_BYTES known shown c.line_of.result read
-      c.line_of.ensures.bounds c.line_of.ensures.line
+    c.line_of.ensures.bounds c.line_of.ensures.line
 
 pub returns-in-Ok-clause-bounds : goal.returns-in-Ok-clause-bounds
 returns-in-Ok-clause-bounds g c =
@@ -20,7 +20,7 @@ returns-in-Ok-clause-bounds g c =
     let known = g.R.Read.remaining c.args.file in
     let read = shown_text SETUP_BYTES known c.in-Ok.text.items shown is c.in-Ok.ensures in
     of_result (begins_object shown ≡ true) (λ line text. (begins_object text ≡ true) × (length text ≤ SETUP_BYTES)) SETUP_BYTES known shown
-      c.line_of.result read c.line_of.ensures.bounds c.line_of.ensures.bounds
+    c.line_of.result read c.line_of.ensures.bounds c.line_of.ensures.bounds
 
 pub returns-in-Ok-clause-long : goal.returns-in-Ok-clause-long
 returns-in-Ok-clause-long g c = λ refused.
