@@ -29,7 +29,7 @@ pub fn read_setup(
     path: Option<&str>,
     number: Option<u64>,
 ) -> Result<Vec<u8>, SetupFault>
-    ensures none { path ≡ None → IsOkAnd result (λ line. line.items ≡ []) }
+    ensures none { path.entry ≡ None → IsOkAnd result (λ line. line.items ≡ []) }
 {
     match path {
         None => Ok(Vec::new(rt.alloc())),
