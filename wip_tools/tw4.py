@@ -5,7 +5,7 @@ me, todo = sys.argv[1], sys.argv[2:]
 sys.path.insert(0, "/work/net/tools")
 def load(path, name):
     l = importlib.machinery.SourceFileLoader(name, path); m = importlib.util.module_from_spec(importlib.util.spec_from_loader(name, l)); l.exec_module(m); return m
-tool = load("/work/net/tools/try_wrong", "try_wrong")
+tool = load("/work/net/tools/part_wrong", "try_wrong")
 tool.TOP = "/work/net"
 def proved():
     return set(todo) if not os.environ.get("WAITS") else proved_by()
@@ -35,7 +35,7 @@ while todo:
                 if f.endswith(".edit") or f == "tried.sum": os.remove(f"{w}/{f}")
     os.makedirs(f"{room}/crates/{c}/wrong", exist_ok=True)
     for e in edits: shutil.copy2(e, f"{room}/crates/{c}/wrong/")
-    r = subprocess.run(["python3", "tools/try_wrong", "--lanes", "1", c], cwd=room, capture_output=True, text=True, errors="replace")
+    r = subprocess.run(["python3", "tools/part_wrong", "--lanes", "1", c], cwd=room, capture_output=True, text=True, errors="replace")
     open(f"/work/twlog.{c}.log", "w").write(r.stdout + r.stderr)
     print(c, r.stdout.strip().split("\n")[-1], r.returncode, time.strftime("%H:%M:%S"), flush=True)
     got = tool.tried_of(f"{room}/crates/{c}")
