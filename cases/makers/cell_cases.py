@@ -4,6 +4,8 @@ a desk, and receipts.
 The events are those of the charge of `kept_cases` at each of its two nodes: each is entered, also where it changes nothing. An
 event that is refused is not. A history takes 100,000 entries.
 """
+import json
+
 from kept_cases import PARTIES, REFUSED, SETUP, events_of
 from operator_case import moment, text
 
@@ -52,6 +54,14 @@ def what_changes_nothing():
          "refused 5 UnknownOperator")
     line(text({"event": "tick", "node": "NL/TNM", "at": at}), "entry 2")
     line("audit", "audited 3")
+
+
+def held():
+    """The lines of README: the first node of the setup, an event for which it sends something, one that it refuses, none."""
+    first = json.loads(SETUP)["nodes"][0]["party"]
+    given, gives, _ = events_of(first)[0]
+    line("hold " + SETUP + "\t" + given, *gives[:-1])
+    line("hold " + SETUP, "none")
 
 
 def desk_of_two_passes():
@@ -132,6 +142,7 @@ def cases():
     for party in PARTIES:
         charge(party)
     what_changes_nothing()
+    held()
     desk_of_two_passes()
     for party in PARTIES:
         charge_behind_a_desk(party)

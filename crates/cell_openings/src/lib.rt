@@ -33,7 +33,7 @@ pub fn open_cell(
     ensures opened { IfOk result (IsOpenedAs nodes.now member.now) }
 {
     let seed = HashSeed::fixed();
-    match NodeCell::open(alloc, seed, nodes, member, ListKeep::new(alloc)) {
+    match NodeCell::open(alloc, seed, nodes, member, ListKeep::new(alloc, seed)) {
         Ok(cell) => Ok(cell),
         Err(_) => Err(AllocError),
     }

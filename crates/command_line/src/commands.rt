@@ -1,7 +1,7 @@
 //! The commands of the program, as clap takes them.
 
 use crate::help;
-use clap::{Arg, ArgAction, Command, Error};
+use clap::{Arg, ArgAction, Command, Error, value_parser};
 use std::alloc::Global;
 
 /// The program with its commands.
@@ -68,9 +68,18 @@ fn play<'a>(alloc: Global) -> Result<Command<'a>, Error> {
     let command = Command::new(alloc, "play")
         .about("Apply the events of standard input at the operators and providers of a setup")
         .after_help(help::PLAY);
+    let command = with_arg(command, setup(alloc))?;
     let command = with_arg(command, folder(alloc))?;
     let command = with_arg(command, done(alloc))?;
     with_telling(alloc, command)
+}
+
+/// The file of the setup of `play` or `node`.
+fn setup<'a>(alloc: Global) -> Arg<'a> {
+    Arg::new(alloc, "setup")
+        .long("setup")
+        .value_name("FILE")
+        .help("Read the setup from this file; standard input has the lines after it")
 }
 
 /// The folder of the stores of `play`.
@@ -93,6 +102,8 @@ fn node<'a>(alloc: Global) -> Result<Command<'a>, Error> {
         .about("Apply the events of standard input at one node of a setup")
         .after_help(help::NODE);
     let command = with_arg(command, party(alloc))?;
+    let command = with_arg(command, setup(alloc))?;
+    let command = with_made(command, line(alloc))?;
     let command = with_arg(command, store(alloc))?;
     let command = with_made(command, existing(alloc))?;
     let command = with_arg(command, echo(alloc))?;
@@ -105,6 +116,16 @@ fn party<'a>(alloc: Global) -> Arg<'a> {
         .value_name("PARTY")
         .required(true)
         .help("The node's party, as BE/BEC")
+}
+
+/// Goes with `setup` alone.
+fn line<'a>(alloc: Global) -> Result<Arg<'a>, Error> {
+    let arg = Arg::new(alloc, "line")
+        .long("line")
+        .value_name("N")
+        .value_parser(value_parser!(u64))
+        .help("The setup's member `line`: the number of the last line whose `done` you saw");
+    Ok(arg.requires_arg("setup")?)
 }
 
 /// The store of `node`.
@@ -155,7 +176,15 @@ fn settle<'a>(alloc: Global) -> Result<Command<'a>, Error> {
     let command = Command::new(alloc, "settle")
         .about("Print what is owed by the charge detail records of a store")
         .after_help(help::SETTLE);
+    let command = with_arg(command, by_provider(alloc))?;
     with_arg(command, file(alloc))
+}
+
+fn by_provider<'a>(alloc: Global) -> Arg<'a> {
+    Arg::new(alloc, "by-provider")
+        .long("by-provider")
+        .action(ArgAction::SetTrue)
+        .help("Print what each provider owes each operator, by the records of its tokens")
 }
 
 /// The store of `settle`.

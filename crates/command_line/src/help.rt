@@ -52,6 +52,8 @@ pub const PLAY: &str =
     r#"Input, on standard input: lines of JSON; docs/PROTOCOL.md has their forms, under "JSON".
   The first is the setup: the nodes, each of a party, and with a site where it is an operator.
   Each other line is an event at one of them.
+  With --setup FILE the setup is the whole text of FILE, in which it may have several lines; it is
+  taken as one line, line 1, and standard input has the others.
   A line has at most 1048576 bytes, and ends with a line feed, or a carriage return and a line feed;
   the last may lack its end. Empty lines are skipped. At most 1000000000 lines are read.
 
@@ -83,7 +85,7 @@ Exit status:
   2  the command line is wrong
   3  a store refused: standard error has `store: N Name`, and then which file, why, and what to do.
      That ends the run, and nothing of that line is printed; where it could not be closed at the
-     end, all is printed
+     end, all is printed. Or FILE gave no setup: `setup: 1 Refused`, and nothing else is read
 
 Examples, in the folder of the repository:
   ./ocpi_nodes play < examples/play/charge/in.jsonl
@@ -94,6 +96,8 @@ pub const NODE: &str =
     r#"Input, on standard input: lines of JSON; docs/PROTOCOL.md has their forms, under "JSON".
   The first is the setup, as of `play`. PARTY is one of its parties, in any case. It may have a
   member `line`, the number of the last line whose `done` you have seen, 1 at first.
+  With --setup FILE the setup is the whole text of FILE, in which it may have several lines; it is
+  taken as one line, line 1, and standard input has the others. --line N is its member `line` then.
   Each other line is an event, as of `play`, but a delivery has the packet itself:
   {"at":"2025-01-01T10:00:00Z","event":"deliver","node":"BE/BEC","packet":{..}}
   Or it is an array of at most 256 such events, which are applied in turn and committed together.
@@ -145,8 +149,8 @@ Exit status:
   3  the store refused, or no such node has just the rows: standard error has `store: N Name`, and
      then which file or row, why, and what to do. Or memory ran out: `memory: 4 Memory`. That ends
      the run, and nothing of that line is printed but its echo; where the store could not be closed
-     at the end, all is printed. Or the transcript was not opened: `transcript: 1 Refused`, and
-     nothing is read
+     at the end, all is printed. Or FILE gave no setup, or the transcript was not opened: `setup: 1
+     Refused` or `transcript: 1 Refused`, and nothing else is read
 
 Examples, in the folder of the repository:
   ./ocpi_nodes node BE/BEC --store be.db < examples/node/operators_day/in.jsonl
@@ -159,6 +163,8 @@ pub const SETTLE: &str =
 
 Output, on standard output: what is owed by the charge detail records of the file to each operator
   in each currency, as `owed BE/BEC EUR 3.0864`, by operator and then by currency.
+  With --by-provider it is what each provider owes, by the records of its tokens, as of `play`:
+  `owed NL/TNM BE/BEC EUR 3.0864`, by provider, then by operator, and then by currency.
 
 Exit status:
   0  all rows were read, and what is owed was printed
@@ -166,8 +172,9 @@ Exit status:
   2  the command line is wrong
   3  the store refused: standard error has `store: N Name`, and then which file, why, and what to do
 
-Example, after `ocpi_nodes play --store stores`:
-  ./ocpi_nodes settle stores/node2.db"#;
+Examples, after `ocpi_nodes play --store stores`:
+  ./ocpi_nodes settle stores/node2.db
+  ./ocpi_nodes settle --by-provider stores/node1.db"#;
 
 /// After the help of `weave`.
 pub const WEAVE: &str =

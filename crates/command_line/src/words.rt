@@ -18,8 +18,8 @@ pub enum Word<'a> {
     Answer(Telling),
     /// `play`.
     Play(PlayWords<'a>),
-    /// `settle`, of a store's file.
-    Settle(&'a str),
+    /// `settle`.
+    Settle(SettleWords<'a>),
     /// `node`.
     Node(NodeWords<'a>),
     /// `weave`.
@@ -29,6 +29,8 @@ pub enum Word<'a> {
 /// What the command line says for a run of several nodes.
 #[derive(Clone, Copy, Debug, PartialEq, Eq)]
 pub struct PlayWords<'a> {
+    /// The file of the setup, which is the first line of the input where there is none.
+    pub setup: Option<&'a str>,
     /// The folder of the stores, where the nodes keep their rows in files.
     pub folder: Option<&'a str>,
     /// Whether a line says what became of each event.
@@ -42,6 +44,10 @@ pub struct PlayWords<'a> {
 pub struct NodeWords<'a> {
     /// The party that names the node, as it was given.
     pub party: &'a str,
+    /// The file of the setup, which is the first line of the input where there is none.
+    pub setup: Option<&'a str>,
+    /// The number of the last line whose `done` was seen, where it is given beside the file of the setup.
+    pub line: Option<u64>,
     /// The file of its rows, which are in memory where there is none.
     pub store: Option<&'a str>,
     /// Whether that file must stand, and none is made.
@@ -52,6 +58,15 @@ pub struct NodeWords<'a> {
     pub transcript: Option<&'a str>,
     /// What is told of the lines.
     pub telling: Telling,
+}
+
+/// What the command line says for `settle`.
+#[derive(Clone, Copy, Debug, PartialEq, Eq)]
+pub struct SettleWords<'a> {
+    /// The file of the rows, as it was given.
+    pub file: &'a str,
+    /// Whether what each provider owes has lines of its own.
+    pub by_provider: bool,
 }
 
 /// What the command line says for `weave`.
@@ -72,10 +87,10 @@ pub struct FileWords<'a> {
     pub store: Option<&'a str>,
 }
 
-/// Takes the command line `ocpi_nodes [answer | play [--store DIR] [--done] | node PARTY [--store FILE [--existing]]
-/// [--echo | --transcript FILE] | settle FILE | weave [--given PARTY].. [[--store STORE] FILE].. | help [COMMAND]]`,
-/// the first three also with `--explain` and `--strict`, or gives clap's text: the help or the version that was asked
-/// for, or what is wrong.
+/// Takes the command line `ocpi_nodes [answer | play [--setup FILE] [--store DIR] [--done] | node PARTY [--setup FILE
+/// [--line N]] [--store FILE [--existing]] [--echo | --transcript FILE] | settle [--by-provider] FILE | weave
+/// [--given PARTY].. [[--store STORE] FILE].. | help [COMMAND]]`, the first three also with `--explain` and `--strict`,
+/// or gives clap's text: the help or the version that was asked for, or what is wrong.
 pub fn take_words<'a>(alloc: Global, words: &'a [String]) -> Result<Word<'a>, Error> {
     let command = program(alloc)?;
     let matches = command.try_get_matches_from(words)?;
@@ -178,6 +193,7 @@ fn telling_of(given: &ArgMatches<'_>) -> Telling {
 fn word_of<'a>(matches: &ArgMatches<'a>) -> Word<'a> {
     if let Some(given) = matches.subcommand_matches("play") {
         return Word::Play(PlayWords {
+            setup: given.get_str("setup"),
             folder: given.get_str("store"),
             done: given.get_flag("done"),
             telling: telling_of(given),
@@ -186,6 +202,8 @@ fn word_of<'a>(matches: &ArgMatches<'a>) -> Word<'a> {
     if let Some(given) = matches.subcommand_matches("node") {
         return Word::Node(NodeWords {
             party: given.get_str("party").unwrap_or(""),
+            setup: given.get_str("setup"),
+            line: given.get_one("line"),
             store: given.get_str("store"),
             existing: given.get_flag("existing"),
             echo: given.get_flag("echo"),
@@ -194,7 +212,10 @@ fn word_of<'a>(matches: &ArgMatches<'a>) -> Word<'a> {
         });
     }
     if let Some(given) = matches.subcommand_matches("settle") {
-        return Word::Settle(given.get_str("file").unwrap_or(""));
+        return Word::Settle(SettleWords {
+            file: given.get_str("file").unwrap_or(""),
+            by_provider: given.get_flag("by-provider"),
+        });
     }
     Word::Answer(match matches.subcommand_matches("answer") {
         Some(given) => telling_of(given),

@@ -16,11 +16,10 @@ use Rattle.ocpi_text.specs.Text.{key}
 use Rattle.ocpi_types.specs.Setups.{party_of}
 use Rattle.ocpi_types.specs.declared.packet.Packet.{Packet}
 use Rattle.ocpi_types.specs.declared.setup.Node.{Node}
-use Rattle.ocpi_types.specs.declared.setup.Node.TheVariants as node
 use Rattle.stored_laws.specs.Nodes.{NodesCanStartAgain, OpeningsCanStartAgain}
 use Rattle.tables.proofs.Elements.{in_front}
 use Rattle.histories.proofs.Lists.{place_in}
-use Rattle.world_networks.proofs.Networks.{own_form, own_name}
+use Rattle.world_networks.proofs.Networks.{own_form, own_name, own_opening}
 use Rattle.world_steps.specs.Steps.{NodeEvent, packets_of, versions_of}
 use Rattle.world_steps.specs.Traces.{Brings, sent}
 use Rattle.world_steps.specs.World.{NodeState, Place, World, opening_of}
@@ -29,10 +28,6 @@ use Rattle.world_steps.proofs.Places.{is_in, of_mapped, set_other, set_same, som
 use Rattle.fed_networks.proofs.Living.{life_runs}
 use Rattle.fed_networks.specs.Laws.{AreLives, Happened, InventNothing, IsNetworkOf, NodesFormNetworks, setups_of}
 use Rattle.fed_networks.specs.Lives.{History, Life, history_of}
-
-opens_own : (setup : List Node) (n : Node) → networks.opening_of (setup_of setup n) ≡ opening_of setup n
-opens_own setup (node.Operator party site) = refl
-opens_own setup (node.Provider party) = refl
 
 mapped_at : {X Y : Type 0} (f : X → Y) (xs : List X) (i : ℕ) (x : X) → slice_get xs i ≡ Some x → slice_get (map f xs) i ≡ Some (f x)
 mapped_at f xs i x at = slice_get-map f xs i ∙ ap (option_map f) at
@@ -140,7 +135,7 @@ module _ (lives : List History) (all : List Happening) (runs : Running lives) (a
         life = l;
         of = of;
         party = ap name_of (sym is_s) ∙ own_name l.of.setup l.of.member;
-        run = subst (λ (n : NodeState). Run NodeHappens n (history all i) l.now) (sym (opens_own l.of.setup l.of.member) ∙ ap networks.opening_of is_s)
+        run = subst (λ (n : NodeState). Run NodeHappens n (history all i) l.now) (sym (own_opening l.of.setup l.of.member) ∙ ap networks.opening_of is_s)
             (subst (λ (es : List NodeEvent). Run NodeHappens (opening_of l.of.setup l.of.member) es l.now) (sym (happened.each i l of)) run);
         sent_is = refl;
       })

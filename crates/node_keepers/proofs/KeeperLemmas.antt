@@ -1,9 +1,10 @@
 -- Keepers that were just opened, and the keeper of a party.
-use Rattle.std.proofs.Common.{◌≡◌, ◌≢◌, ◌<◌, ◌≤◌, ◌+◌, ◌++◌, ◌∙◌, ℕ, Bool, false, true, List, [], ◌∷◌, Option, Some, None, Ok, Err, refl, sym, ap, subst, arith, eqb, get_or, length, slice_get, slice_set, IfErr, OnOk, OnErr, Result, ◌⊎◌, inl, inr, length-append, take}
+use Rattle.std.proofs.Common.{◌≡◌, ◌≢◌, ◌<◌, ◌≤◌, ◌+◌, ◌++◌, ◌∙◌, ℕ, Bool, false, true, bytes_eq, List, [], ◌∷◌, Option, Some, None, Ok, Err, refl, sym, ap, subst, arith, eqb, get_or, length, slice_get, slice_set, IfErr, OnOk, OnErr, Result, ◌⊎◌, inl, inr, length-append, take}
 use Rattle.std.proofs.lemmas.Bool.{cases_lt}
 use Rattle.std.proofs.lemmas.List.{length-take, take_more}
 use Rattle.std.proofs.lemmas.Option.{slice_get_read, slice_get_within}
 use Rattle.std.proofs.lemmas.Result.{err_from_is_err_and}
+use Rattle.std.proofs.lemmas.Slice.Eq.{bytes_eq-Decides}
 use Rattle.std.specs.FinMap.{empty, entries, get, remove}
 use Rattle.std.specs.Prelude.{IsSome}
 use Rattle.std.specs.Result.{IsErrAnd}
@@ -63,6 +64,16 @@ same_Some x y is = cc
 pub is_here : {X : Type 0} (xs : List X) (i : ℕ) (x : X) → i < length xs → x ≡ get_or xs i x → slice_get xs i ≡ Some x
 is_here xs i x within is = slice_get_read xs (length xs) i x refl within is
 
+-- what a test of two keys says
+pub same_key : (x name : List ℕ) (b : Bool) → b ≡ bytes_eq x name → b ≡ true → x ≡ name
+same_key x name b is holds = (bytes_eq-Decides x name).0 (sym is ∙ holds)
+
+pub other_key : (x name : List ℕ) (b : Bool) → b ≡ bytes_eq x name → b ≡ false → x ≡ name → ⊥
+other_key x name b is fails same =
+    let one : bytes_eq x name ≡ true = (bytes_eq-Decides x name).1 same in
+    let other : bytes_eq x name ≡ false = sym is ∙ fails in
+    cc (one, other)
+
 -- no keeper before that place is the party's
 abbrev pub NoneBefore : {K : Type 0} → List (KeptNode K) → List ℕ → ℕ → Type 0
 NoneBefore {K} kept party i = (k : ℕ) (n : KeptNode K) → k < i → IsKeeperOf kept party k n → ⊥
@@ -71,13 +82,13 @@ pub none_yet : {K : Type 0} (kept : List (KeptNode K)) (party : List ℕ) → No
 none_yet kept party k n below at = absurd (omega (arith, below))
 
 pub none_more : {K : Type 0} (kept : List (KeptNode K)) (party : List ℕ) (i : ℕ) (x : KeptNode K) → slice_get kept i ≡ Some x →
-    NoneBefore kept party i → (key x.party ≡ key party → ⊥) → NoneBefore kept party (i + 1)
+    NoneBefore kept party i → (x.party ≡ key party → ⊥) → NoneBefore kept party (i + 1)
 none_more {K} kept party i x here earlier not k n below at = elim (cases_lt k i) [
   | inl before ↦ earlier k n before at
   | inr later ↦
       let same : k ≡ i = omega arith in
       let is : n ≡ x = same_Some n x (sym at.here ∙ ap (slice_get kept) same ∙ here) in
-      not (ap (λ (z : KeptNode K). key z.party) (sym is) ∙ at.same)
+      not (ap (λ (z : KeptNode K). z.party) (sym is) ∙ at.same)
 ]
 
 pub none_at_all : {K : Type 0} (kept : List (KeptNode K)) (party : List ℕ) (i : ℕ) → length kept ≤ i → NoneBefore kept party i →
@@ -89,7 +100,7 @@ the_keeper : {K : Type 0} (party : List ℕ) (kept : List (KeptNode K)) (i : ℕ
 the_keeper {K} party kept i n found is =
     let here = is_here kept i n (slice_get_within kept i found.0 found.1.here) is in
     let same : found.0 ≡ n = same_Some found.0 n (sym found.1.here ∙ here) in
-    record { here = here; same = ap (λ (z : KeptNode K). key z.party) (sym same) ∙ found.1.same }
+    record { here = here; same = ap (λ (z : KeptNode K). z.party) (sym same) ∙ found.1.same }
 
 -- what a commit to the keeper of a party made of the keepers
 module _ {K : Type 0} (keeping : Keeping K) (party : List ℕ) (changes : List Change) (kept : List (KeptNode K)) (i : ℕ) (n : KeptNode K) (k : K)

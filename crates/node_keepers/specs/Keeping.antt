@@ -3,7 +3,7 @@
 use Rattle.std.specs.Prelude.{◌≡◌, ◌≢◌, ◌⊎◌, ℕ, ◌≤◌, List, [], ◌∷◌, None, Some, length, slice_get, slice_set}
 use Rattle.std.specs.FinMap.{empty}
 use Rattle.ocpi_text.specs.Text.{key}
-use Rattle.ocpi_types.specs.Setups.{party_of}
+use Rattle.ocpi_types.specs.Setups.{node_key}
 use Rattle.ocpi_types.specs.declared.rows.Change.{Change}
 use Rattle.ocpi_types.specs.declared.rows.Row.{Row}
 use Rattle.ocpi_types.specs.declared.setup.Node.{Node}
@@ -32,7 +32,7 @@ IsEmpty keeping k = keeping.is_honest k → keeping.content k ≡ empty
 
 -- the keeper of a node that was just opened
 pub record IsOpened {K : Type 0} (keeping : Keeping K) (node : Node) (n : KeptNode K) : Type 0 where
-  pub party : n.party ≡ party_of node
+  pub party : n.party ≡ node_key node
   pub keeps_nothing : IsEmpty keeping n.keep
 
 -- one for each node, in their order
@@ -73,7 +73,7 @@ AreUnopened keeping may_refuse setup fault =
 -- the keeper of that party's node, and its place
 pub record IsKeeperOf {K : Type 0} (kept : List (KeptNode K)) (party : List ℕ) (i : ℕ) (n : KeptNode K) : Type 0 where
   pub here : slice_get kept i ≡ Some n
-  pub same : key n.party ≡ key party
+  pub same : n.party ≡ key party
 
 -- a keeper that is honest afterwards was so before, these changes are made in it, and it has refused no further call
 pub record Takes {K : Type 0} (keeping : Keeping K) (changes : List Change) (before after : K) : Type 0 where

@@ -21,14 +21,14 @@ ghost use Rattle.ocpi_types.specs.Setups.{party_of};
 
 use crate::keeps::Keeps;
 use node_store::{Cause, Keep, Kept, StoreFault};
-use ocpi_text::Party;
+use ocpi_text::{Party, PartyKey};
 use ocpi_types::{Change, Node};
 use std::alloc::Global;
 
-/// A node's party, and the keeper of its rows.
+/// The key of a node's party, and the keeper of its rows.
 #[derive(Drop)]
 pub struct KeptNode<K> {
-    party: Party,
+    party: PartyKey,
     keep: K,
 }
 
@@ -84,7 +84,7 @@ fn open_each<S: Keeps>(
     for node in setup {
         let keep = open_one(keeps, kept.len() + 1)?;
         kept.push(KeptNode {
-            party: *node.party(),
+            party: node.party().key(),
             keep,
         })?;
     }
@@ -140,8 +140,9 @@ fn find<K>(kept: &[KeptNode<K>], party: &Party) -> Option<usize>
     ensures found { IfSome result (λ i. (n : KeptNodeOf K) × IsKeeperOf kept.now party.now i n) }
     ensures none { IfNone result ((i : ℕ) (n : KeptNodeOf K) → IsKeeperOf kept.now party.now i n → ⊥) }
 {
+    let name = party.key();
     for i in 0..kept.len() {
-        if kept[i].party.is_same(party) {
+        if kept[i].party == name {
             return Some(i);
         }
     }

@@ -9,6 +9,7 @@ ghost use Rattle.node_store.specs.declared.fault.StoreFault.{StoreFault as Store
 use node_store::{Keep, ListKeep, StoreFault};
 use row_table::Past;
 use std::alloc::Global;
+use tables::HashSeed;
 
 /// What opens a keeper for each node of a world, and closes it.
 pub trait Keeps {
@@ -73,16 +74,18 @@ impl<S: Keeps> Keeps for &mut S {
 #[derive(Drop)]
 pub struct ListKeeps {
     alloc: Global,
+    seed: HashSeed,
     opened: Past<usize>,
 }
 
 impl ListKeeps {
-    /// Keepers that take their memory from there.
-    pub fn new(alloc: Global) -> ListKeeps
+    /// Keepers that take their memory from there, and find rows by hashes that begin with the seed.
+    pub fn new(alloc: Global, seed: HashSeed) -> ListKeeps
         ensures { result.opened.items ≡ [] }
     {
         ListKeeps {
             alloc,
+            seed,
             opened: Past::new(),
         }
     }
@@ -104,7 +107,7 @@ impl Keeps for ListKeeps {
 
     fn open(&mut self, place: usize) -> Result<ListKeep, StoreFault> {
         self.opened = self.opened.note(&place);
-        Ok(ListKeep::new(self.alloc))
+        Ok(ListKeep::new(self.alloc, self.seed))
     }
 
     /// There is nothing to do, and no refusal.

@@ -1,7 +1,7 @@
 //! The keepers of a world's nodes: where they come from, what the events at their nodes give them, and what ends them.
 //!
 //! ```
-//! let mut keeps = ListKeeps::new(alloc);
+//! let mut keeps = ListKeeps::new(alloc, seed);
 //! let mut kept = open_all(alloc, &mut keeps, setup.as_slice())?;
 //! commit(&mut kept, &event.node, world.changes())?;
 //! close_all(&mut keeps, kept)?;

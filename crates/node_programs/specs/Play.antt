@@ -118,7 +118,8 @@ pub data SetupTurn {K : Type 0} (keeping : Keeping K) (may_refuse : ℕ → Stor
 -- nothing, and neither does an event that is refused, by the node or for want of memory. Where there are changes, and
 -- the keeper of the node refuses them, nothing is written, the run ends, no keeper has anything of them, and the
 -- keeper's fault is told. What became of an event is said with its line's number, where lines are counted.
-pub data EventTurn {K : Type 0} (keeping : Keeping K) (number : Option ℕ) (stop : Option StoreFault) (now : Playing K) (line : List ℕ) (turn : Turn) (out : List ℕ) (next : Stage K) : Type 0 where
+pub data EventTurn {K : Type 0} (keeping : Keeping K) (number : Option ℕ) (stop : Option StoreFault) (now : Playing K)
+    (line : List ℕ) (turn : Turn) (out : List ℕ) (next : Stage K) : Type 0 where
   Happened : (event : Event) → event_in line ≡ Ok event → (o : Outcome) → (v : World) → Gives now.world event o v
       → (kept : List (KeptNode K)) → KeeperTakes keeping event.node (changes_told o) now.kept kept
       → turn ≡ turn_of o → out ≡ event_lines number o → next ≡ record { playing = Some (record { setup = now.setup; world = v; kept = kept }); stop = stop }

@@ -1,7 +1,9 @@
 pub mod Places
 pub mod Placed
 pub mod Numbered
+pub mod Listed
 pub mod KeptRows
+pub mod Written
 pub mod Edited
 pub mod Alike
 pub mod MovedTexts

@@ -1,5 +1,5 @@
 -- The number of the last line that took hold stands at a place of its own.
-use Rattle.std.proofs.Common.{◌≡◌, ◌≢◌, ℕ, ◌+◌, ◌<◌, ◌≤◌, Bool, true, false, cond, ◌&&◌, T, List, [], ◌∷◌, drop, get_or, length, Option, Some, None, Ok, Err, inl, inr, refl, sym, ap, subst, ◌∙◌, arith}
+use Rattle.std.proofs.Common.{◌≡◌, ◌≢◌, ℕ, ◌+◌, ◌<◌, ◌≤◌, Bool, true, false, cond, T, List, [], ◌∷◌, drop, get_or, length, Option, Some, None, Ok, Err, refl, sym, ap, subst, ◌∙◌, arith}
 use Rattle.std.specs.Prelude.{codes, nat_le, if◌then◌else◌}
 use Rattle.std.specs.FinMap.{empty, entries, entries_sorted, entries-from_sorted, find, from_sorted, get, get-empty, get-entries, get-from_sorted, get-insert, get-remove, is_sorted, remove, same_map}
 use Rattle.std.specs.FinMap.Entries.{below_all}

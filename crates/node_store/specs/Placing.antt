@@ -1,6 +1,6 @@
 -- Changes of a table of rows, which are seen as their texts.
-use Rattle.std.specs.Prelude.{ℕ, List, [], ◌∷◌, Option, Some, None, IsSome, IsTrue}
-use Rattle.std.specs.FinMap.{FinMap, insert, remove, contains_key}
+use Rattle.std.specs.Prelude.{ℕ, List, [], ◌∷◌, map, Option, Some, None, IsSome, IsTrue}
+use Rattle.std.specs.FinMap.{FinMap, contains_key, entries, get, insert, remove}
 use Rattle.tables.specs.Keys.{text_pair_cmp}
 use Rattle.tables.specs.Tables.{shown_of, rooms_of}
 use Rattle.ocpi_types.specs.Rows.{key_of}
@@ -10,7 +10,7 @@ use Rattle.ocpi_json.specs.RowForms.{row_text}
 use Rattle.node_store.specs.Contents.{Content, RowPlace, place_of}
 use Rattle.node_store.specs.declared.stored.Placed.{Placed}
 
--- a table's slots
+-- the slots of a table, or of a lookup
 abbrev pub Slots : Type 0
 Slots = List (RowPlace × Option (List ℕ))
 
@@ -35,3 +35,17 @@ placed_all c (x ∷ xs) = placed_all (set_text c x.place x.row) xs
 -- the table has room for the row that is to stand there, where one is
 abbrev pub HasRoom : Slots → Placed → Type 0
 HasRoom slots x = IsSome x.row → IsTrue (contains_key (room slots) x.place)
+
+-- the places of a content, in order
+abbrev pub places_of : Content → List RowPlace
+places_of c = map (λ e. e.0) (entries c)
+
+-- the entry at a place, where there is one, before others
+abbrev pub entry_before : RowPlace → Option (List ℕ) → List (RowPlace × List ℕ) → List (RowPlace × List ℕ)
+entry_before p None es = es
+entry_before p (Some t) es = (p, t) ∷ es
+
+-- the entries at places, in turn
+abbrev pub entries_at : Content → List RowPlace → List (RowPlace × List ℕ)
+entries_at c [] = []
+entries_at c (p ∷ ps) = entry_before p (get c p) (entries_at c ps)

@@ -11,7 +11,7 @@ use crate::line_number::LineNumber;
 use crate::stored::{Place, Placed, StoredRow, line_place, placed_of};
 use ocpi_types::Change;
 use std::alloc::{AllocError, Global};
-use tables::Table;
+use tables::Lookup;
 
 /// The places and rows of changes, in turn.
 pub(crate) fn placed_all(alloc: Global, changes: &[Change]) -> Result<Vec<Placed>, AllocError>
@@ -45,7 +45,7 @@ pub(crate) fn place_number(
 }
 
 /// Takes the room that a row needs, where it is not there.
-fn reserve_row(stored: &mut Table<Place, StoredRow>, place: Place) -> Result<(), AllocError>
+fn reserve_row(stored: &mut Lookup<Place, StoredRow>, place: Place) -> Result<(), AllocError>
     ensures same { kept stored.new ≡ kept stored.old }
     ensures ready { OnOk result (IsTrue (contains_key (room stored.new) place)) }
     ensures stay { (p : RowPlace) → IsTrue (contains_key (room stored.old) p) → IsTrue (contains_key (room stored.new) p) }
@@ -55,7 +55,7 @@ fn reserve_row(stored: &mut Table<Place, StoredRow>, place: Place) -> Result<(),
 
 /// Takes the room that a row needs, or lists the place where none is to stand.
 fn reserve_one(
-    stored: &mut Table<Place, StoredRow>,
+    stored: &mut Lookup<Place, StoredRow>,
     next: &Placed,
     cleared: &mut Vec<Place>,
 ) -> Result<(), AllocError>
@@ -76,7 +76,7 @@ fn reserve_one(
 /// room may stay.
 pub(crate) fn reserve_all(
     alloc: Global,
-    stored: &mut Table<Place, StoredRow>,
+    stored: &mut Lookup<Place, StoredRow>,
     placed: &[Placed],
 ) -> Result<Vec<Place>, AllocError>
     ensures same { kept stored.new ≡ kept stored.old }
@@ -90,7 +90,7 @@ pub(crate) fn reserve_all(
 }
 
 /// Puts one row in its place, or takes it away.
-fn put_one(stored: &mut Table<Place, StoredRow>, placed: Placed)
+fn put_one(stored: &mut Lookup<Place, StoredRow>, placed: Placed)
     requires { HasRoom stored.old placed }
     ensures shown { kept stored.new ≡ set_text (kept stored.old) placed.place placed.row }
     ensures room { room stored.new ≡ room stored.old }
@@ -103,7 +103,7 @@ fn put_one(stored: &mut Table<Place, StoredRow>, placed: Placed)
 }
 
 /// Puts all rows in their places, or takes them away. It takes no memory.
-pub(crate) fn put_all(stored: &mut Table<Place, StoredRow>, placed: Vec<Placed>)
+pub(crate) fn put_all(stored: &mut Lookup<Place, StoredRow>, placed: Vec<Placed>)
     requires { All (HasRoom stored.old) placed.items }
     ensures { kept stored.new ≡ placed_all (kept stored.old) placed.items }
 {
@@ -113,7 +113,7 @@ pub(crate) fn put_all(stored: &mut Table<Place, StoredRow>, placed: Vec<Placed>)
 }
 
 /// Gives the room back of the places that hold no row.
-pub(crate) fn release_all(stored: &mut Table<Place, StoredRow>, places: &[Place])
+pub(crate) fn release_all(stored: &mut Lookup<Place, StoredRow>, places: &[Place])
     ensures { kept stored.new ≡ kept stored.old }
 {
     for place in places {

@@ -1,6 +1,8 @@
-//! The laws of what an opening makes of rows, and finds in files that were closed, and of the number beside the rows.
+//! The laws of what an opening makes of rows, and finds in files that were closed, of the number beside the rows, and of
+//! what is written of a commit.
 
 ghost use Rattle.node_store.specs.Closed.{ClosedFilesAreFound};
+ghost use Rattle.node_store.specs.Editing.{CountersAreWrittenOnce};
 ghost use Rattle.node_store.specs.Moved.{OpeningKeepsRows};
 ghost use Rattle.node_store.specs.Numbers.{NumbersAreNoRows};
 
@@ -23,4 +25,9 @@ pub fn closed_files_are_found<D: Disk, E: Disk>()
 /// as it is, and the one that was kept last is read again.
 pub fn numbers_are_no_rows()
     ensures { NumbersAreNoRows }
+{}
+
+/// Of several changes of one counter in a commit the last one alone is written, and the rows are as if all were.
+pub fn counters_are_written_once()
+    ensures { CountersAreWrittenOnce }
 {}

@@ -2,7 +2,7 @@
 //! hold.
 //!
 //! ```
-//! let mut keep = ListKeep::new(alloc);
+//! let mut keep = ListKeep::new(alloc, seed);
 //! keep.commit(world.changes(), LineNumber::new(number))?;
 //! let Kept { rows, line } = keep.load()?;
 //! ```
@@ -14,6 +14,8 @@
 //!
 //! - A commit makes the changes of that map in turn, all of them or none. What it put is read again as that very row.
 //!   By `Keep::commit`: `all`, `none`, `again`.
+//! - Of several changes of one counter in a commit a `TableKeep` writes the last one alone: what is kept is as if it
+//!   had written all. By law `counters_are_written_once`.
 //! - In the same commit it keeps the number of the line that made the changes, where one is given (`marked`). So
 //!   whatever a stop leaves tells which lines took hold. By `Keep::commit`: `all`, `none`, `stops`.
 //! - The number is kept under the kind `count` and the key `line`, which no row has, as `{"last":n}` with `n` from 2
@@ -98,7 +100,9 @@ mod unopened;
 pub use copies::kept_in;
 pub use fault::{Cause, StoreFault};
 pub use keep::{Keep, Kept};
-pub use laws::{closed_files_are_found, numbers_are_no_rows, opening_keeps_rows};
+pub use laws::{
+    closed_files_are_found, counters_are_written_once, numbers_are_no_rows, opening_keeps_rows,
+};
 pub use line_number::LineNumber;
 pub use list_keep::ListKeep;
 pub use table_keep::TableKeep;

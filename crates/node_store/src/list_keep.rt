@@ -1,11 +1,11 @@
 //! A keeper in memory.
 
 ghost use Rattle.std.specs.Prelude.{◌≡◌, ◌≢◌, ◌≤◌, ◌⊎◌, All, List, ℕ, [], IfErr, IfOk, IfSome, OnErr, OnOk, IsSome, None, Some};
-ghost use Rattle.std.specs.FinMap.{empty, entries};
+ghost use Rattle.std.specs.FinMap.{empty};
 ghost use Rattle.node_store.specs.Contents.{AnswersNumber, Content, IsLineNumber, IsReadAgain, changed_all, line_of, marked, rows_after, rows_of};
 ghost use Rattle.node_store.specs.Faults.{IsListFault, IsCommitFault, counted};
 ghost use Rattle.node_store.specs.Numbers.{others};
-ghost use Rattle.node_store.specs.Placing.{kept, placed_of, set_text};
+ghost use Rattle.node_store.specs.Placing.{entries_at, kept, placed_of, places_of, set_text};
 ghost use Rattle.node_store.specs.declared.fault.StoreFault.TheVariants.{BadRow};
 
 use crate::changing::{place_number, placed_all, put_all, release_all, reserve_all};
@@ -18,14 +18,14 @@ use ocpi_text::Whole;
 use ocpi_types::{Change, Row};
 use std::alloc::{AllocError, Global};
 use std::marker::Model;
-use tables::Table;
+use tables::{HashSeed, Lookup};
 
 /// A keeper in memory, which nothing outlasts. It refuses for want of memory alone. It keeps rows, which clauses see as
 /// their texts: a text is written only where rows are loaded.
 #[derive(Drop)]
 pub struct ListKeep {
     alloc: Global,
-    stored: Table<Place, StoredRow>,
+    stored: Lookup<Place, StoredRow>,
 }
 
 impl Model for ListKeep {
@@ -45,13 +45,13 @@ impl Model for ListKeep {
 }
 
 impl ListKeep {
-    /// A keeper of no rows.
-    pub fn new(alloc: Global) -> ListKeep
+    /// A keeper of no rows, which finds them by hashes that begin with the seed.
+    pub fn new(alloc: Global, seed: HashSeed) -> ListKeep
         ensures { result ≡ empty }
     {
         ListKeep {
             alloc,
-            stored: Table::new(alloc),
+            stored: Lookup::new(alloc, seed),
         }
     }
 
@@ -65,18 +65,37 @@ impl ListKeep {
     }
 }
 
-/// The rows that are listed, but that at the place of the number.
-fn listed_rows(alloc: Global, stored: &Table<Place, StoredRow>) -> Result<Vec<Row>, StoreFault>
-    ensures rows { IfOk result (λ v. rows_after [] (others (entries (kept stored.now))) ≡ Some v.items) }
-    ensures bad { IfErr result (λ e. e ≡ BadRow → rows_after [] (others (entries (kept stored.now))) ≡ None) }
+/// The places at which something is kept, in order.
+fn places_of(alloc: Global, stored: &Lookup<Place, StoredRow>) -> Result<Vec<Place>, AllocError>
+    ensures { IfOk result (λ v. v.items ≡ places_of (kept stored.now)) }
+{
+    let mut places = Vec::new(alloc);
+    for (place, _) in stored.iter() {
+        places.push(*place)?;
+    }
+    places.sort_unstable();
+    Ok(places)
+}
+
+/// The rows at places in turn, but that at the place of the number.
+fn listed_rows(
+    alloc: Global,
+    stored: &Lookup<Place, StoredRow>,
+    places: &[Place],
+) -> Result<Vec<Row>, StoreFault>
+    ensures rows { IfOk result (λ v. rows_after [] (others (entries_at (kept stored.now) places.now)) ≡ Some v.items) }
+    ensures bad { IfErr result (λ e. e ≡ BadRow → rows_after [] (others (entries_at (kept stored.now) places.now)) ≡ None) }
     ensures fault { IfErr result IsListFault }
 {
     let mut scratch = Scratch::new(alloc);
     let mut rows = Vec::new(alloc);
-    for (place, kept) in stored.iter() {
+    for place in places {
         if is_line_place(place.0.as_str(), place.1.as_str()) {
             continue;
         }
+        let Some(kept) = stored.get(*place) else {
+            continue;
+        };
         let text = kept.text(alloc)?;
         let row = row_of(
             alloc,
@@ -90,16 +109,18 @@ fn listed_rows(alloc: Global, stored: &Table<Place, StoredRow>) -> Result<Vec<Ro
     Ok(rows)
 }
 
-fn rows_of(alloc: Global, stored: &Table<Place, StoredRow>) -> Result<Vec<Row>, StoreFault>
+/// The rows that are kept, in the order of their places.
+fn rows_of(alloc: Global, stored: &Lookup<Place, StoredRow>) -> Result<Vec<Row>, StoreFault>
     ensures rows { IfOk result (λ v. rows_of (kept stored.now) ≡ Some v.items) }
     ensures bad { IfErr result (λ e. e ≡ BadRow → rows_of (kept stored.now) ≡ None) }
     ensures fault { IfErr result IsListFault }
 {
-    listed_rows(alloc, stored)
+    let places = places_of(alloc, stored)?;
+    listed_rows(alloc, stored, places.as_slice())
 }
 
 /// The number of the last line that took hold.
-fn line_of(alloc: Global, stored: &Table<Place, StoredRow>) -> Result<Whole, StoreFault>
+fn line_of(alloc: Global, stored: &Lookup<Place, StoredRow>) -> Result<Whole, StoreFault>
     ensures { AnswersNumber result (line_of (kept stored.now)) }
 {
     let Some(number) = stored.get(line_place()) else {
@@ -111,7 +132,7 @@ fn line_of(alloc: Global, stored: &Table<Place, StoredRow>) -> Result<Whole, Sto
 
 /// All that is kept.
 #[tactic(auto, using(crate::proofs::Numbered::kept_least))]
-fn load(alloc: Global, stored: &Table<Place, StoredRow>) -> Result<Kept, StoreFault>
+fn load(alloc: Global, stored: &Lookup<Place, StoredRow>) -> Result<Kept, StoreFault>
     ensures rows { IfOk result (λ k. rows_of (kept stored.now) ≡ Some k.rows.items) }
     ensures first { IfOk result (λ k. 1 ≤ k.line) }
     ensures line { IfOk result (λ k. line_of (kept stored.now) ≡ Some k.line) }
@@ -126,7 +147,7 @@ fn load(alloc: Global, stored: &Table<Place, StoredRow>) -> Result<Kept, StoreFa
 /// Makes the one change of a commit, which needs no room ahead.
 fn change_one(
     alloc: Global,
-    stored: &mut Table<Place, StoredRow>,
+    stored: &mut Lookup<Place, StoredRow>,
     change: &Change,
 ) -> Result<(), AllocError>
     ensures all { OnOk result (kept stored.new ≡ set_text (kept stored.old) (placed_of change.now).place (placed_of change.now).row) }
@@ -147,7 +168,7 @@ fn change_one(
 /// of them.
 fn change_several(
     alloc: Global,
-    stored: &mut Table<Place, StoredRow>,
+    stored: &mut Lookup<Place, StoredRow>,
     changes: &[Change],
     line: Option<LineNumber>,
 ) -> Result<(), AllocError>
@@ -167,7 +188,7 @@ fn change_several(
 /// Makes changes and keeps the number of their line, all of it or nothing.
 fn change_all(
     alloc: Global,
-    stored: &mut Table<Place, StoredRow>,
+    stored: &mut Lookup<Place, StoredRow>,
     changes: &[Change],
     line: Option<LineNumber>,
 ) -> Result<(), AllocError>

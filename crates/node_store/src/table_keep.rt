@@ -108,10 +108,11 @@ pub(crate) fn fault_of(error: Error) -> StoreFault
     }
 }
 
-/// The rows of texts with their kinds and names, but that at the place of the number.
-fn rows_of(alloc: Global, texts: &[TextRow]) -> Result<Vec<Row>, StoreFault>
-    ensures rows { IfOk result (λ v. rows_after [] (others texts.now) ≡ Some v.items) }
-    ensures bad { IfErr result (λ e. e ≡ BadRow → rows_after [] (others texts.now) ≡ None) }
+/// The rows of texts with their kinds and names, but that at the place of the number. Each text is let go once it is
+/// read.
+fn rows_of(alloc: Global, texts: Vec<TextRow>) -> Result<Vec<Row>, StoreFault>
+    ensures rows { IfOk result (λ v. rows_after [] (others texts.items) ≡ Some v.items) }
+    ensures bad { IfErr result (λ e. e ≡ BadRow → rows_after [] (others texts.items) ≡ None) }
     ensures fault { IfErr result IsListFault }
 {
     let mut scratch = Scratch::new(alloc);
@@ -146,14 +147,14 @@ fn line_of(alloc: Global, texts: &[TextRow]) -> Result<Whole, StoreFault>
 
 /// What is kept in texts with their kinds and names.
 #[tactic(auto, using(crate::proofs::Numbered::kept_least))]
-fn kept_in(alloc: Global, texts: &[TextRow]) -> Result<Kept, StoreFault>
-    ensures rows { IfOk result (λ k. rows_after [] (others texts.now) ≡ Some k.rows.items) }
+fn kept_in(alloc: Global, texts: Vec<TextRow>) -> Result<Kept, StoreFault>
+    ensures rows { IfOk result (λ k. rows_after [] (others texts.items) ≡ Some k.rows.items) }
     ensures first { IfOk result (λ k. 1 ≤ k.line) }
-    ensures line { IfOk result (λ k. number_kept (find text_pair_cmp line_place texts.now) ≡ Some k.line) }
-    ensures bad { IfErr result (λ e. e ≡ BadRow → (rows_after [] (others texts.now) ≡ None) ⊎ (number_kept (find text_pair_cmp line_place texts.now) ≡ None)) }
+    ensures line { IfOk result (λ k. number_kept (find text_pair_cmp line_place texts.items) ≡ Some k.line) }
+    ensures bad { IfErr result (λ e. e ≡ BadRow → (rows_after [] (others texts.items) ≡ None) ⊎ (number_kept (find text_pair_cmp line_place texts.items) ≡ None)) }
     ensures fault { IfErr result IsListFault }
 {
-    let line = line_of(alloc, texts)?;
+    let line = line_of(alloc, texts.as_slice())?;
     let rows = rows_of(alloc, texts)?;
     Ok(Kept { rows, line })
 }
@@ -170,7 +171,7 @@ fn load<S: Alter>(alloc: Global, table: &mut TextTable<S>) -> Result<Kept, Store
     ensures stops { IsClean S.Store table.new → (c : Content) → MayLeave S.Store table.new c → MayLeave S.Store table.old c }
 {
     match table.rows() {
-        Ok(texts) => kept_in(alloc, texts.as_slice()),
+        Ok(texts) => kept_in(alloc, texts),
         Err(error) => Err(fault_of(error)),
     }
 }

@@ -7,23 +7,32 @@ use node_keepers::{Keeps, ListKeeps, StoreFile};
 use node_runs::{NodeRunFault, run_node};
 use node_store::StoreFault;
 use program_messages::{
-    BUFFER_BYTES, Besides, Lines, and_closed, let_go, lines_of, report_node, report_unopened,
-    status_with, tell_wait, watch_in,
+    BUFFER_BYTES, Besides, Lines, and_closed, let_go, lines_of, read_setup, report_node,
+    report_setup, report_unopened, status_with, tell_wait, wanted_behind, watch_in,
 };
 use sqlite::{Start, Unknown};
 use std::alloc::Global;
 use std::fs::File;
-use std::io::{self, BufRead, BufReader, Write};
+use std::io::{self, BufRead, BufReader, Read, Write};
 use tables::HashSeed;
 use transcript_files::{SyncedWrite, TranscriptWriter, open_transcript};
 
-/// Runs one node, says what stopped it, and answers the exit status. Where its transcript cannot be opened, nothing is
-/// read.
+/// Runs one node, says what stopped it, and answers the exit status. Where the file of its setup gives no line, no other
+/// is opened; where its transcript cannot be opened, nothing more is read.
 pub fn run_node_word(rt: &HostRuntime, seed: HashSeed, words: &NodeWords<'_>) -> u8 {
+    match read_setup(rt, words.setup, words.line) {
+        Ok(setup) => run_behind_setup(rt, seed, words, setup.as_slice()),
+        Err(fault) => report_setup(rt, words.setup.unwrap_or(""), fault),
+    }
+}
+
+/// Runs one node behind the line of its setup, if that was read from a file, says what stopped it, and answers the exit
+/// status.
+fn run_behind_setup(rt: &HostRuntime, seed: HashSeed, words: &NodeWords<'_>, setup: &[u8]) -> u8 {
     match words.transcript {
-        None => run_and_report(rt, seed, words, None),
+        None => run_and_report(rt, seed, words, setup, None),
         Some(path) => match open_transcript(rt, path, words.store) {
-            Ok(file) => run_and_report(rt, seed, words, Some(file)),
+            Ok(file) => run_and_report(rt, seed, words, setup, Some(file)),
             Err(error) => report_unopened(rt, path, error.kind()),
         },
     }
@@ -34,13 +43,14 @@ fn run_and_report(
     rt: &HostRuntime,
     seed: HashSeed,
     words: &NodeWords<'_>,
+    setup: &[u8],
     transcript: Option<File>,
 ) -> u8 {
     let telling = words.telling;
     let mut besides = Besides::new();
     let lines = lines_of(rt, Program::Node(words.party), telling, words.echo);
     let watch = watch_in(&lines, telling);
-    let ran = run_one_node(rt, seed, words, watch, transcript, &mut besides);
+    let ran = run_one_node(rt, seed, words, setup, watch, transcript, &mut besides);
     status_with(
         report_node(rt, ran, besides, words),
         telling,
@@ -54,19 +64,23 @@ fn run_one_node(
     rt: &HostRuntime,
     seed: HashSeed,
     words: &NodeWords<'_>,
+    setup: &[u8],
     watch: Option<&Lines<'_>>,
     transcript: Option<File>,
     besides: &mut Besides,
 ) -> Result<Ran, NodeRunFault> {
     match words.store {
-        Some(path) => run_in_file(rt, seed, words, watch, transcript, path, Unknown, besides),
+        Some(path) => run_in_file(
+            rt, seed, words, setup, watch, transcript, path, Unknown, besides,
+        ),
         None => run_over(
             rt,
             seed,
             words,
+            setup,
             watch,
             transcript,
-            ListKeeps::new(rt.alloc()),
+            ListKeeps::new(rt.alloc(), seed),
             besides,
         ),
     }
@@ -78,6 +92,7 @@ fn run_in_file<S: Start>(
     rt: &HostRuntime,
     seed: HashSeed,
     words: &NodeWords<'_>,
+    setup: &[u8],
     watch: Option<&Lines<'_>>,
     transcript: Option<File>,
     path: &str,
@@ -89,6 +104,7 @@ fn run_in_file<S: Start>(
             rt,
             seed,
             words,
+            setup,
             watch,
             transcript,
             StoreFile::existing(rt, path, start),
@@ -99,6 +115,7 @@ fn run_in_file<S: Start>(
             rt,
             seed,
             words,
+            setup,
             watch,
             transcript,
             StoreFile::new(rt, path, start),
@@ -107,21 +124,19 @@ fn run_in_file<S: Start>(
     }
 }
 
-/// Runs a node on the standard input with a keeper of its rows, and closes that. With no buffer, what a line gives is
-/// written before the next is carried out.
+/// Runs a node on the line of its setup, if that was read from a file, and then on the standard input, with a keeper of
+/// its rows, and closes that. With no buffer, what a line gives is written before the next is carried out.
 fn run_over<S: Keeps + Drop>(
     rt: &HostRuntime,
     seed: HashSeed,
     words: &NodeWords<'_>,
+    setup: &[u8],
     watch: Option<&Lines<'_>>,
     transcript: Option<File>,
     keeps: S,
     besides: &mut Besides,
 ) -> Result<Ran, NodeRunFault> {
-    tell_wait(
-        rt,
-        "the setup, then events. `ocpi_nodes help node` says more",
-    );
+    tell_wait(rt, "node", wanted_behind(words.setup));
     match BufReader::with_capacity(rt.alloc(), BUFFER_BYTES, rt.reader()) {
         Ok(reader) => run_from(
             rt,
@@ -129,7 +144,7 @@ fn run_over<S: Keeps + Drop>(
             words,
             watch,
             transcript,
-            WatchedReader::new(reader, watch),
+            WatchedReader::new(setup.chain(reader), watch),
             keeps,
             besides,
         ),

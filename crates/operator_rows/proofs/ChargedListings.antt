@@ -11,7 +11,8 @@ use Rattle.session_book.specs.Stored as charged
 use Rattle.token_desk.specs.Stored as desk
 use Rattle.operator_rows.specs.State.{Rows, as_outbox}
 use Rattle.operator_rows.specs.Rows.{HasRow, AreRowsOf}
-use Rattle.operator_rows.specs.Listing.{other_rows}
+use Rattle.tables.specs.Lookups.{IsListing}
+use Rattle.operator_rows.specs.Listing.{SpentEntry, other_rows}
 use Rattle.operator_rows.proofs.Listings.{AreExactly, OfAny, and_part, part, six_parts, stands}
 
 -- without references that were given, a desk has its tokens alone
@@ -136,17 +137,17 @@ module _ (s : Rows) where
   of_part (row.Cdr x) h = inr h
   of_part (row.Command n x) h = absurd h
 
-  module _ (xs ys zs ts cs : List Row) where
+  module _ (xs ys zs ts cs : List Row) (spent_there : List SpentEntry) where
     abbrev six : List Row
-    six = ((xs ++ ys) ++ other_rows s) ++ zs
+    six = ((xs ++ ys) ++ other_rows s spent_there) ++ zs
 
     -- the rows of all parts, one after the other
     pub all_rows : command_lists.AreRowsOf xs s.commands → booked.AreRowsOf ys s.booked → outbox_lists.AreRowsOf zs (as_outbox s) → desk.AreRowsOf own_desk ts → charged.AreRowsOf s.charged cs →
-        AreRowsOf ((six ++ ts) ++ cs) s
-    all_rows a b c d e = record { exact = λ r. (λ h. all_stand r ((all.exact r).0 h), λ h. (all.exact r).1 (of_part r h)); apart = all.apart }
+        IsListing s.spent spent_there → AreRowsOf ((six ++ ts) ++ cs) s
+    all_rows a b c d e f = record { exact = λ r. (λ h. all_stand r ((all.exact r).0 h), λ h. (all.exact r).1 (of_part r h)); apart = all.apart }
       where
         seven : AreExactly 7 WithTokens (six ++ ts)
-        seven = and_part 6 (OfAny s) (desk.HasRow own_desk) six ts (six_parts s xs ys zs a b c) (of_tokens ts d) token_part
+        seven = and_part 6 (OfAny s) (desk.HasRow own_desk) six ts (six_parts s xs ys zs spent_there a b c f) (of_tokens ts d) token_part
 
         all : AreExactly 8 OfAll ((six ++ ts) ++ cs)
         all = and_part 7 WithTokens (charged.HasRow s.charged) (six ++ ts) cs seven (of_charged cs e) charged_part

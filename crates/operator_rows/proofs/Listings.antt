@@ -4,10 +4,10 @@ use Rattle.std.specs.Prelude.{Some, Contains, nat_eq}
 use Rattle.std.specs.List.{AllPairs}
 use Rattle.std.specs.Ordering.{nat_cmp}
 use Rattle.std.specs.declared.cmp.Ordering.{Ordering}
-use Rattle.std.specs.Cmp.{IsTotalOrder}
-use Rattle.std.specs.FinMap.{FinMap, IsAntisymmetric, get, entries, get-empty}
+use Rattle.std.specs.FinMap.{FinMap, get, entries, get-empty}
 use Rattle.std.proofs.lemmas.List.Elements.{Contains-append_left, Contains-append_right, Contains-append_cases}
-use Rattle.tables.specs.Keys.{text_total, text_exact, text_pair_total, text_pair_exact}
+use Rattle.tables.specs.Keys.{text_total, text_exact}
+use Rattle.tables.specs.Lookups.{IsListing}
 use Rattle.ocpi_types.specs.Rows.{key_of}
 use Rattle.ocpi_types.specs.declared.rows.Row.{Row}
 use Rattle.ocpi_types.specs.declared.rows.Row.TheVariants as row
@@ -19,12 +19,12 @@ use Rattle.command_book.specs.Listing as command_lists
 use Rattle.reservation_book.specs.Rows as booked
 use Rattle.outbox.specs.Outbox as outbox
 use Rattle.outbox.specs.OutboxListing as outbox_lists
-use Rattle.tables.proofs.Elements.{in_none, in_single, in_front, in_map, of_map, no_pairs, joined}
-use Rattle.tables.proofs.Entries.{listed, listed_only, all_apart}
+use Rattle.tables.proofs.Elements.{in_none, in_single, in_front, no_pairs, joined}
+use Rattle.tables.proofs.Listings.{each_there, found_there, listed_apart, entries_listed}
 use Rattle.tables.proofs.Options.{none_some}
 use Rattle.operator_rows.specs.State.{Rows, as_outbox}
 use Rattle.operator_rows.specs.Rows.{HasRow}
-use Rattle.operator_rows.specs.Listing.{serial_rows, spent_row, service_row, other_rows}
+use Rattle.operator_rows.specs.Listing.{SpentEntry, serial_rows, spent_row, service_row, other_rows}
 
 abbrev pub Apart : Row → Row → Type 0
 Apart a b = key_of a ≢ key_of b
@@ -77,16 +77,16 @@ and_part k P Q xs ys a b last = record { exact = λ r. (there r, back r); apart 
     parts r (inl p) = let low : part (key_of r) < k = a.parts r p in omega arith
     parts r (inr q) = b.parts r q
 
--- the rows made of the entries of a map
-module _ {K X : Type 0} {R : K → K → Ordering} (o : IsTotalOrder R) (antisymmetric : IsAntisymmetric R) (m : FinMap R X) (f : K × X → Row) (P : Row → Type 0) where
+-- the rows made of the entries of a map, in whatever order
+module _ {K X : Type 0} {R : K → K → Ordering} (m : FinMap R X) (es : List (K × X)) (h : IsListing m es) (f : K × X → Row) (P : Row → Type 0) where
   of_entries : (k : ℕ) → ((q : K) (x : X) → get m q ≡ Some x → P (f (q, x))) → ((r : Row) → P r → (q : K) × (x : X) × (get m q ≡ Some x) × (f (q, x) ≡ r)) →
-      ((a b : K × X) → a.0 ≢ b.0 → Apart (f a) (f b)) → ((r : Row) → P r → part (key_of r) < k) → AreExactly k P (map f (entries m))
+      ((a b : K × X) → a.0 ≢ b.0 → Apart (f a) (f b)) → ((r : Row) → P r → part (key_of r) < k) → AreExactly k P (map f es)
   of_entries k makes made differ parts = record {
     exact = λ r. (
-      λ h. let from = of_map f (entries m) r h in subst P from.2 (makes from.0.0 from.0.1 (listed_only o antisymmetric m from.0.0 from.0.1 from.1)),
-      λ p. let (q, x, has, is) = made r p in subst (λ z. Contains (map f (entries m)) z) is (in_map f (entries m) (q, x) (listed o antisymmetric m q x has)),
+      each_there f m es h P makes r,
+      λ p. let (q, x, has, is) = made r p in subst (λ z. Contains (map f es) z) is (found_there f m es h q x has),
     );
-    apart = all_apart o antisymmetric f m Apart (λ a b p q below. differ a b below);
+    apart = listed_apart f m es h Apart (λ a b p q. differ a b);
     parts = parts;
   }
 
@@ -220,9 +220,9 @@ module _ (s : Rows) where
   spent_part (row.Cdr x) has = absurd has
   spent_part (row.Command q x) has = absurd has
 
-  of_spent : AreExactly 4 (IsSpentRow s) (map spent_row (entries s.spent))
-  of_spent =
-      of_entries text_pair_total text_pair_exact s.spent spent_row (IsSpentRow s) 4 (λ q x e. e) made
+  of_spent : (es : List SpentEntry) → IsListing s.spent es → AreExactly 4 (IsSpentRow s) (map spent_row es)
+  of_spent es listed =
+      of_entries s.spent es listed spent_row (IsSpentRow s) 4 (λ q x e. e) made
       (λ a b apart e. apart (let p : a.0.0 ≡ b.0.0 = cc in let n : a.0.1 ≡ b.0.1 = cc in λ i. (p i, n i))) (λ r has. let is = spent_part r has in omega arith)
     where
       made : (r : Row) → IsSpentRow s r → (q : List ℕ × List ℕ) × (x : Unit {0}) × (get s.spent q ≡ Some x) × (spent_row (q, x) ≡ r)
@@ -257,7 +257,7 @@ module _ (s : Rows) where
 
   of_service : AreExactly 5 (IsServiceRow s) (map service_row (entries s.out_of_service))
   of_service =
-      of_entries text_total text_exact s.out_of_service service_row (IsServiceRow s) 5 (λ q x e. e) made
+      of_entries s.out_of_service (entries s.out_of_service) (entries_listed text_total text_exact s.out_of_service) service_row (IsServiceRow s) 5 (λ q x e. e) made
       (λ a b apart e. apart (let p : a.0 ≡ b.0 = cc in p)) (λ r has. let is = service_part r has in omega arith)
     where
       made : (r : Row) → IsServiceRow s r → (q : List ℕ) × (x : Unit {0}) × (get s.out_of_service q ≡ Some x) × (service_row (q, x) ≡ r)
@@ -379,20 +379,21 @@ module _ (s : Rows) where
   stands r (inl (inl (inl (inl (inr h))))) = of_book r h
   stands r (inl (inl (inl (inl (inl h))))) = command r h
 
-  module _ (xs ys zs : List Row) where
+  module _ (xs ys zs : List Row) (spent_there : List SpentEntry) where
     -- the rows of the books, and of the parts after them
     abbrev with_serial : List Row
     with_serial = (xs ++ ys) ++ serial_rows s.serial
 
     abbrev with_spent : List Row
-    with_spent = with_serial ++ map spent_row (entries s.spent)
+    with_spent = with_serial ++ map spent_row spent_there
 
     abbrev with_service : List Row
     with_service = with_spent ++ map service_row (entries s.out_of_service)
 
     -- the rows of these parts, one after the other
-    pub six_parts : command_lists.AreRowsOf xs s.commands → booked.AreRowsOf ys s.booked → outbox_lists.AreRowsOf zs (as_outbox s) → AreExactly 6 OfAny (((xs ++ ys) ++ other_rows s) ++ zs)
-    six_parts a b c = subst (λ l. AreExactly 6 OfAny (l ++ zs)) regrouped all
+    pub six_parts : command_lists.AreRowsOf xs s.commands → booked.AreRowsOf ys s.booked → outbox_lists.AreRowsOf zs (as_outbox s) → IsListing s.spent spent_there →
+        AreExactly 6 OfAny (((xs ++ ys) ++ other_rows s spent_there) ++ zs)
+    six_parts a b c d = subst (λ l. AreExactly 6 OfAny (l ++ zs)) regrouped all
       where
         two : AreExactly 2 OfBooks (xs ++ ys)
         two = and_part 1 (commands.HasRow s.commands) (booked.HasRow s.booked) xs ys (of_commands xs a) (of_booked ys b) booked_part
@@ -401,7 +402,7 @@ module _ (s : Rows) where
         three = and_part 2 OfBooks (IsSerial s.serial) (xs ++ ys) (serial_rows s.serial) two (of_serial s.serial) serial_part
 
         four : AreExactly 4 WithSpent with_spent
-        four = and_part 3 WithSerial (IsSpentRow s) with_serial (map spent_row (entries s.spent)) three of_spent spent_part
+        four = and_part 3 WithSerial (IsSpentRow s) with_serial (map spent_row spent_there) three (of_spent spent_there d) spent_part
 
         five : AreExactly 5 WithService with_service
         five = and_part 4 WithSpent (IsServiceRow s) with_spent (map service_row (entries s.out_of_service)) four of_service service_part
@@ -409,5 +410,5 @@ module _ (s : Rows) where
         all : AreExactly 6 OfAny (with_service ++ zs)
         all = and_part 5 WithService (outbox.HasRow (as_outbox s)) with_service zs five (of_pushed zs c) pushed_part
 
-        regrouped : with_service ≡ (xs ++ ys) ++ other_rows s
+        regrouped : with_service ≡ (xs ++ ys) ++ other_rows s spent_there
         regrouped = simp append_assoc

@@ -17,17 +17,17 @@ use session_book::SessionBook;
 use site_book::SiteBook;
 use std::alloc::{AllocError, Global};
 use std::marker::Model;
-use tables::{HashSeed, Table};
+use tables::{HashSeed, Lookup};
 use token_desk::TokenDesk;
 
 /// The references that are spent, by provider.
-pub(crate) type SpentTable = Table<(PartyKey, CiKey<36>), ()>;
+pub(crate) type SpentTable = Lookup<(PartyKey, CiKey<36>), ()>;
 
 /// The rows of an operator, with the claims on its site's EVSEs, the resend times of its pushes, and the
 /// authorizations that it awaits. It is seen as its state and the room that is taken beside it.
 ///
 /// At all times what `consistency` says holds, and the claims are exactly those that follow from the rows. A lookup
-/// and a change cost the logarithm of what is stored.
+/// and a change cost the logarithm of what is stored; a spent reference is found by its hash, in constant time.
 #[derive(Drop)]
 pub struct Books {
     pub(crate) parties: Parties,
@@ -83,7 +83,7 @@ impl Books {
             parties: line.parties,
             serial: Whole::new(0).unwrap(),
             commands: CommandBook::new(alloc, seed),
-            spent: Table::new(alloc),
+            spent: Lookup::new(alloc, seed),
             booked: ReservationBook::new(alloc),
             outbox: Outbox::new(alloc),
             site,

@@ -4,7 +4,7 @@ ghost use Rattle.std.specs.Prelude.{◌≡◌, ◌++◌, map as list_map, IfOk, 
 ghost use Rattle.std.specs.FinMap as map;
 ghost use Rattle.tables.specs.Keys.{text_pair_cmp};
 ghost use Rattle.tables.specs.Tables.{shown_of};
-ghost use Rattle.operator_rows.specs.Listing.{other_rows, serial_rows, service_row, spent_row};
+ghost use Rattle.operator_rows.specs.Listing.{AddsOthers, AddsSpent, serial_rows, service_row};
 ghost use Rattle.operator_rows.specs.Rows.{AreRowsOf};
 
 use crate::books::{Books, SpentTable};
@@ -29,7 +29,7 @@ fn push_serial(last: Whole, rows: &mut Vec<Row>) -> Result<(), AllocError>
 
 /// Adds the references that are spent.
 fn push_spent(spent: &SpentTable, rows: &mut Vec<Row>) -> Result<(), AllocError>
-    ensures { OnOk result (rows.new.items ≡ rows.old.items ++ list_map spent_row (map.entries (shown_of text_pair_cmp spent.now))) }
+    ensures { OnOk result (AddsSpent (shown_of text_pair_cmp spent.now) rows.old.items rows.new.items) }
 {
     for (key, _) in spent.iter() {
         rows.push(Row::Spent {
@@ -53,7 +53,7 @@ fn push_service(site: &SiteBook, rows: &mut Vec<Row>) -> Result<(), AllocError>
 impl Books {
     /// Adds the rows that are of none of the books.
     fn push_others(&self, rows: &mut Vec<Row>) -> Result<(), AllocError>
-        ensures { OnOk result (rows.new.items ≡ rows.old.items ++ other_rows self.now.state.rows) }
+        ensures { OnOk result (AddsOthers self.now.state.rows rows.old.items rows.new.items) }
     {
         push_serial(self.serial, rows)?;
         push_spent(&self.spent, rows)?;

@@ -12,9 +12,10 @@ use Rattle.reservation_book.specs.Tokens.{IsFor}
 use Rattle.site_book.specs.declared.claim.Claim.{Claim}
 use Rattle.std.specs.BTreeMap.Range.{IsLeBy}
 use Rattle.tables.specs.Keys.{text_cmp}
+use Rattle.site_book.proofs.Apart.{contained}
 use Rattle.site_book.proofs.Finding.{first_named, first_of}
 use Rattle.site_book.specs.Positions.{OneEvseEach}
-use Rattle.site_book.specs.Sites.{Claims, OutOfService, SiteState, IsEvseFor, IsFirst, IsFirstFree, IsFreeFor, IsWorkingEvse, is_free, works}
+use Rattle.site_book.specs.Sites.{Claims, OutOfService, SiteState, IsEvseFor, IsFirst, IsFirstFree, IsFreeFor, IsFreeEvse, IsEvse, is_free, works}
 use Rattle.operator_rows.specs.State.{Rows, HasClaim, IsFree}
 use Rattle.operator_rows.specs.Claimed.{IsIndexed}
 use Rattle.operator_tables.specs.Places.{IsHeldFor, token_at}
@@ -82,17 +83,24 @@ first_start site s h service c l e first = first_of l (IsFreeFor site c.evse_uid
   free = subst (λ (z : OutOfService). IsTrue (is_free site.claims z (key f.uid))) (sym service) (free_of site.claims s.out_of_service s h (key f.uid) may.free may.works);
 }) first
 
--- an EVSE that is named and not claimed is the first of its uid that is free, where one of that uid is in service
-pub named_first : (site : SiteState) (at : ℕ) (l : Location) (named : Option (List ℕ)) (name : List ℕ) (e f : Evse) → OneEvseEach site.site.locations → slice_get site.site.locations at ≡ Some l →
-    named ≡ Some name → IsEvseFor l named e → IsEvseFor l named f → IsWorkingEvse site f → get site.claims (key e.uid) ≡ None → IsFirstFree site l named e
-named_first site at l named name e f one stands is fits other serves none = subst (λ o. IsFirstFree site l o e) (sym is) (record {
-  fits = here;
-  free = ap (λ (o : Option Claim). not (is_some o) && works site.out_of_service (key e.uid)) none ∙ subst (λ k. IsTrue (works site.out_of_service k)) (there.named ∙ sym here.named) serves;
-  first = first_named site.site.locations at l stands one name (IsFreeFor site (Some name)) e (λ g free. free.named) here;
-})
-  where
-    here : IsEvseFor l (Some name) e
-    here = subst (λ o. IsEvseFor l o e) is fits
+-- an EVSE that is named
+module _ (site : SiteState) (at : ℕ) (l : Location) (named : Option (List ℕ)) (name : List ℕ) (e : Evse) (stands : slice_get site.site.locations at ≡ Some l) (is : named ≡ Some name) (fits : IsEvseFor l named e) where
+  here : IsEvseFor l (Some name) e
+  here = subst (λ o. IsEvseFor l o e) is fits
 
-    there : IsEvseFor l (Some name) f
-    there = subst (λ o. IsEvseFor l o f) is other
+  -- and free is the first of its uid that is free
+  pub named_first : OneEvseEach site.site.locations → IsFreeEvse site e → IsFirstFree site l named e
+  named_first one free = subst (λ o. IsFirstFree site l o e) (sym is) (record {
+    fits = here;
+    free = free;
+    first = first_named site.site.locations at l stands one name (IsFreeFor site (Some name)) e (λ g may. may.named) here;
+  })
+
+  -- and not free leaves none of its uid that is
+  pub named_taken : (b : Bool) → (IsEvse site.site.locations (key e.uid) × IsFreeEvse site e → IsTrue b) → b ≡ false → (f : Evse) → IsEvseFor l named f → IsFreeEvse site f → ⊥
+  named_taken b free_is taken f other free =
+      let there : IsEvseFor l (Some name) f = subst (λ o. IsEvseFor l o f) is other in
+      let same : key f.uid ≡ key e.uid = there.named ∙ sym here.named in
+      let of_site : IsEvse site.site.locations (key e.uid) = record { location = l; evse = e; listed = contained site.site.locations at l stands; within = here.listed; same = refl } in
+      let told : b ≡ true = free_is (of_site, subst (λ k. IsTrue (is_free site.claims site.out_of_service k)) same free) in
+      cc

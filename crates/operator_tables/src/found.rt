@@ -44,12 +44,12 @@ pub fn free_evse(
             let evse = site.free_evse(at, name)?;
             Some(evse.uid)
         }
-        Some(_name) => match site.claim_of(evse_uid.key()) {
-            None => {
-                site.evses_differ();
-                Some(*evse_uid)
+        Some(_name) => {
+            if !site.is_free(evse_uid.key()) {
+                return None;
             }
-            Some(_claim) => None,
-        },
+            site.evses_differ();
+            Some(*evse_uid)
+        }
     }
 }

@@ -151,13 +151,13 @@ fn free_place(
 {
     match &command.evse_uid {
         None => site.free_place(at, &command.evse_uid, &command.connector_id),
-        Some(_name) => match site.claim_of(place.evse_uid.key()) {
-            None => {
-                site.evses_differ();
-                Some(*place)
+        Some(_name) => {
+            if !site.is_free(place.evse_uid.key()) {
+                return None;
             }
-            Some(_claim) => None,
-        },
+            site.evses_differ();
+            Some(*place)
+        }
     }
 }
 

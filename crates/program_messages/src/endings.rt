@@ -6,9 +6,10 @@ ghost use Rattle.node_runs.specs.Stops.{node_status};
 ghost use Rattle.node_store.specs.declared.fault.StoreFault.{StoreFault as StoreFaultOf};
 
 use crate::refusal::{
-    advice_for, words_for, words_for_node, words_for_reason, words_for_unopened,
+    advice_for, words_for, words_for_node, words_for_reason, words_for_setup, words_for_unopened,
     words_for_unwritten, words_with_numbers,
 };
+use crate::setup::SetupFault;
 use command_line::NodeWords;
 use line_runs::{Ran, RunFault};
 use node_programs::{PlayFault, status_after_play};
@@ -20,7 +21,7 @@ use std::alloc::Global;
 use std::io::ErrorKind;
 use stored_rows::BadRow;
 
-/// The exit status where the file of a transcript was not opened.
+/// The exit status where the file of a setup or a transcript was not opened or read.
 pub const UNOPENED: u8 = 3;
 
 /// Whether a closing was refused. What it left is let go.
@@ -193,6 +194,15 @@ pub fn report_unopened(rt: &HostRuntime, place: &str, kind: ErrorKind) -> u8
 {
     let _ = eprintln!(rt; "transcript: 1 Refused");
     explain(rt, place, words_for_unopened(kind));
+    UNOPENED
+}
+
+/// Says why the file at that place gives no setup, and answers the exit status.
+pub fn report_setup(rt: &HostRuntime, place: &str, fault: SetupFault) -> u8
+    ensures { result ≡ UNOPENED }
+{
+    let _ = eprintln!(rt; "setup: 1 Refused");
+    explain(rt, place, words_for_setup(fault));
     UNOPENED
 }
 

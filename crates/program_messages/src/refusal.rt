@@ -1,5 +1,6 @@
 //! Why a store refused, or a file was not read, in words, and what to do about it.
 
+use crate::setup::SetupFault;
 use node_store::{Cause, StoreFault};
 use ocpi_text::{E4, Moment};
 use std::alloc::{AllocError, Global};
@@ -183,6 +184,27 @@ pub fn words_for_unread(kind: ErrorKind) -> &'static str {
         ErrorKind::IsADirectory =>
             "it is a folder: name a transcript, as a run of `node --transcript` wrote it",
         ErrorKind::PermissionDenied => "no permission: the file must be readable",
+        _ => "it cannot be read: the system's log says more",
+    }
+}
+
+/// The words for why the file of a setup gives none. They follow its name.
+pub(crate) fn words_for_setup(fault: SetupFault) -> &'static str {
+    match fault {
+        SetupFault::Unread(kind) => words_for_unread_setup(kind),
+        SetupFault::TooLong => "it has more than 1048576 bytes: name the file of a setup",
+        SetupFault::NoObject => "it does not begin with {: name the file of a setup, a JSON object",
+    }
+}
+
+fn words_for_unread_setup(kind: ErrorKind) -> &'static str {
+    match kind {
+        ErrorKind::NotFound | ErrorKind::NotADirectory => {
+            "there is no such file: name the file of a setup"
+        }
+        ErrorKind::IsADirectory => "it is a folder: name the file of a setup",
+        ErrorKind::PermissionDenied => "no permission: the file must be readable",
+        ErrorKind::OutOfMemory => "memory ran out: end other programs first",
         _ => "it cannot be read: the system's log says more",
     }
 }

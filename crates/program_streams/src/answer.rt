@@ -50,10 +50,7 @@ fn answer_input<W: Write>(
     writer: &mut W,
     watch: Option<&Lines<'_>>,
 ) -> Result<Ran, PlayFault> {
-    tell_wait(
-        rt,
-        "the site line, then packets. `ocpi_nodes help answer` says more",
-    );
+    tell_wait(rt, "answer", "the site line, then packets");
     match BufReader::with_capacity(rt.alloc(), BUFFER_BYTES, rt.reader()) {
         Ok(reader) => answer_from(rt, seed, WatchedReader::new(reader, watch), writer),
         Err(_) => Err(PlayFault::Run(RunFault::ReadFailed)),

@@ -6,25 +6,45 @@ use line_runs::{LineReader, Ran, RunFault};
 use node_keepers::{FileKeeps, Keeps, KeptNode, ListKeeps, close_all};
 use node_programs::{PlayFault, Played, run_play};
 use program_messages::{
-    BUFFER_BYTES, Lines, Told, and_closed, lines_of, report, status_with, tell_wait, watch_in,
+    BUFFER_BYTES, Lines, Told, and_closed, lines_of, read_setup, report, report_setup, status_with,
+    tell_wait, wanted_behind, watch_in,
 };
 use std::alloc::Global;
-use std::io::{self, BufRead, BufReader, BufWriter, Write};
+use std::io::{self, BufRead, BufReader, BufWriter, Read, Write};
 use std::mem;
 use tables::HashSeed;
 
-/// Runs `play`, says what stopped it, and answers the exit status.
+/// Runs `play`, says what stopped it, and answers the exit status. Where the file of its setup gives no line, nothing
+/// else is read.
 pub fn run_play_word(rt: &HostRuntime, seed: HashSeed, words: &PlayWords<'_>) -> u8 {
+    match read_setup(rt, words.setup, None) {
+        Ok(setup) => play_behind_setup(rt, seed, words, setup.as_slice()),
+        Err(fault) => report_setup(rt, words.setup.unwrap_or(""), fault),
+    }
+}
+
+/// Runs `play` behind the line of its setup, if that was read from a file, says what stopped it, and answers the exit
+/// status.
+fn play_behind_setup(rt: &HostRuntime, seed: HashSeed, words: &PlayWords<'_>, setup: &[u8]) -> u8 {
     let telling = words.telling;
     let mut told = Told::new(rt.alloc());
     let lines = lines_of(rt, Program::Play, telling, false);
     let watch = watch_in(&lines, telling);
     let ran = match words.folder {
-        None => play_buffered(rt, seed, watch, words.done, &mut told),
+        None => play_buffered(rt, seed, watch, words, setup, &mut told),
         // With no buffer, what an event gives is written before the next event is carried out.
         Some(folder) => {
             let mut writer = WatchedWriter::new(io::writer(rt), watch);
-            play_in_files(rt, seed, &mut writer, watch, folder, words.done, &mut told)
+            play_in_files(
+                rt,
+                seed,
+                &mut writer,
+                watch,
+                folder,
+                words,
+                setup,
+                &mut told,
+            )
         }
     };
     status_with(report(rt, ran, &told), telling, lines.into_inner())
@@ -35,11 +55,12 @@ fn play_buffered(
     rt: &HostRuntime,
     seed: HashSeed,
     watch: Option<&Lines<'_>>,
-    done: bool,
+    words: &PlayWords<'_>,
+    setup: &[u8],
     told: &mut Told,
 ) -> Result<Ran, PlayFault> {
     match BufWriter::with_capacity(rt.alloc(), BUFFER_BYTES, io::writer(rt)) {
-        Ok(writer) => play_to(rt, seed, writer, watch, done, told),
+        Ok(writer) => play_to(rt, seed, writer, watch, words, setup, told),
         Err(_) => Err(PlayFault::Run(RunFault::WriteFailed)),
     }
 }
@@ -50,11 +71,12 @@ fn play_to<W: Write + Drop>(
     seed: HashSeed,
     writer: W,
     watch: Option<&Lines<'_>>,
-    done: bool,
+    words: &PlayWords<'_>,
+    setup: &[u8],
     told: &mut Told,
 ) -> Result<Ran, PlayFault> {
     let mut writer = WatchedWriter::new(writer, watch);
-    let ran = play_in_memory(rt, seed, &mut writer, watch, done, told);
+    let ran = play_in_memory(rt, seed, &mut writer, watch, words, setup, told);
     drop(writer);
     ran
 }
@@ -94,7 +116,8 @@ fn play_in_memory<W: Write>(
     seed: HashSeed,
     writer: &mut W,
     watch: Option<&Lines<'_>>,
-    done: bool,
+    words: &PlayWords<'_>,
+    setup: &[u8],
     told: &mut Told,
 ) -> Result<Ran, PlayFault> {
     play_input(
@@ -102,9 +125,10 @@ fn play_in_memory<W: Write>(
         seed,
         writer,
         watch,
-        ListKeeps::new(rt.alloc()),
+        ListKeeps::new(rt.alloc(), seed),
         "",
-        done,
+        words,
+        setup,
         told,
     )
 }
@@ -116,7 +140,8 @@ fn play_in_files<W: Write>(
     writer: &mut W,
     watch: Option<&Lines<'_>>,
     folder: &str,
-    done: bool,
+    words: &PlayWords<'_>,
+    setup: &[u8],
     told: &mut Told,
 ) -> Result<Ran, PlayFault> {
     play_input(
@@ -126,7 +151,8 @@ fn play_in_files<W: Write>(
         watch,
         FileKeeps::new(rt, folder),
         folder,
-        done,
+        words,
+        setup,
         told,
     )
 }
@@ -144,8 +170,8 @@ fn kept_of<K: Drop>(alloc: Global, left: Option<Played<K>>) -> Vec<KeptNode<K>> 
     }
 }
 
-/// Plays the standard input with keepers that have their files in that folder, closes them, and notes what is told of
-/// them.
+/// Plays the line of a setup, if that was read from a file, and then the standard input, with keepers that have their
+/// files in that folder, closes them, and notes what is told of them.
 fn play_input<W: Write, S: Keeps + Located + Drop>(
     rt: &HostRuntime,
     seed: HashSeed,
@@ -153,17 +179,24 @@ fn play_input<W: Write, S: Keeps + Located + Drop>(
     watch: Option<&Lines<'_>>,
     keeps: S,
     folder: &str,
-    done: bool,
+    words: &PlayWords<'_>,
+    setup: &[u8],
     told: &mut Told,
 ) -> Result<Ran, PlayFault> {
-    tell_wait(
-        rt,
-        "the setup, then events. `ocpi_nodes help play` says more",
-    );
+    tell_wait(rt, "play", wanted_behind(words.setup));
     match BufReader::with_capacity(rt.alloc(), BUFFER_BYTES, rt.reader()) {
         Ok(reader) => {
-            let reader = WatchedReader::new(reader, watch);
-            play_from(rt.alloc(), seed, reader, writer, keeps, folder, done, told)
+            let reader = WatchedReader::new(setup.chain(reader), watch);
+            play_from(
+                rt.alloc(),
+                seed,
+                reader,
+                writer,
+                keeps,
+                folder,
+                words.done,
+                told,
+            )
         }
         Err(_) => {
             drop(keeps);

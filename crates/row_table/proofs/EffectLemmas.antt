@@ -1,10 +1,9 @@
 -- From what a statement does to what is then held.
-use Rattle.std.proofs.Common.{◌≡◌, inl, inr, ℕ, pos, List, [], ◌∷◌, map, Bool, true, false, cond, IsTrue, Option, Some, None, Ok, Err, Result, OnOk, refl, sym, ap, subst, ◌∙◌}
+use Rattle.std.proofs.Common.{◌≡◌, inl, inr, ℕ, pos, List, [], ◌∷◌, map, Bool, true, false, cond, IsTrue, Option, Some, None, Ok, Err, Result, OnErr, OnOk, refl, sym, ap, subst, ◌∙◌}
 use Rattle.std.proofs.lemmas.Bool.{cases_Bool}
-use Rattle.std.specs.FinMap.{find, get, insert, remove, get-from_entries, get-insert, get-remove, same_map}
+use Rattle.std.specs.FinMap.{get, insert, remove, get-insert, get-remove, same_map}
 use Rattle.std.specs.Ordering.{eq_by_cmp}
 use Rattle.tables.specs.Keys.{text_pair_cmp, text_pair_total, text_pair_exact}
-use Rattle.tables.proofs.Maps.{get-remove_same}
 use Rattle.sqlite.specs.declared.types.Value.{Value}
 use Rattle.sqlite.specs.declared.types.Value.TheVariants.{Int, Text}
 use Rattle.sqlite.specs.declared.error.Error.{Error}
@@ -12,14 +11,14 @@ use Rattle.sqlite.specs.Edit.{next_rowid}
 use Rattle.sqlite.specs.Order.{Row, column}
 use Rattle.sqlite.specs.Tree.{Trees}
 use Rattle.sqlite_catalog.specs.Listing.{IsSound}
-use Rattle.sqlite_rules.specs.Lists.{Has}
 use Rattle.sqlite.specs.State.{State, Shows, KeepsCommit, ExecutesInside}
-use Rattle.row_table.specs.Texts.{Place, Texts, entry_in, texts_in, texts_of, text_row, IsTextRow, AreTexts}
+use Rattle.row_table.specs.Texts.{Place, Texts, texts_in, texts_of, text_row, IsTextRow, AreTexts}
 use Rattle.row_table.specs.Layout.{both_tables}
 use Rattle.row_table.specs.Contents.{Content, IsNumbered, at_version, content_of, versions, with_texts}
-use Rattle.row_table.specs.Effects.{HasTables, HadTables, HasMade, HasNoVersion, HasNumbered}
+use Rattle.row_table.specs.Effects.{HasTables, HadTables, HasMade, HasNoVersion, HasNumbered, IsNotMade}
 use Rattle.row_table.proofs.Meanings.{insert_text, delete_text, layout_delete, layout_insert}
-use Rattle.row_table.proofs.RowLemmas.{is_at, texts_rest, are_rest, texts_put, are_put}
+use Rattle.row_table.proofs.RowLemmas.{texts_rest, are_rest, texts_put, are_put}
+use Rattle.row_table.proofs.UniqueLemmas.{alone}
 use Rattle.row_table.proofs.StatementLemmas.{deletes, inserts}
 use Rattle.row_table.proofs.VersionLemmas.{deletes_version, inserts_version}
 
@@ -28,12 +27,12 @@ use Rattle.row_table.proofs.VersionLemmas.{deletes_version, inserts_version}
 abbrev pub content : List Value → Texts → Content
 content vs ts = record { versions = vs; texts = ts }
 
-same_content : (old new : Trees) → new 0 ≡ old 0 → (t : Texts) → texts_of new ≡ t → content_of new ≡ with_texts (content_of old) t
+pub same_content : (old new : Trees) → new 0 ≡ old 0 → (t : Texts) → texts_of new ≡ t → content_of new ≡ with_texts (content_of old) t
 same_content old new same t is =
     ap (λ (rows : List Row). content (map (λ (r : Row). column r 1) rows) (texts_of new)) same ∙ ap (content (versions old)) is
 
 -- the tables and the version stay
-still : (old new : State) → new.now.schema ≡ both_tables → IsSound both_tables new.now.trees → HasTables old.now → new.now.trees 0 ≡ old.now.trees 0 → AreTexts (new.now.trees 1) → HasTables new.now
+pub still : (old new : State) → new.now.schema ≡ both_tables → IsSound both_tables new.now.trees → HasTables old.now → new.now.trees 0 ≡ old.now.trees 0 → AreTexts (new.now.trees 1) → HasTables new.now
 still old new schema listed it same texts = record {
   schema = schema;
   whole = record { listed = listed; version = it.whole.version; has_version = subst (IsNumbered it.whole.version) (sym same) it.whole.has_version; are_texts = texts };
@@ -57,25 +56,18 @@ clears old new kind name (Ok count) has ended runs = elim (cases_Bool old.in_tra
   | inr outside ↦ absurd (let e = (ended outside).1 in cc)
 ]
 
-none_there : (p : Place) (rows : List Row) → find text_pair_cmp p (map entry_in rows) ≡ None → (r : Row) → Has rows r → is_at p r ≡ false
-none_there p [] none r h = absurd h
-none_there p (x ∷ rows) none r h = elim (is_at p x) as (λ b. is_at p x ≡ b → cond b (Some (entry_in x).1) (find text_pair_cmp p (map entry_in rows)) ≡ None → is_at p r ≡ false) [
-  | true ↦ λ at e. absurd (cc)
-  | false ↦ λ apart e. elim h [ inl same ↦ ap (is_at p) same ∙ apart | inr later ↦ none_there p rows e r later ]
-] refl none
-
-pub adds : (old new : State) (kind name body : List ℕ) (r : Result ℕ Error) → HadTables old → get (texts_of old.now.trees) (kind, name) ≡ None → (old.in_transaction ≡ false → (e : Error) × (r ≡ Err e))
+pub adds : (old new : State) (kind name body : List ℕ) (r : Result ℕ Error) → HadTables old → (old.in_transaction ≡ false → (e : Error) × (r ≡ Err e))
     → (IsTrue old.in_transaction → ExecutesInside 0 insert_text (Text kind ∷ Text name ∷ Text body ∷ []) old new r) → OnOk r (HasMade old new (with_texts (content_of old.now.trees) (insert (texts_of old.now.trees) (kind, name) body)))
-adds old new kind name body (Err e) has none ended runs = tt
-adds old new kind name body (Ok count) has none ended runs = elim (cases_Bool old.in_transaction) [
+adds old new kind name body (Err e) has ended runs = tt
+adds old new kind name body (Ok count) has ended runs = elim (cases_Bool old.in_transaction) [
   | inl within ↦
       let ran = runs within in
       let it = has ran.1.was_open in
       let rows = old.now.trees 1 in
       let row = text_row (next_rowid rows) kind name body in
       let after = inserts old new kind name body (Ok count) it.schema ran.0 in
-      let apart = none_there (kind, name) rows (sym (get-from_entries text_pair_total (map entry_in rows) (kind, name)) ∙ none) in
       let is : IsTextRow row = record { id = next_rowid rows; kind = kind; name = name; body = body; has_id = refl; has_kind = refl; has_name = refl; has_body = refl } in
+      let apart = alone after.2 rows row after.3 after.4 it.whole.are_texts is after.1 in
       record {
         shown = ran.1;
         tables = still old new after.0.schema after.0.listed it after.0.layout_is (subst AreTexts (sym after.0.rows_are) (are_put row rows it.whole.are_texts is after.1));
@@ -84,7 +76,7 @@ adds old new kind name body (Ok count) has none ended runs = elim (cases_Bool ol
   | inr outside ↦ absurd (let e = (ended outside).1 in cc)
 ]
 
-put_back : (t : Texts) (p : Place) (body : List ℕ) → insert (remove t p) p body ≡ insert t p body
+pub put_back : (t : Texts) (p : Place) (body : List ℕ) → insert (remove t p) p body ≡ insert t p body
 put_back t p body = same_map text_pair_total text_pair_exact _ _ (λ q. get-insert text_pair_total (remove t p) p body q ∙ ap (cond (eq_by_cmp text_pair_cmp q p) (Some body)) (get-remove text_pair_total t p q)
     ∙ chosen (eq_by_cmp text_pair_cmp q p) (get t q) ∙ sym (get-insert text_pair_total t p body q))
   where
@@ -92,19 +84,19 @@ put_back t p body = same_map text_pair_total text_pair_exact _ _ (λ q. get-inse
     chosen true x = refl
     chosen false x = refl
 
+-- an insert that failed
+pub fails : (old new : State) (sql : List ℕ) (params : Row) (r : Result ℕ Error) → (old.in_transaction ≡ false → new.in_transaction ≡ false) → (IsTrue old.in_transaction → ExecutesInside 0 sql params old new r) → OnErr r (IsNotMade old new)
+fails old new sql params (Ok count) ended runs = tt
+fails old new sql params (Err e) ended runs = elim (cases_Bool old.in_transaction) [
+  | inl within ↦ elim (runs within) [
+    | inl ran ↦ elim ran.1 [ inl same ↦ inl same | inr back ↦ inr back.autocommit ]
+    | inr escapes ↦ inl escapes.2
+  ]
+  | inr outside ↦ inr (ended outside)
+]
+
 pub shows_then : (a b c : State) → Shows a b b.now a.committed true → Shows b c c.now b.committed true → Shows a c c.now a.committed true
 shows_then a b c p q = record { was_open = p.was_open; is_open = q.is_open; now_is = refl; committed_is = q.committed_is ∙ p.committed_is; mode = q.mode }
-
-pub none_after : (old mid : State) (p : Place) → HasMade old mid (with_texts (content_of old.now.trees) (remove (texts_of old.now.trees) p)) → get (texts_of mid.now.trees) p ≡ None
-none_after old mid p made = ap (λ (c : Content). get c.texts p) made.holds ∙ get-remove_same text_pair_total text_pair_exact (texts_of old.now.trees) p
-
-pub puts : (old mid new : State) (p : Place) (body : List ℕ) → HasMade old mid (with_texts (content_of old.now.trees) (remove (texts_of old.now.trees) p))
-    → HasMade mid new (with_texts (content_of mid.now.trees) (insert (texts_of mid.now.trees) p body)) → HasMade old new (with_texts (content_of old.now.trees) (insert (texts_of old.now.trees) p body))
-puts old mid new p body first second = record {
-  shown = shows_then old mid new first.shown second.shown;
-  tables = second.tables;
-  holds = second.holds ∙ ap (λ (c : Content). with_texts c (insert c.texts p body)) first.holds ∙ ap (with_texts (content_of old.now.trees)) (put_back (texts_of old.now.trees) p body);
-}
 
 -- ---- the version
 

@@ -1,5 +1,6 @@
 pub mod Meanings
 pub mod RowLemmas
+pub mod ReplaceLemmas
 pub mod StatementLemmas
 pub mod VersionLemmas
 pub mod EffectLemmas
@@ -12,3 +13,4 @@ pub mod MakeLemmas
 pub mod CheckLemmas
 pub mod OpenLemmas
 pub mod HistoryLemmas
+pub mod UniqueLemmas

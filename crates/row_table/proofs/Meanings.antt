@@ -8,7 +8,7 @@ use Rattle.sqlite_value.specs.declared.keys.Key.{Key}
 use Rattle.sqlite.specs.Term.{Term, lit, col, op2}
 use Rattle.sqlite.specs.Query.{Query, inner, end}
 use Rattle.sqlite.specs.Source.TheVariants.{Values}
-use Rattle.sqlite.specs.Command.TheVariants.{Insert, Delete, Select, CreateTable}
+use Rattle.sqlite.specs.Command.TheVariants.{Insert, Update, Delete, Select, CreateTable}
 use Rattle.sqlite.specs.Compile.{table_defined_by}
 use Rattle.sqlite_tied.specs.Compute.{everything}
 use Rattle.sqlite.specs.Listing.{understood, reads_listing}
@@ -20,6 +20,9 @@ insert_text = codes "INSERT INTO row_text(kind, name, body) VALUES (?1, ?2, ?3)"
 
 abbrev pub delete_text : List ℕ
 delete_text = codes "DELETE FROM row_text WHERE kind = ?1 AND name = ?2"
+
+abbrev pub update_text : List ℕ
+update_text = codes "UPDATE row_text SET body = ?3 WHERE kind = ?1 AND name = ?2"
 
 abbrev pub select_text : List ℕ
 select_text = codes "SELECT kind, name, body FROM row_text ORDER BY kind, name"
@@ -52,6 +55,9 @@ delete_tests = op2 (binary.Compare compare.Eq collation.Binary) (col 1 1) (col 0
 abbrev pub delete_query : Query
 delete_query = query_over 1 delete_tests (col 1 0 ∷ []) []
 
+abbrev pub update_query : Query
+update_query = query_over 1 delete_tests (col 1 0 ∷ col 1 0 ∷ col 1 1 ∷ col 1 2 ∷ col 0 2 ∷ []) []
+
 abbrev pub select_query : Query
 select_query = query_over 1 [] (col 1 1 ∷ col 1 2 ∷ col 1 3 ∷ []) ((col 1 1, rising) ∷ (col 1 2, rising) ∷ [])
 
@@ -79,6 +85,14 @@ delete_is = refl
 pub delete_plain : IsPlain (understood both_tables delete_text)
 unfolding understood everything
 delete_plain = (refl, refl)
+
+pub update_is : command_of (understood both_tables update_text) ≡ Update 1 (record { lets = []; body = update_query })
+unfolding understood everything
+update_is = refl
+
+pub update_plain : IsPlain (understood both_tables update_text)
+unfolding understood everything
+update_plain = (refl, refl)
 
 pub select_is : (command_of (understood both_tables select_text) ≡ Select (record { lets = []; body = select_query }) (codes "kind" ∷ codes "name" ∷ codes "body" ∷ [])) × (reads_listing both_tables select_text ≡ false)
 unfolding understood everything

@@ -24,7 +24,7 @@ is_at p r = eq_by_cmp text_pair_cmp p (place_in r)
 abbrev found : Place → List Row → Option (List ℕ)
 found q rows = find text_pair_cmp q (map entry_in rows)
 
-same_place : (p q : Place) → eq_by_cmp text_pair_cmp p q ≡ true → p ≡ q
+pub same_place : (p q : Place) → eq_by_cmp text_pair_cmp p q ≡ true → p ≡ q
 same_place p q h = text_pair_exact p q (equal_of_is_eq (text_pair_cmp p q) h)
 
 tied : (p : Place) → eq_by_cmp text_pair_cmp p p ≡ true

@@ -40,6 +40,7 @@ use Rattle.std.proofs.lemmas.List.Sorted.{Contains-permutation}
 use Rattle.std.specs.Cmp.{eq_by_cmp_equiv}
 use Rattle.sqlite_value.proofs.OrderLemmas.{value_cmp-Text}
 use Rattle.sqlite_catalog.specs.Listing.{IsSound}
+use Rattle.sqlite_schema.specs.Rules.{Fits}
 use Rattle.tables.specs.Keys.{text_cmp, text_total}
 use Rattle.row_table.specs.Layout.{both_tables, row_table}
 use Rattle.row_table.specs.Texts.{text_row, IsTextRow, AreTexts}
@@ -48,7 +49,7 @@ use Rattle.row_table.proofs.RowLemmas.{is_at, rest, cleared}
 
 -- ---- lists
 
-has_matched : {X Y : Type 0} (p : X → Bool) (f : X → Y) (xs : List X) (y : Y) → Has (flat_map (λ x. cond (p x) (f x ∷ []) []) xs) y → (x : X) × Has xs x × (p x ≡ true) × (y ≡ f x)
+pub has_matched : {X Y : Type 0} (p : X → Bool) (f : X → Y) (xs : List X) (y : Y) → Has (flat_map (λ x. cond (p x) (f x ∷ []) []) xs) y → (x : X) × Has xs x × (p x ≡ true) × (y ≡ f x)
 has_matched p f [] y h = absurd h
 has_matched {X} {Y} p f (x ∷ xs) y h = go (p x) refl h (has_matched p f xs y)
   where
@@ -58,7 +59,7 @@ has_matched {X} {Y} p f (x ∷ xs) y h = go (p x) refl h (has_matched p f xs y)
     go true is (inr there) later = let r = later there in (r.0, inr r.1, r.2, r.3)
     go false is there later = let r = later there in (r.0, inr r.1, r.2, r.3)
 
-matched_has : {X Y : Type 0} (p : X → Bool) (f : X → Y) (xs : List X) (x : X) → Has xs x → p x ≡ true → Has (flat_map (λ z. cond (p z) (f z ∷ []) []) xs) (f x)
+pub matched_has : {X Y : Type 0} (p : X → Bool) (f : X → Y) (xs : List X) (x : X) → Has xs x → p x ≡ true → Has (flat_map (λ z. cond (p z) (f z ∷ []) []) xs) (f x)
 matched_has p f [] x h passes = absurd h
 matched_has p f (z ∷ xs) x (inl same) passes = rw (← same, passes) (inl refl)
 matched_has p f (z ∷ xs) x (inr later) passes = has_right (cond (p z) (f z ∷ []) []) (flat_map (λ w. cond (p w) (f w ∷ []) []) xs) (f x) (matched_has p f xs x later passes)
@@ -78,14 +79,14 @@ has_permuted xs ys x same h = has_contained ys x (Contains-permutation xs ys x s
 
 -- ---- a part of a statement that gave a value did not stop on the way
 
-went : {B E R : Type 0} {b : B} {Stops : E → Type 0} → ((stop : E) × Stops stop × (Ok b ≡ Err stop)) ⊎ R → R
+pub went : {B E R : Type 0} {b : B} {Stops : E → Type 0} → ((stop : E) × Stops stop × (Ok b ≡ Err stop)) ⊎ R → R
 went (inl stopped) = absurd (let e = stopped.2 in cc)
 went (inr on) = on
 
-same_value : {B E : Type 0} {a b : B} → ◌≡◌ {A = Result B E} (Ok a) (Ok b) → a ≡ b
+pub same_value : {B E : Type 0} {a b : B} → ◌≡◌ {A = Result B E} (Ok a) (Ok b) → a ≡ b
 same_value e = cc
 
-either : (b : Bool) (x : Value) → cond b x x ≡ x
+pub either : (b : Bool) (x : Value) → cond b x x ≡ x
 either true x = refl
 either false x = refl
 
@@ -101,22 +102,22 @@ tied Less = refl
 tied Equal = refl
 tied Greater = refl
 
-both_tied : (a b : Ordering) → (is_eq a && (is_eq b && true)) ≡ is_eq (ordering_then a b)
+pub both_tied : (a b : Ordering) → (is_eq a && (is_eq b && true)) ≡ is_eq (ordering_then a b)
 both_tied Less b = refl
 both_tied Equal Less = refl
 both_tied Equal Equal = refl
 both_tied Equal Greater = refl
 both_tied Greater b = refl
 
-equal_texts : (s t : List ℕ) → ops.is_true (ops.binary (binary.Compare compare.Eq collation.Binary) (Text s) (Text t)) ≡ is_eq (text_cmp t s)
+pub equal_texts : (s t : List ℕ) → ops.is_true (ops.binary (binary.Compare compare.Eq collation.Binary) (Text s) (Text t)) ≡ is_eq (text_cmp t s)
 unfolding ops.binary value_cmp
 equal_texts s t = tied (value_cmp (Text s) (Text t)) ∙ ap is_eq (value_cmp-Text s t) ∙ (eq_by_cmp_equiv text_total).symm s t
 
-tests_are : (kind name : List ℕ) (r : Row) → IsTextRow r → list_all (holds ((Text kind ∷ Text name ∷ []) ∷ r ∷ [])) delete_tests ≡ is_at (kind, name) r
-tests_are kind name r is =
+pub tests_are : (kind name : List ℕ) (more : Row) (r : Row) → IsTextRow r → list_all (holds ((Text kind ∷ Text name ∷ more) ∷ r ∷ [])) delete_tests ≡ is_at (kind, name) r
+tests_are kind name more r is =
     let first = ap (λ (v : Value). ops.is_true (ops.binary (binary.Compare compare.Eq collation.Binary) v (Text kind))) is.has_kind ∙ equal_texts is.kind kind in
     let second = ap (λ (v : Value). ops.is_true (ops.binary (binary.Compare compare.Eq collation.Binary) v (Text name))) is.has_name ∙ equal_texts is.name name in
-    ap (λ (b : Bool). b && (holds ((Text kind ∷ Text name ∷ []) ∷ r ∷ []) (op2 (binary.Compare compare.Eq collation.Binary) (col 1 2) (col 0 1)) && true)) first
+    ap (λ (b : Bool). b && (holds ((Text kind ∷ Text name ∷ more) ∷ r ∷ []) (op2 (binary.Compare compare.Eq collation.Binary) (col 1 2) (col 0 1)) && true)) first
     ∙ ap (λ (b : Bool). is_eq (text_cmp kind is.kind) && (b && true)) second
     ∙ both_tied (text_cmp kind is.kind) (text_cmp name is.name)
     ∙ sym (ap (λ (k : List ℕ). is_eq (ordering_then (text_cmp kind k) (text_cmp name (bytes (column r 2))))) (ap bytes is.has_kind) ∙ ap (λ (n : List ℕ). is_eq (ordering_then (text_cmp kind is.kind) (text_cmp name n))) (ap bytes is.has_name))
@@ -153,9 +154,9 @@ deleted_ids kind name db rows answer texts =
     let r = found.sound x.0 x.1 in
     let is = texts.each r.0 r.1 in
     let one : id ≡ is.id = x.2 ∙ ap (λ (y : Row). id_in (rowid y)) r.3 ∙ ap id_in is.has_id in
-    (r.0, r.1, sym (tests_are kind name r.0 is) ∙ r.2, is.has_id ∙ ap Int (sym one)))
+    (r.0, r.1, sym (tests_are kind name [] r.0 is) ∙ r.2, is.has_id ∙ ap Int (sym one)))
     (λ r id i at same.
-    let there = found.complete r i (tests_are kind name r (texts.each r i) ∙ at) in
+    let there = found.complete r i (tests_are kind name [] r (texts.each r i) ∙ at) in
     subst (Has (ids_of rows)) (ap id_in same) (mapped_has (λ (x : Row). id_in (rowid x)) rows (rowid r ∷ []) there))
 
 -- the tables and the version stay, and the rows are these
@@ -195,7 +196,8 @@ deletes old new kind name (Ok count) has texts h =
 -- ---- INSERT
 
 pub inserts : (old new : State) (kind name body : List ℕ) (r : Result ℕ Error) → old.now.schema ≡ both_tables → Executes insert_text (Text kind ∷ Text name ∷ Text body ∷ []) old new r
-    → OnOk r (HasRows old.now.trees new.now (put_row (text_row (next_rowid (old.now.trees 1)) kind name body) (old.now.trees 1)) × (is_taken (old.now.trees 1) (text_row (next_rowid (old.now.trees 1)) kind name body) ≡ false))
+    → OnOk r (HasRows old.now.trees new.now (put_row (text_row (next_rowid (old.now.trees 1)) kind name body) (old.now.trees 1)) × (is_taken (old.now.trees 1) (text_row (next_rowid (old.now.trees 1)) kind name body) ≡ false)
+    × (next : Trees) × Fits both_tables next × (next 1 ≡ put_row (text_row (next_rowid (old.now.trees 1)) kind name body) (old.now.trees 1)))
 inserts old new kind name body (Err e) has h = tt
 inserts old new kind name body (Ok count) has h =
     let params = Text kind ∷ Text name ∷ Text body ∷ [] in
@@ -219,6 +221,9 @@ inserts old new kind name body (Ok count) has h =
         rows_are = ap (λ (d : Database). d.trees 1) now ∙ ap (λ (t : Trees). t 1) trees ∙ step.rows ∙ ap (put_all (db 1)) news;
       },
       front_fresh (db 1) (text_row (next_rowid (db 1)) kind name body) (subst (λ (l : List Row). are_fresh (db 1) l ≡ true) news step.fresh),
+      written.0,
+      step.fits,
+      step.rows ∙ ap (put_all (db 1)) news,
     )
   where
     turned : (a b : Bool) → (not a && b) ≡ true → a ≡ false

@@ -2,12 +2,17 @@
 use Rattle.std.specs.Prelude.{◌≡◌, ◌⊎◌, ℕ, ℤ, List, [], ◌∷◌, map, Option, Some, None}
 use Rattle.std.specs.Ordering.{int_cmp}
 use Rattle.std.specs.declared.cmp.Ordering.TheVariants.{Less}
+use Rattle.sqlite.specs.declared.types.Value.TheVariants.{Text}
 use Rattle.sqlite.specs.Order.{Row, column}
 use Rattle.sqlite.specs.Schema.{Schema}
 use Rattle.sqlite.specs.Table.{Table}
 use Rattle.sqlite_rules.specs.Lists.{Has}
 use Rattle.row_table.specs.Layout.{layout_table, row_table}
 use Rattle.row_table.specs.Texts.{IsTextRow}
+
+-- a column of a row has a text
+abbrev pub HasText : Row → ℕ → Type 0
+HasText r at = (text : List ℕ) × (column r at ≡ Text text)
 
 -- the rows show a rowid and three texts, and no rowid twice
 pub record AreWhole (rows : List Row) : Type 0 where

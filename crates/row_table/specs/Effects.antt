@@ -1,13 +1,13 @@
 -- What the statements on the tables do to a connection.
-use Rattle.std.specs.Prelude.{◌≡◌, ℕ, true, List, [], ◌∷◌, Option, Some, None, IsTrue}
+use Rattle.std.specs.Prelude.{◌≡◌, ◌⊎◌, ℕ, true, false, List, [], ◌∷◌, Option, Some, None, IsTrue}
 use Rattle.std.specs.FinMap.{insert, remove}
 use Rattle.sqlite.specs.Tree.{Trees}
 use Rattle.sqlite.specs.Effect.{Database}
-use Rattle.sqlite.specs.State.{State, Shows}
+use Rattle.sqlite.specs.State.{State, IsUnchanged, Shows}
 use Rattle.sqlite_catalog.specs.Listing.{IsSound}
 use Rattle.row_table.specs.Layout.{both_tables}
-use Rattle.row_table.specs.Texts.{Place, Texts}
-use Rattle.row_table.specs.Contents.{Content, HasVersion, IsWhole, content_of}
+use Rattle.row_table.specs.Texts.{Place, Texts, texts_of}
+use Rattle.row_table.specs.Contents.{Content, HasVersion, IsWhole, content_of, with_texts}
 
 -- a database with the two tables and nothing else, with one version, and rows that are texts
 pub record HasTables (db : Database) : Type 0 where
@@ -23,6 +23,16 @@ pub record HasMade (old new : State) (content : Content) : Type 0 where
   pub shown : Shows old new new.now old.committed true
   pub tables : HasTables new.now
   pub holds : content_of new.now.trees ≡ content
+
+-- a statement that failed left all as it was, or the transaction is over
+abbrev pub IsNotMade : State → State → Type 0
+IsNotMade old new = IsUnchanged old new ⊎ (new.in_transaction ≡ false)
+
+-- How many texts were replaced: where none stood under the kind and the name all is as it was, and where one did this
+-- stands in its place.
+abbrev pub IsReplaced : List ℕ → List ℕ → List ℕ → State → State → ℕ → Type 0
+IsReplaced kind name body old new count =
+    (count ≡ 0 → HasMade old new (content_of old.now.trees)) × (count ≡ 1 → HasMade old new (with_texts (content_of old.now.trees) (insert (texts_of old.now.trees) (kind, name) body)))
 
 -- the transaction goes on, without a version
 pub record HasNoVersion (old new : State) : Type 0 where

@@ -1,14 +1,29 @@
 //! Whether a store that has the two tables keeps what it should.
 
-ghost use Rattle.std.specs.Prelude.{◌≡◌, ◌≢◌, ◌⊎◌, false, pos, [], ◌∷◌, IsTrue, IfOk, IfSome, None, map};
+ghost use Rattle.std.specs.Prelude.{◌≡◌, ◌≢◌, ◌⊎◌, false, pos, [], ◌∷◌, IsTrue, IfOk, IfSome, None, OnOk, map};
 ghost use Rattle.sqlite.specs.declared.types.Value.TheVariants.{Int};
 ghost use Rattle.sqlite.specs.Order.{column};
 ghost use Rattle.row_table.specs.Texts.{IsTextRow};
 ghost use Rattle.row_table.specs.Contents.{IsNumbered};
-ghost use Rattle.row_table.specs.Checking.{AreWhole, IsAbove};
+ghost use Rattle.row_table.specs.Checking.{AreWhole, HasText, IsAbove};
 
+use sqlite::types::{Type, ValueRef};
 use sqlite::{Error, Row};
 use std::cmp::Ordering;
+
+/// Whether a column of a row has a text, which is not copied.
+fn check_text(row: &Row, at: usize) -> Result<(), Error>
+    ensures { OnOk result (HasText row.now at) }
+{
+    let value = row.get_ref(at)?;
+    let ValueRef::Text(bytes) = value else {
+        return Err(Error::InvalidColumnType(at, Type::of(value)));
+    };
+    match str::from_utf8(bytes) {
+        Ok(_) => Ok(()),
+        Err(_) => Err(Error::Utf8Error(at)),
+    }
+}
 
 /// The rowid of a row that also has three texts.
 fn read_id(row: &Row) -> Result<i64, Error>
@@ -16,9 +31,9 @@ fn read_id(row: &Row) -> Result<i64, Error>
     ensures id { IfOk result (λ id. column row.now 0 ≡ Int id) }
 {
     let id = row.get(0)?;
-    let _kind: String = row.get(1)?;
-    let _name: String = row.get(2)?;
-    let _text: String = row.get(3)?;
+    check_text(row, 1)?;
+    check_text(row, 2)?;
+    check_text(row, 3)?;
     Ok(id)
 }
 

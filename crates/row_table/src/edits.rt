@@ -1,6 +1,6 @@
 //! Texts that are to be put in their places, or taken away.
 
-ghost use Rattle.std.specs.Prelude.{◌≡◌, ◌≢◌, true, IsTrue, OnOk, OnErr, false, [], string_bytes, option_map};
+ghost use Rattle.std.specs.Prelude.{◌≡◌, ◌≢◌, true, IsTrue, OnOk, OnErr, false, [], Some, string_bytes, option_map};
 ghost use Rattle.sqlite.specs.State.{HasCleanDisk, KeepsCommit, Survives};
 ghost use Rattle.sqlite.specs.Held.{state};
 ghost use Rattle.row_table.specs.Texts.{texts_of};
@@ -15,7 +15,7 @@ ghost use Rattle.row_table.specs.Effects.{
   set_all,
 };
 
-use crate::statements::{clear, put, put_version};
+use crate::statements::{clear, put, put_new, put_version};
 use sqlite::{Alter, Connection, Error, Transaction};
 use std::marker::Model;
 
@@ -25,6 +25,8 @@ pub struct TextEdit {
     kind: String,
     name: String,
     text: Option<String>,
+    /// Whether most likely nothing stands there. It says how the text is put, and changes nothing of what stands then.
+    is_likely_new: bool,
 }
 
 impl Model for TextEdit {
@@ -44,7 +46,24 @@ impl TextEdit {
     pub fn new(kind: String, name: String, text: Option<String>) -> TextEdit
         ensures { result ≡ ((string_bytes kind, string_bytes name), option_map string_bytes text) }
     {
-        TextEdit { kind, name, text }
+        TextEdit {
+            kind,
+            name,
+            text,
+            is_likely_new: false,
+        }
+    }
+
+    /// The text that is to stand under a kind and a name that most likely have none.
+    pub fn likely_new(kind: String, name: String, text: String) -> TextEdit
+        ensures { result ≡ ((string_bytes kind, string_bytes name), Some (string_bytes text)) }
+    {
+        TextEdit {
+            kind,
+            name,
+            text: Some(text),
+            is_likely_new: true,
+        }
     }
 
     fn make<S: Alter>(&self, tx: &mut Transaction<'_, S>) -> Result<usize, Error>
@@ -55,6 +74,9 @@ impl TextEdit {
         ensures survives { Survives (state S.Store tx.old.conn.now) (state S.Store tx.new.conn.now) (λ _. ⊥) }
     {
         match &self.text {
+            Some(text) if self.is_likely_new => {
+                put_new(tx, self.kind.as_str(), self.name.as_str(), text.as_str())
+            }
             Some(text) => put(tx, self.kind.as_str(), self.name.as_str(), text.as_str()),
             None => clear(tx, self.kind.as_str(), self.name.as_str()),
         }

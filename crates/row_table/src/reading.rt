@@ -99,14 +99,14 @@ fn follows(all: &[TextRow], next: &TextRow) -> bool
     }
 }
 
-/// Reads rows of kind, name and text, which have to be in order.
-fn read_all(alloc: Global, rows: &[Row]) -> Result<Vec<TextRow>, Error>
-    ensures read { IfOk result (λ v. v.items ≡ map entry_shown rows.now) }
+/// Reads rows of kind, name and text, which have to be in order. Each row is let go once it is read.
+fn read_all(alloc: Global, rows: Vec<Row>) -> Result<Vec<TextRow>, Error>
+    ensures read { IfOk result (λ v. v.items ≡ map entry_shown rows.items) }
     ensures sorted { IfOk result (λ v. T (is_sorted text_pair_cmp v.items)) }
 {
     let mut all = Vec::new(alloc);
     for row in rows {
-        let next = TextRow::read(row)?;
+        let next = TextRow::read(&row)?;
         if !follows(all.as_slice(), &next) {
             return Err(Error::SqliteFailure(ErrorCode::DatabaseCorrupt));
         }
@@ -128,5 +128,5 @@ pub(crate) fn load<S: Alter>(alloc: Global, conn: &mut Connection<S>) -> Result<
         conn,
         "SELECT kind, name, body FROM row_text ORDER BY kind, name",
     )?;
-    read_all(alloc, rows.as_slice())
+    read_all(alloc, rows)
 }

@@ -1,6 +1,6 @@
 -- What the indexes of a site find is what is looked for.
 use Rattle.std.proofs.Common.{◌≡◌, ◌<◌, ℕ, arith, Bool, true, false, List, [], ◌∷◌, refl, sym, ap, subst, ◌∙◌}
-use Rattle.std.specs.Prelude.{◌≢◌, Option, Some, None, IsTrue, IsSome, IsNone, IfNone, Contains, is_some, slice_get, nat_eq}
+use Rattle.std.specs.Prelude.{◌≢◌, ◌↔◌, IfSome, Option, Some, None, IsTrue, IsSome, IsNone, IfNone, Contains, is_some, slice_get, nat_eq}
 use Rattle.std.proofs.lemmas.Option.{same_Some}
 use Rattle.std.specs.List.{list_any, position}
 use Rattle.std.specs.Cmp.Lexicographic.{pointwise}
@@ -171,59 +171,69 @@ module _ (locations : List Location) where
         go None e = let absent : is_some (get index uid) ≡ false = ap is_some e in absurd (cc)
         go (Some p) e = of_site p uid (h.sound uid p e)
 
-    -- the EVSE of a key, and where it stands
-    module _ (one : OneEvseEach locations) (uid : List ℕ) (p : Position) (known : get index uid ≡ Some p) where
-      pub no_evse_there : ((e : Evse) → IsEvseAt locations p e → ⊥) → ⊥
-      no_evse_there none = let has = h.sound uid p known in none has.evse has.at
+    -- what the index finds stands there
+    pub found_there : (uid : List ℕ) (r : Option Position) → r ≡ get index uid → IfSome r (λ p. HasEvse locations p uid)
+    found_there uid None is = tt
+    found_there uid (Some p) is = h.sound uid p (sym is)
 
-      -- it has the uid
-      pub its_uid : (e : Evse) → IsEvseAt locations p e → key e.uid ≡ uid
-      its_uid e there =
-          let has = h.sound uid p known in
-          ap (λ (x : Evse). key x.uid) (one_evse locations p e has.evse there has.at) ∙ has.same
+    -- and what it does not find is not of the site
+    pub none_there : (uid : List ℕ) (r : Option Position) → r ≡ get index uid → IfNone r (IsEvse locations uid → ⊥)
+    none_there uid None is = unknown_evse uid (sym is)
+    none_there uid (Some p) is = tt
 
-      module _ (l : Location) (stands : slice_get locations p.0 ≡ Some l) (e : Evse) (there : IsEvseAt locations p e) where
-        -- and is of the location that stands at the first part
-        pub found_of : IsEvseOf locations uid l e
-        found_of = record { listed = contained locations p.0 l stands; within = of_location p.0 l stands p.1 e there; same = its_uid e there }
+  -- the EVSE of a key that stands at a position
+  module _ (uid : List ℕ) (p : Position) (has : HasEvse locations p uid) where
+    pub no_evse_there : ((e : Evse) → IsEvseAt locations p e → ⊥) → ⊥
+    no_evse_there none = none has.evse has.at
 
-        -- and no other EVSE is
-        pub sole_of : (m : Location) (f : Evse) → IsEvseOf locations uid m f → (m ≡ l) × (f ≡ e)
-        sole_of m f of =
-            let i = place locations m of.listed in
-            let j = place m.evses f of.within in
-            let at : IsEvseAt locations (i.0, j.0) f = record { location = m; stands = i.1; within = j.1 } in
-            let same : p ≡ (i.0, j.0) = one uid p (i.0, j.0) (h.sound uid p known) (record { evse = f; at = at; same = of.same }) in (
-              same_Some m l (sym i.1 ∙ ap (λ (q : Position). slice_get locations q.0) (sym same) ∙ stands),
-              one_evse locations p f e (subst (λ z. IsEvseAt locations z f) (sym same) at) there,
-            )
+    -- it has the uid
+    pub its_uid : (e : Evse) → IsEvseAt locations p e → key e.uid ≡ uid
+    its_uid e there = ap (λ (x : Evse). key x.uid) (one_evse locations p e has.evse there has.at) ∙ has.same
 
-    -- the EVSE of a uid, if it is one of the location
-    module _ (one : OneEvseEach locations) (at : ℕ) (l : Location) (stands : slice_get locations at ≡ Some l) (uid : List ℕ) where
-      stands_there : (e : Evse) → IsEvseFor l (Some uid) e → (j : ℕ) × IsEvseAt locations (at, j) e × HasEvse locations (at, j) (key uid)
-      stands_there e is = let p = position_of at l stands (Some uid) e is in (p.0, p.1, record { evse = e; at = p.1; same = is.named })
+    module _ (l : Location) (stands : slice_get locations p.0 ≡ Some l) (e : Evse) (there : IsEvseAt locations p e) where
+      -- and is of the location that stands at the first part
+      pub found_of : IsEvseOf locations uid l e
+      found_of = record { listed = contained locations p.0 l stands; within = of_location p.0 l stands p.1 e there; same = its_uid e there }
 
-      pub unknown_uid : get index (key uid) ≡ None → (e : Evse) → IsEvseFor l (Some uid) e → ⊥
-      unknown_uid none e is =
-          let p = stands_there e is in
-          let there : IsTrue (is_some (get index (key uid))) = h.complete (key uid) (at, p.0) tt p.2 in
-          let absent : is_some (get index (key uid)) ≡ false = ap is_some none in
-          cc
+      -- and no other EVSE is
+      pub sole_of : OneEvseEach locations → (m : Location) (f : Evse) → IsEvseOf locations uid m f → (m ≡ l) × (f ≡ e)
+      sole_of one m f of =
+          let i = place locations m of.listed in
+          let j = place m.evses f of.within in
+          let at : IsEvseAt locations (i.0, j.0) f = record { location = m; stands = i.1; within = j.1 } in
+          let same : p ≡ (i.0, j.0) = one uid p (i.0, j.0) has (record { evse = f; at = at; same = of.same }) in (
+            same_Some m l (sym i.1 ∙ ap (λ (q : Position). slice_get locations q.0) (sym same) ∙ stands),
+            one_evse locations p f e (subst (λ z. IsEvseAt locations z f) (sym same) at) there,
+          )
 
-      module _ (p : Position) (known : get index (key uid) ≡ Some p) where
-        same_position : (e : Evse) → IsEvseFor l (Some uid) e → (j : ℕ) × IsEvseAt locations (at, j) e × (p ≡ (at, j))
-        same_position e is = let q = stands_there e is in (q.0, q.1, one (key uid) p (at, q.0) (h.sound (key uid) p known) q.2)
+  -- the EVSE of a uid, if it is one of the location
+  module _ (at : ℕ) (l : Location) (stands : slice_get locations at ≡ Some l) (uid : List ℕ) where
+    pub is_of_site : (e : Evse) → IsEvseFor l (Some uid) e → IsEvse locations (key uid)
+    is_of_site e is = record { location = l; evse = e; listed = contained locations at l stands; within = is.listed; same = is.named }
 
-        pub other_location : p.0 ≢ at → (e : Evse) → IsEvseFor l (Some uid) e → ⊥
-        other_location other e is = let q = same_position e is in other (ap (λ (x : Position). x.0) q.2)
+    module _ (p : Position) (has : HasEvse locations p (key uid)) where
+      same_position : OneEvseEach locations → (e : Evse) → IsEvseFor l (Some uid) e → (j : ℕ) × IsEvseAt locations (at, j) e × (p ≡ (at, j))
+      same_position one e is =
+          let q = position_of at l stands (Some uid) e is in
+          (q.0, q.1, one (key uid) p (at, q.0) has (record { evse = e; at = q.1; same = is.named }))
 
-        pub found_uid : p.0 ≡ at → (e : Evse) → IsEvseAt locations p e → IsEvseFor l (Some uid) e
-        found_uid same e there = record {
-          listed = of_location p.0 l (ap (slice_get locations) same ∙ stands) p.1 e there;
-          named = its_uid one (key uid) p known e there;
-        }
+      pub other_location : OneEvseEach locations → p.0 ≢ at → (e : Evse) → IsEvseFor l (Some uid) e → ⊥
+      other_location one other e is = let q = same_position one e is in other (ap (λ (x : Position). x.0) q.2)
 
-        pub sole_uid : (e : Evse) → IsEvseAt locations p e → (f : Evse) → IsEvseFor l (Some uid) f → f ≡ e
-        sole_uid e there f is =
-            let q = same_position f is in
-            one_evse locations p f e (subst (λ z. IsEvseAt locations z f) (sym q.2) q.1) there
+      pub found_uid : p.0 ≡ at → (e : Evse) → IsEvseAt locations p e → IsEvseFor l (Some uid) e
+      found_uid same e there = record {
+        listed = of_location p.0 l (ap (slice_get locations) same ∙ stands) p.1 e there;
+        named = its_uid (key uid) p has e there;
+      }
+
+      pub sole_uid : OneEvseEach locations → (e : Evse) → IsEvseAt locations p e → (f : Evse) → IsEvseFor l (Some uid) f → f ≡ e
+      sole_uid one e there f is =
+          let q = same_position one f is in
+          one_evse locations p f e (subst (λ z. IsEvseAt locations z f) (sym q.2) q.1) there
+
+      -- one of the location passes a test where the test passes its uid
+      pub passes_there : p.0 ≡ at → (b : Bool) (test : List ℕ → Bool) → b ≡ test (key uid) → IsTrue b ↔ ((e : Evse) × IsEvseFor l (Some uid) e × IsTrue (test (key e.uid)))
+      passes_there same b test is = (
+        λ yes. (has.evse, found_uid same has.evse has.at, ap test has.same ∙ sym is ∙ yes),
+        λ x. is ∙ ap test (sym x.1.named) ∙ x.2,
+      )

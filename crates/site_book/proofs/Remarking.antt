@@ -12,8 +12,8 @@ use Rattle.site_book.specs.declared.claim.Claim.{Claim}
 use Rattle.site_book.specs.declared.indexes.Indexes.{Indexes}
 use Rattle.site_book.specs.Indexes.{AreIndexes, HasFlags, Remarks}
 use Rattle.site_book.specs.Sites.{OutOfService, works, is_free, with_service}
-use Rattle.site_book.specs.Positions.{Position, HasEvse, OneEvseEach}
-use Rattle.site_book.proofs.Marking.{marks_set}
+use Rattle.site_book.specs.Positions.{Position, HasEvse, OneEvseEach, IsFlag}
+use Rattle.site_book.proofs.Marking.{marks_set, one_flag}
 
 told : (q k : List ℕ) → (q ≡ k) ⊎ (q ≢ k)
 told q k = elim (eq_by_cmp text_cmp q k) as (λ b. eq_by_cmp text_cmp q k ≡ b → (q ≡ k) ⊎ (q ≢ k)) [
@@ -59,6 +59,13 @@ module _ (locations : List Location) (one : OneEvseEach locations) (t : Indexes)
     working = (works (shown_of text_cmp t.out_of_service) uid, are.working.right uid p here);
     free = (is_free (shown_of text_cmp t.claims) (shown_of text_cmp t.out_of_service) uid, are.free.right uid p here);
   }
+
+  -- and say what its claim and its service say
+  pub works_there : (b : Bool) → IsFlag t.working.items p b → b ≡ works (shown_of text_cmp t.out_of_service) uid
+  works_there b is = one_flag t.working.items p b _ is (are.working.right uid p here)
+
+  pub free_there : (b : Bool) → IsFlag t.free.items p b → b ≡ is_free (shown_of text_cmp t.claims) (shown_of text_cmp t.out_of_service) uid
+  free_there b is = one_flag t.free.items p b _ is (are.free.right uid p here)
 
   pub remarked : (u : Indexes) → Remarks uid p t u → ((q : List ℕ) → q ≢ uid → contains_key (shown_of text_cmp u.claims) q ≡ contains_key (shown_of text_cmp t.claims) q) →
       ((q : List ℕ) → q ≢ uid → contains_key (shown_of text_cmp u.out_of_service) q ≡ contains_key (shown_of text_cmp t.out_of_service) q) → AreIndexes locations u

@@ -38,14 +38,14 @@ ghost use Rattle.site_book.specs.Sites.{
   IsPlaceOf,
   IsRefused,
 };
-ghost use Rattle.site_book.specs.Positions.{OneEvseEach};
+ghost use Rattle.site_book.specs.Positions.{HasEvse, OneEvseEach};
 ghost use Rattle.site_book.specs.Sites.{is_claimed, is_free, works, with_service, IsWorkingEvse, IsFreeEvse};
 
 use crate::claim::{Claim, SiteFault};
 use crate::evses::{evse_at, has_connector, place_of};
 use crate::found::FoundLocation;
 use crate::id_key::IdKey;
-use crate::indexes::{Indexes, find_flag};
+use crate::indexes::{Indexes, find_flag, flag_at};
 use ocpi_text::{CiKey, CiText};
 use ocpi_types::{Evse, Location, Place, Site};
 use std::alloc::{AllocError, Global};
@@ -53,8 +53,8 @@ use std::marker::Model;
 use tables::Visits;
 
 /// A site whose locations and EVSEs are found by their ids, without case, the claims on its EVSEs, and which of these
-/// are out of service. A location is found by the hash of its id, and all else in the logarithm of the number of
-/// EVSEs. No call but `new` takes memory.
+/// are out of service. A location and an EVSE are found by the hashes of their ids, and whether an EVSE is in service or
+/// free by flags at its place. A change costs the logarithm of the number of EVSEs. No call but `new` takes memory.
 #[derive(Drop)]
 pub struct SiteBook {
     site: Site,
@@ -133,6 +133,45 @@ impl SiteBook {
         Ok(found.location())
     }
 
+    /// Where the EVSE of a key stands. None, where the site has no such EVSE.
+    fn position_of(&self, evse: CiKey<36>) -> Option<(usize, usize)>
+        ensures found { IfSome result (λ p. HasEvse self.now.site.locations p evse) }
+        ensures none { IfNone result (¬ IsEvse self.now.site.locations evse) }
+    {
+        self.indexes.position(evse)
+    }
+
+    /// Whether the EVSE that stands there is in service.
+    fn works_at(&self, position: (usize, usize)) -> bool
+        requires { (uid : List ℕ) × HasEvse self.now.site.locations position uid }
+        ensures { (uid : List ℕ) → HasEvse self.now.site.locations position uid → result ≡ works self.now.out_of_service uid }
+    {
+        flag_at(self.indexes.working.as_slice(), position)
+    }
+
+    /// Whether the EVSE that stands there is in service and not claimed.
+    fn is_free_at(&self, position: (usize, usize)) -> bool
+        requires { (uid : List ℕ) × HasEvse self.now.site.locations position uid }
+        ensures { (uid : List ℕ) → HasEvse self.now.site.locations position uid → result ≡ is_free self.now.claims self.now.out_of_service uid }
+    {
+        flag_at(self.indexes.free.as_slice(), position)
+    }
+
+    /// Where the EVSE of a uid stands, where it is one of the location.
+    fn named_position(&self, at: &FoundLocation<'_>, uid: &CiText<36>) -> Option<(usize, usize)>
+        requires { IsFoundIn self.now.site at.now }
+        ensures found { IfSome result (λ p. HasEvse self.now.site.locations p (key uid.now)) }
+        ensures there { IfSome result (λ p. p.0 ≡ at.now.position) }
+        ensures none { IfNone result ((e : Evse) → IsEvseFor (location_of at.now) (Some uid.now) e → ⊥) }
+    {
+        self.evses_differ();
+        let position = self.position_of(uid.key())?;
+        if position.0 != at.position {
+            return None;
+        }
+        Some(position)
+    }
+
     /// The EVSE of a uid, where it is one of the location.
     fn named_evse(&self, at: &FoundLocation<'_>, uid: &CiText<36>) -> Option<&Evse>
         requires { IsFoundIn self.now.site at.now }
@@ -140,10 +179,7 @@ impl SiteBook {
         ensures sole { IfSome result (λ e. (f : Evse) → IsEvseFor (location_of at.now) (Some uid.now) f → f ≡ e.now) }
         ensures none { IfNone result ((e : Evse) → IsEvseFor (location_of at.now) (Some uid.now) e → ⊥) }
     {
-        let position = *self.indexes.evses.get(uid.key())?;
-        if position.0 != at.position {
-            return None;
-        }
+        let position = self.named_position(at, uid)?;
         evse_at(self.site.locations.as_slice(), position)
     }
 
@@ -198,9 +234,9 @@ impl SiteBook {
     {
         match evse_uid {
             None => self.first_working_evse(at).is_some(),
-            Some(uid) => match self.named_evse(at, uid) {
+            Some(uid) => match self.named_position(at, uid) {
                 None => false,
-                Some(evse) => self.indexes.works(evse.uid.key()),
+                Some(position) => self.works_at(position),
             },
         }
     }
@@ -231,11 +267,11 @@ impl SiteBook {
         match uid {
             None => self.free_at(at),
             Some(uid) => {
-                let evse = self.named_evse(at, uid)?;
-                if !self.indexes.is_free(evse.uid.key()) {
+                let position = self.named_position(at, uid)?;
+                if !self.is_free_at(position) {
                     return None;
                 }
-                Some(evse)
+                evse_at(self.site.locations.as_slice(), position)
             }
         }
     }
@@ -264,7 +300,7 @@ impl SiteBook {
         ensures sole { IfSome result (λ r. (l : Location) (e : Evse) → IsEvseOf self.now.site.locations evse l e → (l ≡ location_of r.0) × (e ≡ r.1.now)) }
         ensures none { IfNone result (¬ IsEvse self.now.site.locations evse) }
     {
-        let position = *self.indexes.evses.get(evse)?;
+        let position = self.position_of(evse)?;
         let found = evse_at(self.site.locations.as_slice(), position)?;
         let location = self.location_at(position.0)?;
         Some((location, found))
@@ -308,14 +344,30 @@ impl SiteBook {
     pub fn works(&self, evse: CiKey<36>) -> bool
         ensures { result ≡ works self.now.out_of_service evse }
     {
-        self.indexes.works(evse)
+        match self.position_of(evse) {
+            None => self.indexes.works(evse),
+            Some(position) => self.works_at(position),
+        }
     }
 
     /// Whether an EVSE is of the site and in service.
     pub fn in_service(&self, evse: CiKey<36>) -> bool
         ensures { IsTrue result ↔ (IsEvse self.now.site.locations evse × IsTrue (works self.now.out_of_service evse)) }
     {
-        self.has_evse(evse) && self.indexes.works(evse)
+        match self.position_of(evse) {
+            None => false,
+            Some(position) => self.works_at(position),
+        }
+    }
+
+    /// Whether an EVSE is of the site, in service and not claimed.
+    pub fn is_free(&self, evse: CiKey<36>) -> bool
+        ensures { IsTrue result ↔ (IsEvse self.now.site.locations evse × IsTrue (is_free self.now.claims self.now.out_of_service evse)) }
+    {
+        match self.position_of(evse) {
+            None => false,
+            Some(position) => self.is_free_at(position),
+        }
     }
 
     /// The EVSEs that are out of service, in the order of their keys.
@@ -347,16 +399,16 @@ impl SiteBook {
         ensures ok { OnOk result (IsEvse self.now.site.locations evse × IsTrue (is_free self.now.claims self.now.out_of_service evse)) }
         ensures refusal { IfErr result (λ e. IsRefused self.now evse e) }
     {
-        if !self.has_evse(evse) {
+        let Some(position) = self.position_of(evse) else {
             return Err(SiteFault::UnknownEvse);
+        };
+        if self.is_free_at(position) {
+            return Ok(());
         }
         if self.indexes.claims.contains(evse) {
             return Err(SiteFault::Claimed);
         }
-        if !self.indexes.works(evse) {
-            return Err(SiteFault::OutOfService);
-        }
-        Ok(())
+        Err(SiteFault::OutOfService)
     }
 
     /// Puts a claim on an EVSE, in place of the one that stands, if there is one, in service or not: as a stored row
@@ -365,7 +417,7 @@ impl SiteBook {
         requires { IsEvse self.old.site.locations evse }
         ensures { self.new ≡ record self.old { claims = map.insert self.old.claims evse claim } }
     {
-        let position = *self.indexes.evses.get(evse).unwrap();
+        let position = self.indexes.position(evse).unwrap();
         self.indexes.put_claim(evse, position, claim);
     }
 
@@ -394,7 +446,7 @@ impl SiteBook {
     pub fn release(&mut self, evse: CiKey<36>)
         ensures { self.new ≡ record self.old { claims = map.remove self.old.claims evse } }
     {
-        let Some(position) = self.indexes.evses.get(evse).copied() else {
+        let Some(position) = self.indexes.position(evse) else {
             return;
         };
         self.indexes.take_claim(evse, position);
@@ -408,7 +460,7 @@ impl SiteBook {
         ensures refusal { IfErr result (λ e. (e ≡ SiteFault.UnknownEvse) × ¬ IsEvse self.old.site.locations evse) }
         ensures err { OnErr result (self.new ≡ self.old) }
     {
-        let Some(position) = self.indexes.evses.get(evse).copied() else {
+        let Some(position) = self.indexes.position(evse) else {
             return Err(SiteFault::UnknownEvse);
         };
         self.indexes.put_service(evse, position, in_service);

@@ -14,6 +14,7 @@ ghost use Rattle.std.specs.Prelude.{
   drop,
   slice_get,
   slice_set,
+  Some,
   IfOk,
   IfSome,
   IfNone,
@@ -129,6 +130,14 @@ impl Flags {
         ensures { self.new ≡ slice_set self.old place value }
     {
         set_node(self.nodes.as_mut_slice(), self.width, place, value);
+    }
+
+    /// The flag of a place.
+    pub(crate) fn get(&self, place: usize) -> bool
+        requires { place < length self.now }
+        ensures { slice_get self.now place ≡ Some result }
+    {
+        self.nodes[self.width + place]
     }
 
     /// The first place whose flag is set.

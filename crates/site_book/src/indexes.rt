@@ -18,7 +18,7 @@ use indexmap::IndexSet;
 use ocpi_text::{CiKey, CiText};
 use ocpi_types::Location;
 use std::alloc::{AllocError, Global};
-use tables::Table;
+use tables::{HashSeed, Lookup, Table};
 
 /// What finds the locations and EVSEs of a site, the claims on its EVSEs and which of these are out of service. The
 /// position of an EVSE is that of its location in the site's list, and its own in the location's list.
@@ -27,7 +27,7 @@ pub(crate) struct Indexes {
     /// The ids of the locations, in the order of the site's list.
     pub(crate) ids: IndexSet<IdKey>,
     /// The position of each EVSE, by its uid.
-    pub(crate) evses: Table<CiKey<36>, (usize, usize)>,
+    pub(crate) evses: Lookup<CiKey<36>, (usize, usize)>,
     /// The claim on each EVSE that is claimed, by its uid. Each EVSE has room.
     pub(crate) claims: Table<CiKey<36>, Claim>,
     /// The uids of the EVSEs that are out of service. Each EVSE has room.
@@ -65,6 +65,13 @@ impl Indexes {
             self.add_evse(&evse.uid, (i, j))?;
         }
         Ok(())
+    }
+
+    /// The position of an EVSE.
+    pub(crate) fn position(&self, evse: CiKey<36>) -> Option<(usize, usize)>
+        ensures { result ≡ map.get (shown_of text_cmp self.now.evses) evse }
+    {
+        self.evses.get(evse).copied()
     }
 
     /// Whether an EVSE is not out of service.
@@ -142,7 +149,7 @@ impl Indexes {
     {
         let mut indexes = Indexes {
             ids: ids_of(alloc, locations)?,
-            evses: Table::new(alloc),
+            evses: Lookup::new(alloc, HashSeed::fixed()),
             claims: Table::new(alloc),
             out_of_service: Table::new(alloc),
             working: all_set(alloc, locations)?,
@@ -165,6 +172,14 @@ fn ids_of(alloc: Global, locations: &[Location]) -> Result<IndexSet<IdKey>, Allo
         ids.insert(IdKey::of(&location.id))?;
     }
     Ok(ids)
+}
+
+/// The flag of a position.
+pub(crate) fn flag_at(flags: &[Flags], position: (usize, usize)) -> bool
+    requires { (b : Bool) × IsFlag flags.now position b }
+    ensures { IsFlag flags.now position result }
+{
+    flags[position.0].get(position.1)
 }
 
 /// Sets the flag of a position, or clears it. It takes no memory.

@@ -26,7 +26,7 @@
 //! - Any EVSE of a location that is in service and not claimed is found, if there is one. By `free_at`.
 //! - An EVSE is found by its key, with its location. By `find_of`.
 //! - Whether there is such an EVSE, connector or location is answered exactly. By `has_evse`, `has_connector`, `is_at`,
-//!   `has_service`.
+//!   `has_service`, `in_service`, `is_free`.
 //! - A claim succeeds exactly on an EVSE of the site that is in service and not claimed. Else the first refusal is
 //!   told, and nothing changes. By `claim`: `free`, `claims`, `refusal`, `err`.
 //! - Other changes are of that EVSE alone. By `put_claim`, `change`, `release`, `set_service`.
@@ -35,8 +35,8 @@
 //! # How it is built
 //!
 //! A `SiteBook` is no book of rows: it is made with its site, gives each EVSE room for a claim and for its service
-//! then, and takes no memory after. Its locations are found by the hash of their ids, its EVSEs in a table by uid,
-//! and one that is free, or in service, by a tree of flags for each location.
+//! then, and takes no memory after. Its locations and EVSEs are found by the hashes of their ids, and an EVSE that is
+//! free, or in service, by a tree of flags for each location.
 #![tactic(auto)]
 
 mod book;

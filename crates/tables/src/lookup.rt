@@ -9,6 +9,7 @@ ghost use Rattle.std.specs.Prelude.{
   OnErr,
   OnOk,
   Some,
+  false,
   option_copied,
 };
 ghost use Rattle.std.specs.FinMap as map;
@@ -140,6 +141,20 @@ impl<K: TableKey + Hash, V: Drop> Lookup<K, V> {
         Ok(())
     }
 
+    /// Takes the value of a key away, if it has one, and keeps its room. It takes no memory.
+    pub fn clear(&mut self, key: K)
+        ensures shown { shown_of K.cmp self.new ≡ map.remove (shown_of K.cmp self.old) key }
+        ensures room { rooms_of K.cmp self.new ≡ rooms_of K.cmp self.old }
+    {
+        if !self.slots.contains_key(&key) {
+            return;
+        }
+        match self.slots.insert(key, None) {
+            Ok(_) => (),
+            Err(_) => unreachable!(),
+        }
+    }
+
     /// Takes a key out with its room, and answers its value. It takes no memory.
     pub fn remove(&mut self, key: K) -> Option<V>
         ensures value { result ≡ map.get (shown_of K.cmp self.old) key }
@@ -147,5 +162,16 @@ impl<K: TableKey + Hash, V: Drop> Lookup<K, V> {
         ensures room { rooms_of K.cmp self.new ≡ map.remove (rooms_of K.cmp self.old) key }
     {
         self.slots.remove(&key).flatten()
+    }
+
+    /// Gives the room of a key back, where it has no value. It takes no memory, and what the map shows is as it was.
+    pub fn release(&mut self, key: K)
+        ensures shown { shown_of K.cmp self.new ≡ shown_of K.cmp self.old }
+        ensures used { IsTrue (map.contains_key (shown_of K.cmp self.old) key) → self.new ≡ self.old }
+        ensures unused { map.contains_key (shown_of K.cmp self.old) key ≡ false → rooms_of K.cmp self.new ≡ map.remove (rooms_of K.cmp self.old) key }
+    {
+        if !self.contains(key) {
+            drop(self.slots.remove(&key));
+        }
     }
 }

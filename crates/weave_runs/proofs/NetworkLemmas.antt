@@ -33,7 +33,7 @@ use Rattle.stored_laws.specs.Nodes.{CanStartAgain, last_serial}
 use Rattle.tables.proofs.Elements.{in_front, in_none, in_single}
 use Rattle.weave.specs.Given.{InterleavesWith}
 use Rattle.world_laws.specs.Laws.{IsSetup}
-use Rattle.world_laws.proofs.Setups.{are_peers_of, by_form_of}
+use Rattle.world_networks.proofs.Networks.{own_form, own_name, own_opening}
 use Rattle.world_steps.proofs.Places.{of_mapped}
 use Rattle.world_steps.specs.Steps as steps
 use Rattle.world_steps.specs.Steps.{AtOperator, AtProvider, NodeEvent, NodeStep}
@@ -65,18 +65,6 @@ given_alone told (w ∷ ws) (p ∷ ps) (is, are) party within has = elim (Contai
 start_is : (setup : List Node) (m : Node) → IsStart (start_of setup m)
 start_is setup (node.Operator party site) = (_, refl)
 start_is setup (node.Provider party) = (_, refl)
-
-opens_as : (setup : List Node) (m : Node) → networks.opening_of (setup_of setup m) ≡ opening_of setup m
-opens_as setup (node.Operator party site) = refl
-opens_as setup (node.Provider party) = refl
-
-named_as : (setup : List Node) (m : Node) → networks.party_of (setup_of setup m) ≡ party_of m
-named_as setup (node.Operator party site) = refl
-named_as setup (node.Provider party) = refl
-
-has_form : (setup : List Node) → IsSetup setup → (i : ℕ) (m : Node) → slice_get setup i ≡ Some m → networks.IsSetup (setup_of setup m)
-has_form setup is_setup i (node.Operator party site) at = by_form_of setup is_setup i (node.Operator party site) at
-has_form setup is_setup i (node.Provider party) at = are_peers_of setup is_setup i party at
 
 sent_nothing : (setup : List Node) (m : Node) → last_serial (opening_of setup m) ≡ 0
 sent_nothing setup (node.Operator party site) = refl
@@ -225,9 +213,9 @@ module _ (reopen : NodesReopen) (stay : NodesStay) (told : List Transcript) (emp
               setup = ap (λ (ns : List Node). setup_of ns l.run.member) l.is.1;
               starts = all_starts of.events of.starts;
             };
-            form = has_form l.run.setup l.opens.is_setup place.0 l.run.member place.1;
-            party = teller_is w held t l ∙ sym (named_as l.run.setup l.run.member);
-            lives = subst (λ (s : NodeState). Lives s t.entries of.events l.last) (opened ∙ sym (opens_as l.run.setup l.run.member))
+            form = own_form l.run.setup l.opens.is_setup place.0 l.run.member place.1;
+            party = teller_is w held t l ∙ sym (own_name l.run.setup l.run.member);
+            lives = subst (λ (s : NodeState). Lives s t.entries of.events l.last) (opened ∙ sym (own_opening l.run.setup l.run.member))
                 (subst (λ (es : List Entry). Lives l.first es of.events l.last) (sym l.entries) of.lives);
             before = ap serial_before l.openings ∙ sym l.is.4 ∙ l.opens.serial ∙ ap last_serial opened ∙ sent_nothing l.run.setup l.run.member;
           },

@@ -1,8 +1,7 @@
--- Where a party is not found, and what may be delivered.
-use Rattle.std.proofs.Common.{◌≡◌, ℕ, ◌+◌, ◌<◌, List, length, get_or, inl, inr, refl, sym, ap, subst, ◌∙◌, arith}
+-- What may be delivered.
+use Rattle.std.proofs.Common.{◌≡◌, ℕ, ◌<◌, List, length, get_or, refl, ap, ◌∙◌}
 use Rattle.std.specs.Prelude.{Some, slice_get, option_map}
-use Rattle.std.proofs.lemmas.Bool.{cases_lt}
-use Rattle.std.proofs.lemmas.Option.{same_Some, slice_get-map, slice_get_read, slice_get_within}
+use Rattle.std.proofs.lemmas.Option.{slice_get-map, slice_get_read, slice_get_within}
 use Rattle.ocpi_text.specs.Text.{key}
 use Rattle.ocpi_types.specs.declared.packet.Packet.{Packet}
 use Rattle.world.specs.Deliveries.{IsPlaceOf}
@@ -16,18 +15,6 @@ use Rattle.world_steps.proofs.Places.{of_mapped}
 -- the place that was read
 pub is_here : (places : List Place) (i : ℕ) (x : Place) → i < length places → x ≡ get_or places i x → slice_get places i ≡ Some x
 is_here places i x within is = slice_get_read places (length places) i x refl within is
-
--- where none so far is the party's with that property, and the next is not, none so far is
-pub none_more : (places : List Place) (party : List ℕ) (P : Place → Type 0) (i : ℕ) (x : Place) → slice_get places i ≡ Some x →
-    ((k : ℕ) (p : Place) → k < i → IsPlaceOf places party k p → P p → ⊥) → (key x.party ≡ key party → P x → ⊥) →
-    (k : ℕ) (p : Place) → k < i + 1 → IsPlaceOf places party k p → P p → ⊥
-none_more places party P i x here earlier not k p below at has = elim (cases_lt k i) [
-  | inl before ↦ earlier k p before at has
-  | inr later ↦
-      let same : k ≡ i = omega arith in
-      let is : p ≡ x = same_Some p x (sym at.here ∙ ap (slice_get places) same ∙ here) in
-      not (ap (λ (z : Place). key z.party) (sym is) ∙ at.same) (subst P is has)
-]
 
 pub may_arrive : (places : List Place) (to from : List ℕ) (serial i : ℕ) (p : Place) (q : Packet) → slice_get places i ≡ Some p → key p.party ≡ key from → IsSentTo p.sent.items to serial q →
     MayArrive (places_seen places) to from serial q

@@ -3,7 +3,7 @@ use Rattle.std.proofs.Common.{◌≡◌, ◌≢◌, ℕ, List, [], ◌∷◌, �
 use Rattle.std.specs.Prelude.{Result, Ok, Err, None, Some, OnErr, Option, option_map, slice_get, slice_set}
 use Rattle.std.proofs.Math.Seq.{map-set_same}
 use Rattle.std.proofs.lemmas.List.{drop_at, map-set}
-use Rattle.std.proofs.lemmas.Option.{same_Some, slice_get-map, slice_get_read, slice_get_within}
+use Rattle.std.proofs.lemmas.Option.{same_Some, slice_get-get_or, slice_get-map, slice_get_read, slice_get_within}
 use Rattle.node_core.proofs.Doing as doing
 use Rattle.node_core.specs.Inputs.{Gets}
 use Rattle.node_core.specs.States.{state_of}
@@ -22,6 +22,7 @@ use Rattle.stored_laws.specs.Laws.{OperatorsAreWhole, ProvidersAreWhole}
 use Rattle.stored_laws.specs.Nodes.{IsWhole}
 use Rattle.world.specs.Deliveries.{IsPlaceOf}
 use Rattle.world.specs.Seen.{packets_sent, place_seen, places_seen, sent_from, told, told_in}
+use Rattle.world.specs.State.{names_of}
 use Rattle.world.specs.Works.{AsksFor, Brings, IsIdle, IsPlanned, place_after}
 use Rattle.world.specs.declared.place.Place as declared
 use Rattle.world.specs.declared.planned.Outcome as outcomes
@@ -36,6 +37,7 @@ use Rattle.world_steps.specs.Steps as steps
 use Rattle.world_steps.specs.Steps.{Does, Gives, IsForNone, Loses, NoNode, NothingReaches, Passes, PlaceStep, Refuses, WorldRun, WorldStep, changes_of, input_of}
 use Rattle.world_steps.specs.World.{IsAt, NodeState, Operates, Place, Provides, World, opened}
 use Rattle.world_steps.proofs.Places.{of_mapped, set_same}
+use Rattle.world.proofs.Names.{name_of}
 
 -- what the node is asked for by what an event brings
 pub asks_for : (w : World) (party : List ℕ) (n : NodeState) (k : EventKind) (i : NodeInput) (x : NodeWork) → Brings w party k i → IsWork n i x → IsPlanned w party n k (Acts x)
@@ -115,6 +117,15 @@ unchanged ps i y z is same = map-set_same place_seen ps i z y (same ∙ ap place
 pub on_err_always : {T E P : Type 0} (r : Result T E) → P → OnErr r P
 on_err_always (Ok x) h = tt
 on_err_always (Err e) h = h
+
+-- no event changes whose nodes there are
+pub names_kept : (u v : World) (e : Event) (o : steps.Outcome) → Gives u e o v → names_of v ≡ names_of u
+names_kept u v e o (Passes none is same) = ap names_of same
+names_kept u v e o (Refuses i p x fault at reaches declines other is same) = ap names_of same
+names_kept u v e o (Loses i p at refused is same) = ap names_of same
+names_kept u v e o (Does i p q x at reaches step is same) =
+    let there : p ≡ get_or u i p = same_Some p (get_or u i p) (sym at.here ∙ slice_get-get_or u i p (slice_get_within u i p at.here)) in
+    ap names_of same ∙ map-set_same name_of u i q p (ap key step.party ∙ ap name_of there)
 
 -- a run goes on by one event
 pub run_more : (w u v : World) (es : List Event) (e : Event) (o : steps.Outcome) → WorldRun w es u → Gives u e o v → WorldRun w (es ++ e ∷ []) v

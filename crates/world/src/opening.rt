@@ -2,11 +2,13 @@
 
 ghost use Rattle.std.specs.Prelude.{◌≡◌, Contains, IfOk};
 ghost use Rattle.world.specs.Seen.{place_seen, places_seen};
+ghost use Rattle.world.specs.State.{names_of};
 ghost use Rattle.world_laws.specs.Laws.{IsSetup};
 ghost use Rattle.world_steps.specs.World.{opened, place_of};
 
 use crate::place::Place;
 use node_core::Node;
+use ocpi_text::PartyKey;
 use ocpi_types::Node as SetupNode;
 use std::alloc::{AllocError, Global};
 use tables::HashSeed;
@@ -48,4 +50,15 @@ pub(crate) fn open_all(
         places.push(place)?;
     }
     Ok(places)
+}
+
+/// The keys of the parties of places, in order. An error is want of memory.
+pub(crate) fn keys_of(alloc: Global, places: &[Place]) -> Result<Vec<PartyKey>, AllocError>
+    ensures { IfOk result (λ v. v.items ≡ names_of (places_seen places.now)) }
+{
+    let mut names = Vec::new(alloc);
+    for place in places {
+        names.push(place.party.key())?;
+    }
+    Ok(names)
 }

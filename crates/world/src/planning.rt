@@ -4,20 +4,27 @@ ghost use Rattle.std.specs.Prelude.{◌≡◌, ◌≢◌, IfNone, IfOk, IfSome};
 ghost use Rattle.node_core.specs.States.{state_of};
 ghost use Rattle.ocpi_types.specs.declared.events.EventKind.TheVariants as kinds;
 ghost use Rattle.world.specs.Seen.{places_seen};
+ghost use Rattle.world.specs.State.{names_of};
 ghost use Rattle.world.specs.Works.{Brings, BringsNothing, IsPlanned};
 
 use crate::finding::delivered;
 use crate::place::Place;
 use crate::planned::{EventPlan, Outcome};
 use node_core::{NodeInput, NodePlan};
-use ocpi_text::Party;
+use ocpi_text::{Party, PartyKey};
 use ocpi_types::EventKind;
 use std::alloc::AllocError;
 
 /// What an event that is not refused by the storing brings to the node of that party. None, where the packet that it
 /// would deliver was not sent, or not to that party.
 #[tactic(auto, using(crate::proofs::Bringing::order_brought, crate::proofs::Bringing::token_brought, crate::proofs::Bringing::brings_service, crate::proofs::Bringing::brings_report, crate::proofs::Bringing::brings_credit, crate::proofs::Bringing::brings_packet, crate::proofs::Bringing::brings_tick, crate::proofs::Bringing::brings_restart))]
-fn input_of<'w>(places: &'w [Place], party: &Party, kind: &'w EventKind) -> Option<NodeInput<'w>>
+fn input_of<'w>(
+    names: &[PartyKey],
+    places: &'w [Place],
+    party: &Party,
+    kind: &'w EventKind,
+) -> Option<NodeInput<'w>>
+    requires { names.now ≡ names_of (places_seen places.now) }
     ensures some { IfSome result (λ i. Brings (places_seen places.now) party.now kind.now i) }
     ensures none { IfNone result (BringsNothing (places_seen places.now) party.now kind.now) }
 {
@@ -45,7 +52,7 @@ fn input_of<'w>(places: &'w [Place], party: &Party, kind: &'w EventKind) -> Opti
             session_id: session_id.key(),
         }),
         EventKind::Deliver { at, from, serial } => {
-            let packet = delivered(places, party, from, *serial)?;
+            let packet = delivered(names, places, party, from, *serial)?;
             Some(NodeInput::Arrives { at: *at, packet })
         }
         EventKind::Tick { at } => Some(NodeInput::Tick { at: *at }),
@@ -55,11 +62,17 @@ fn input_of<'w>(places: &'w [Place], party: &Party, kind: &'w EventKind) -> Opti
 }
 
 /// What an event comes to at a place, whose storing was not refused. An error is want of memory.
-fn plan_taken(places: &[Place], place: &Place, kind: &EventKind) -> Result<EventPlan, AllocError>
-    requires { kind.now ≢ kinds.Refused }
+fn plan_taken(
+    names: &[PartyKey],
+    places: &[Place],
+    place: &Place,
+    kind: &EventKind,
+) -> Result<EventPlan, AllocError>
+    requires named { names.now ≡ names_of (places_seen places.now) }
+    requires taken { kind.now ≢ kinds.Refused }
     ensures { IfOk result (λ x. IsPlanned (places_seen places.now) place.now.party (state_of place.now.node) kind.now x) }
 {
-    let Some(input) = input_of(places, &place.party, kind) else {
+    let Some(input) = input_of(names, places, &place.party, kind) else {
         return Ok(EventPlan::Idle(Outcome::Skipped));
     };
     let planned = place.node.plan(&input)?;
@@ -72,14 +85,16 @@ fn plan_taken(places: &[Place], place: &Place, kind: &EventKind) -> Result<Event
 
 /// What an event comes to at a place. An error is want of memory.
 pub(crate) fn plan(
+    names: &[PartyKey],
     places: &[Place],
     place: &Place,
     kind: &EventKind,
 ) -> Result<EventPlan, AllocError>
+    requires { names.now ≡ names_of (places_seen places.now) }
     ensures { IfOk result (λ x. IsPlanned (places_seen places.now) place.now.party (state_of place.now.node) kind.now x) }
 {
     match kind {
         EventKind::Refused => Ok(EventPlan::Idle(Outcome::Stepped)),
-        _ => plan_taken(places, place, kind),
+        _ => plan_taken(names, places, place, kind),
     }
 }

@@ -4,20 +4,20 @@ ghost use Rattle.std.specs.Prelude.{◌≡◌, ◌≢◌, List, [], None, IfOk, 
 ghost use Rattle.ocpi_text.specs.Text.{key};
 ghost use Rattle.ocpi_types.specs.declared.events.Event.{Event as EventOf};
 ghost use Rattle.world.specs.Seen.{packets_sent, places_seen, told, told_in, versions_left};
-ghost use Rattle.world.specs.State.{owed_by, past_by};
+ghost use Rattle.world.specs.State.{names_of, owed_by, past_by};
 ghost use Rattle.world_laws.specs.Later.{IsLater};
 ghost use Rattle.world_laws.specs.Laws.{IsReached, IsRight};
 ghost use Rattle.world_steps.specs.Steps.{Gives, WorldRun};
 ghost use Rattle.world_steps.specs.World.{World as WorldOf, opened};
 
 use crate::finding::{find, of_party};
-use crate::opening::open_all;
+use crate::opening::{keys_of, open_all};
 use crate::past::Past;
 use crate::place::Place;
 use crate::planned::{EventPlan, Outcome, Sending, Told};
 use crate::planning::plan;
 use node_core::nodes_of;
-use ocpi_text::{CiKey, Party, ShortText};
+use ocpi_text::{CiKey, Party, PartyKey, ShortText};
 use ocpi_types::{Change, Event, Packet, Session, Setup};
 use std::alloc::{AllocError, Global};
 use std::marker::Model;
@@ -29,6 +29,8 @@ use world_laws::laws::{worlds_are_right, worlds_go_on};
 pub struct World {
     alloc: Global,
     seed: HashSeed,
+    /// The keys of the parties of the places, in order, by which a place is found.
+    names: Vec<PartyKey>,
     places: Vec<Place>,
     changes: Vec<Change>,
     sending: Option<Sending>,
@@ -40,10 +42,12 @@ impl Drop for World {
         let World {
             alloc: _,
             seed: _,
+            names,
             places,
             changes,
             sending,
         } = self;
+        drop(names);
         drop(places);
         drop(changes);
         drop(sending);
@@ -59,32 +63,36 @@ impl Model for World {
 
     ghost coded = { Prim.hlevel (codes, map.code) };
 
+    ghost use Rattle.std.specs.Prelude.{◌≡◌};
     ghost use Rattle.world.specs.Seen.{packets_sent, places_seen};
+    ghost use Rattle.world.specs.State.{names_of};
     ghost use Rattle.world_laws.specs.Laws.{IsReached};
 
     ghost view = { λ w. record { places = places_seen w.places.items; changes = w.changes.items; packets = packets_sent (places_seen w.places.items) w.sending } };
 
-    ghost invariant = { λ w. IsReached (places_seen w.places.items) };
+    ghost invariant = { λ w. IsReached (places_seen w.places.items) × (w.names.items ≡ names_of (places_seen w.places.items)) };
 }
 
 /// An event comes to the node of its party. An error is want of memory, and changes nothing.
 fn step_places(
     alloc: Global,
     seed: HashSeed,
+    names: &[PartyKey],
     places: &mut Vec<Place>,
     event: &Event,
 ) -> Result<Told, AllocError>
-    requires { IsReached (places_seen places.old.items) }
+    requires reached { IsReached (places_seen places.old.items) }
+    requires named { names.now ≡ names_of (places_seen places.old.items) }
     ensures ok { IfOk result (λ t. Gives (places_seen places.old.items) event.now (told_in (places_seen places.new.items) t) (places_seen places.new.items)) }
     ensures idle { IfOk result (λ t. t.outcome ≢ Outcome.Stepped → (t.sending ≡ None) × (t.changes.items ≡ [])) }
     ensures err { OnErr result (places_seen places.new.items ≡ places_seen places.old.items) }
 {
     operators_are_whole();
     providers_are_whole();
-    let Some(i) = find(places.as_slice(), &event.node) else {
+    let Some(i) = find(names, &event.node) else {
         return Ok(Told::idle(alloc, Outcome::Skipped));
     };
-    match plan(places.as_slice(), &places[i], &event.kind)? {
+    match plan(names, places.as_slice(), &places[i], &event.kind)? {
         EventPlan::Idle(outcome) => Ok(Told::idle(alloc, outcome)),
         EventPlan::Acts(work) => {
             let place = &mut places[i];
@@ -163,9 +171,11 @@ impl World {
         ensures { IfOk result (λ w. w ≡ record { places = opened setup.now; changes = []; packets = [] }) }
     {
         let places = open_all(alloc, seed, nodes_of(setup))?;
+        let names = keys_of(alloc, places.as_slice())?;
         Ok(World {
             alloc,
             seed,
+            names,
             places,
             changes: Vec::new(alloc),
             sending: None,
@@ -185,7 +195,13 @@ impl World {
         ensures err { OnErr result (self.new ≡ self.old) }
     {
         worlds_go_on();
-        let told = step_places(self.alloc, self.seed, &mut self.places, event)?;
+        let told = step_places(
+            self.alloc,
+            self.seed,
+            self.names.as_slice(),
+            &mut self.places,
+            event,
+        )?;
         let Told {
             outcome,
             sending,

@@ -1,4 +1,5 @@
-use Rattle.std.proofs.Common.{◌+◌, arith, inr, refl}
+use Rattle.std.proofs.Common.{◌+◌, ◌∙◌, ap, arith, inr, refl}
+use Rattle.ocpi_text.specs.Text.{key}
 use Rattle.node_keepers.proofs.KeeperLemmas.{err_one, one_opened, one_unopened}
 use Rattle.node_keepers.specs.Keeping.{AreUnopened, keeping_of}
 use Rattle.node_keepers.proofs.keeping.open_each.Goals as goal
@@ -6,8 +7,8 @@ use Rattle.node_keepers.proofs.keeping.open_each.Goals as goal
 pub loop-node-preserved : goal.loop-node-preserved
 loop-node-preserved g c =
     one_opened (keeping_of g.S.Kept.Keep.content g.S.Kept.Keep.is_honest g.S.Kept.Keep.refusals) c.args.setup.now c.loop-node.kept.items c.push.new.self.items c.loop-node.node-index c.node-item.result
-    (record { party = c.party.result.now; keep = c.in_ok-keep.keep }) (omega arith) c.loop-node.invariant c.node-item.is c.in_ok-push.ensures.items
-    (record { party = c.party.ensures; keeps_nothing = c.in_ok-keep.ensures.ok })
+    (record { party = c.key.result; keep = c.in_ok-keep.keep }) (omega arith) c.loop-node.invariant c.node-item.is c.in_ok-push.ensures.items
+    (record { party = c.key.ensures ∙ ap key c.party.ensures; keeps_nothing = c.in_ok-keep.ensures.ok })
 
 pub returns-in_err-keep-clause-err : goal.returns-in_err-keep-clause-err
 returns-in_err-keep-clause-err g c =

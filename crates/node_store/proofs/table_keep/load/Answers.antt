@@ -1,4 +1,4 @@
-use Rattle.std.proofs.Common.{◌≡◌, ◌⊎◌, ℕ, List, Option, Some, None, IfErr, IfOk, sym, ap, subst, ◌∙◌}
+use Rattle.std.proofs.Common.{◌≡◌, ◌⊎◌, ℕ, List, Option, Some, None, IfErr, IfOk, sym, ap, subst}
 use Rattle.ocpi_types.specs.declared.rows.Row.{Row}
 use Rattle.row_table.specs.Contents as table
 use Rattle.row_table.specs.Kept.{texts}
@@ -9,20 +9,20 @@ use Rattle.node_store.proofs.table_keep.load.Goals as goal
 
 pub returns-in-Ok-clause-rows : goal.returns-in-Ok-clause-rows
 returns-in-Ok-clause-rows g c clean =
-    let same = loaded_rows (texts g.S.Store c.args.table.now) c.as_slice.result.now (c.in-Ok.ensures.rows clean ∙ sym c.as_slice.ensures.value) in
+    let same = loaded_rows (texts g.S.Store c.args.table.now) c.in-Ok.texts.items (c.in-Ok.ensures.rows clean) in
     subst (λ (o : Option (List Row)). IfOk c.kept_in.result (λ k. o ≡ Some k.rows.items)) (sym same) c.kept_in.ensures.rows
 
 pub returns-in-Ok-clause-line : goal.returns-in-Ok-clause-line
 returns-in-Ok-clause-line g c clean =
-    let same = loaded_line (texts g.S.Store c.args.table.now) c.as_slice.result.now (c.in-Ok.ensures.rows clean ∙ sym c.as_slice.ensures.value) in
+    let same = loaded_line (texts g.S.Store c.args.table.now) c.in-Ok.texts.items (c.in-Ok.ensures.rows clean) in
     subst (λ (o : Option ℕ). IfOk c.kept_in.result (λ k. o ≡ Some k.line)) (sym same) c.kept_in.ensures.line
 
 pub returns-in-Ok-clause-bad : goal.returns-in-Ok-clause-bad
 returns-in-Ok-clause-bad g c clean =
     let old = texts g.S.Store c.args.table.now in
-    let are = c.in-Ok.ensures.rows clean ∙ sym c.as_slice.ensures.value in
-    let rows = loaded_rows old c.as_slice.result.now are in
-    let line = loaded_line old c.as_slice.result.now are in
+    let are = c.in-Ok.ensures.rows clean in
+    let rows = loaded_rows old c.in-Ok.texts.items are in
+    let line = loaded_line old c.in-Ok.texts.items are in
     subst (λ (p : Option (List Row) × Option ℕ). IfErr c.kept_in.result (λ e. e ≡ BadRow → (p.0 ≡ None) ⊎ (p.1 ≡ None))) (λ i. (sym rows i, sym line i)) c.kept_in.ensures.bad
 
 pub returns-in-Ok-clause-kept : goal.returns-in-Ok-clause-kept

@@ -7,4 +7,4 @@ pub loop-key-preserved : goal.loop-key-preserved
 loop-key-preserved c = one_more _ _ _ _ _ _ c.in_ok-push.ensures.items (ap (map spent_row) c.in-Some.ensures.steps) c.loop-key.invariant
 
 pub returns : goal.returns
-returns c = none_left _ _ _ (ap (map spent_row) c.in-None.ensures.steps.0) c.loop-key.invariant ∙ ap (λ l. c.args.rows.now.items ++ map spent_row l) (cc)
+returns c = (c.iter-key-items.result, c.iter-key-items.ensures, none_left _ _ _ (ap (map spent_row) c.in-None.ensures.steps.0) c.loop-key.invariant ∙ ap (λ l. c.args.rows.now.items ++ map spent_row l) (cc))

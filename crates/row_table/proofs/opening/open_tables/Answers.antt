@@ -1,6 +1,4 @@
 use Rattle.std.proofs.Common.{◌≡◌, inl, inr, true, false, not, [], ◌∷◌, ◌++◌, ap, sym, subst, ◌∙◌, arith, slice_index_or}
-use Rattle.sqlite.specs.State.{HasCleanDisk}
-use Rattle.sqlite.specs.Held.{state}
 use Rattle.row_table.specs.Opening.{HoldsAsOpened}
 use Rattle.row_table.proofs.OpenLemmas.{found}
 use Rattle.row_table.proofs.opening.open_tables.Goals as goal

@@ -5,5 +5,5 @@ use Rattle.world.specs.Deliveries.{IsPlaceOf}
 use Rattle.world_steps.specs.Deliveries.{IsSentTo}
 use Rattle.world.specs.declared.place.Place.{Place}
 
-abbrev pub invariant-loop-place : goal.invariant-loop-place
-invariant-loop-place l = (k : ℕ) (p : Place) (q : Packet) → k < l.place-index → IsPlaceOf l.places l.from k p → IsSentTo p.sent.items l.to l.serial q → ⊥
+abbrev pub invariant-loop-i : goal.invariant-loop-i
+invariant-loop-i l = (k : ℕ) (p : Place) (q : Packet) → k < l.i → IsPlaceOf l.places l.from k p → IsSentTo p.sent.items l.to l.serial q → ⊥

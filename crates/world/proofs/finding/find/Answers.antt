@@ -1,22 +1,22 @@
 use Rattle.std.proofs.Common.{◌∙◌, ap, arith, sym}
-use Rattle.std.specs.Prelude.{⊤}
+use Rattle.std.specs.Prelude.{Some}
 use Rattle.ocpi_text.specs.Text.{key}
-use Rattle.world.proofs.Delivering.{is_here, none_more}
+use Rattle.world.proofs.Names.{name_read, no_name, no_name_more, other_name, same_name}
 use Rattle.world.proofs.finding.find.Goals as goal
-use Rattle.world.specs.declared.place.Place.{Place}
-use Rattle.std.proofs.lemmas.Option.{slice_get_within}
 
-pub returns-then-is_same-clause-found : goal.returns-then-is_same-clause-found
-returns-then-is_same-clause-found c = (c.index-places-i.result, record { here = is_here c.args.places.now c.loop-i.i c.index-places-i.result (omega arith) c.index-places-i.is; same = ap (λ (z : Place). key z.party) c.index-places-i.is ∙ c.is_same.ensures.0 c.if-is_same.true })
+pub loop-i-init : goal.loop-i-init
+loop-i-init c = λ k below at. absurd (omega (arith, below))
+
+pub returns-then-eq-clause-found : goal.returns-then-eq-clause-found
+returns-then-eq-clause-found c =
+    let x = c.index-names-i.result in
+    name_read c.args.names.now c.loop-i.i x c.loop-i-test.true c.index-names-i.is ∙ ap Some (same_name x c.key-name.result c.eq.result c.eq.ensures c.if-eq.true ∙ c.key-name.ensures)
 
 pub loop-i-preserved : goal.loop-i-preserved
 loop-i-preserved c =
-    let x = c.index-places-i.result in
-    λ k p below at.
-    none_more c.args.places.now c.args.party.now (λ (z : Place). ⊤) c.loop-i.i x (is_here c.args.places.now c.loop-i.i x (omega arith) c.index-places-i.is)
-    (λ j z before there t. c.loop-i.invariant j z before there) (λ same t. absurd (cc (c.is_same.ensures.1 (sym (ap (λ (z : Place). key z.party) c.index-places-i.is) ∙ same), c.if-is_same.false))) k p below at tt
+    let x = c.index-names-i.result in
+    no_name_more c.args.names.now (key c.args.party.now) c.loop-i.i x (name_read c.args.names.now c.loop-i.i x c.loop-i-test.true c.index-names-i.is) c.loop-i.invariant
+    (λ same. other_name x c.key-name.result c.eq.result c.eq.ensures c.if-eq.false (same ∙ sym c.key-name.ensures))
 
 pub returns-clause-none : goal.returns-clause-none
-returns-clause-none c = λ i p at.
-    let within = slice_get_within c.args.places.now i p at.here in
-    c.loop-i.invariant i p (omega (arith, within)) at
+returns-clause-none c = no_name c.args.names.now (key c.args.party.now) c.loop-i.i c.loop-i-test.false c.loop-i.invariant

@@ -1,7 +1,7 @@
-use Rattle.std.proofs.Common.{ℕ, ◌<◌}
+use Rattle.ocpi_text.specs.Text.{key}
+use Rattle.world.proofs.Names.{NoneBefore}
 use Rattle.world.proofs.finding.find.Given as goal
-use Rattle.world.specs.Deliveries.{IsPlaceOf}
-use Rattle.world.specs.declared.place.Place.{Place}
 
+-- no key before this one is the party's
 abbrev pub invariant-loop-i : goal.invariant-loop-i
-invariant-loop-i l = (k : ℕ) (p : Place) → k < l.i → IsPlaceOf l.places l.party k p → ⊥
+invariant-loop-i l = NoneBefore l.names (key l.party) l.i
