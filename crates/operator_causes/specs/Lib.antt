@@ -1,0 +1,4 @@
+pub mod Causes
+pub mod Reports
+pub mod Opened
+pub mod Laws
