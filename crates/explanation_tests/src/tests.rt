@@ -7,6 +7,7 @@ use explanations::{
 use ocpi_json::JsonFault;
 use std::cell::RefCell;
 use std::test::Fail;
+use tables::HashSeed;
 
 #[test]
 fn names_the_place(rt: HostRuntime) -> Result<(), Fail> {
@@ -37,6 +38,7 @@ fn watches(rt: HostRuntime) -> Result<(), Fail> {
     };
     let watch = RefCell::new(Watch::new(
         rt.alloc(),
+        HashSeed::fixed(),
         Program::Play,
         telling,
         false,

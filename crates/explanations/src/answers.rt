@@ -1,5 +1,7 @@
 //! Why an event that was read came to nothing: another node's, idle, or refused by its node.
 
+use crate::causes::write_idle;
+use crate::following::Why;
 use crate::known::{
     Known, Role, evse_of, list_connectors, list_evses, list_parties, list_providers, node_of,
     show_found, site_of,
@@ -7,6 +9,7 @@ use crate::known::{
 use crate::shapes::Shape;
 use json::Value;
 use ocpi_types::{Field, Node, Setup, Site};
+use operator_causes::IdleCause;
 use std::alloc::{AllocError, Global};
 
 /// The program whose lines are explained.
@@ -131,10 +134,11 @@ fn tell_unsent(
     )
 }
 
-/// Adds why an operator's report came to nothing, and answers whether it is one that is told: each report of a charge
-/// point, and a change of service at an EVSE that the site has not.
+/// Adds why an operator's event came to nothing, and answers whether it is one that is told: each report of a charge
+/// point, each credit, and each change of service.
 pub fn tell_idle(
     case: Case<'_>,
+    why: Option<Why>,
     event: &Value<'_>,
     output: &mut String,
 ) -> Result<bool, AllocError> {
@@ -147,13 +151,34 @@ pub fn tell_idle(
     };
     match word {
         "accepts" | "refuses" | "unlocked" => {
-            tell_no_command(case.alloc, setup, event, output)?;
+            tell_no_command(case.alloc, setup, why, event, output)?;
             Ok(true)
         }
         "starts" | "meter" | "stops" | "fault" | "swipe" | "service" => {
-            tell_no_session(case.alloc, site, word, event, output)
+            tell_no_session(case.alloc, site, why, event, output)?;
+            Ok(true)
+        }
+        "credit" => {
+            output.push_str("idle: ")?;
+            let otherwise = "session_id: there is no bill to take back";
+            write_cause(case.alloc, why, otherwise, event, output)?;
+            Ok(true)
         }
         _ => Ok(false),
+    }
+}
+
+/// Adds why an event did nothing; where that is not known, what may be wrong.
+fn write_cause(
+    alloc: Global,
+    why: Option<Why>,
+    otherwise: &str,
+    event: &Value<'_>,
+    output: &mut String,
+) -> Result<(), AllocError> {
+    match why {
+        Some(Why::Idle(cause)) => write_idle(alloc, cause, event, output),
+        _ => output.push_str(otherwise),
     }
 }
 
@@ -161,6 +186,7 @@ pub fn tell_idle(
 fn tell_no_command(
     alloc: Global,
     setup: &Setup,
+    why: Option<Why>,
     event: &Value<'_>,
     output: &mut String,
 ) -> Result<(), AllocError> {
@@ -170,72 +196,31 @@ fn tell_no_command(
         show_found("provider", provider, "a provider of the setup: ", output)?;
         return list_parties(alloc, setup, Role::Provider, provider, output);
     }
-    let number = event.get(Field::Number.name()).and_then(Value::as_number);
-    write!(
-        output,
-        "no open command {} of {provider} for which this may be reported: are provider and number right?",
-        number.unwrap_or("")
-    )
+    let otherwise = "number: no open command for which this may be reported";
+    write_cause(alloc, why, otherwise, event, output)
 }
 
-/// Adds that an EVSE is not of the site, or has no session for which this may be reported.
+/// Adds that an EVSE or a connector is not of the site, or what is not so there.
 fn tell_no_session(
     alloc: Global,
     site: &Site,
-    word: &str,
+    why: Option<Why>,
     event: &Value<'_>,
     output: &mut String,
-) -> Result<bool, AllocError> {
+) -> Result<(), AllocError> {
+    output.push_str("idle: ")?;
     let uid = text_of(event, Field::EvseUid);
     let Some(evse) = evse_of(site, uid) else {
-        output.push_str("idle: ")?;
         show_found("evse_uid", uid, "an EVSE of the node's site: ", output)?;
-        list_evses(alloc, site, uid, output)?;
-        return Ok(true);
+        return list_evses(alloc, site, uid, output);
     };
-    let connector = text_of(event, Field::ConnectorId);
-    let connectors = evse.connectors.as_slice();
-    if word == "swipe"
-        && !connectors
-            .iter()
-            .any(|each| each.id.as_str().eq_ignore_ascii_case(connector))
-    {
-        output.push_str("idle: ")?;
+    if let Some(Why::Idle(IdleCause::NoConnector)) = why {
+        let connector = text_of(event, Field::ConnectorId);
         show_found("connector_id", connector, "one of the EVSE: ", output)?;
-        list_connectors(alloc, evse, connector, output)?;
-        return Ok(true);
+        return list_connectors(alloc, evse, connector, output);
     }
-    match words_for_report(word) {
-        Some((before, behind)) => {
-            write!(output, "idle: {before}{uid}{behind}")?;
-            Ok(true)
-        }
-        None => Ok(false),
-    }
-}
-
-/// What is said of a report that came to nothing at an EVSE of the site: before its uid, and behind it.
-fn words_for_report(word: &str) -> Option<(&'static str, &'static str)> {
-    match word {
-        "starts" => Some((
-            "no session waits to start at ",
-            ": is the EVSE's uid right?",
-        )),
-        "meter" => Some((
-            "no active session at ",
-            " that takes this reading: is the EVSE's uid right, and the reading not below the last?",
-        )),
-        "stops" => Some(("no session at ", ": is the EVSE's uid right?")),
-        "fault" => Some((
-            "no session and no open start at ",
-            ": is the EVSE's uid right?",
-        )),
-        "swipe" => Some((
-            "no session begins at ",
-            " by this token: is it stored, valid and of that type, and the EVSE in service and free?",
-        )),
-        _ => None,
-    }
+    let otherwise = "evse_uid: nothing there is changed by this";
+    write_cause(alloc, why, otherwise, event, output)
 }
 
 /// Adds why a node refused an event, or an operator a packet, by the refusal's name.

@@ -1,7 +1,7 @@
 //! Why lines came to nothing, in words: a watch beside a program's reader and writer.
 //!
 //! ```
-//! let watch = RefCell::new(Watch::new(alloc, Program::Play, telling, false, errors));
+//! let watch = RefCell::new(Watch::new(alloc, seed, Program::Play, telling, false, errors));
 //! let mut input = LineReader::new(WatchedReader::new(reader, Some(&watch)));
 //! let mut writer = WatchedWriter::new(writer, Some(&watch));
 //! run_play(alloc, seed, &mut input, &mut writer, &mut keeps, false, &mut kept)
@@ -21,7 +21,9 @@
 #![tactic(auto)]
 
 mod answers;
+mod causes;
 mod finding;
+mod following;
 mod forms;
 mod known;
 mod malformed;

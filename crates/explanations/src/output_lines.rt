@@ -15,6 +15,8 @@ pub enum Outcome {
     Skipped,
     /// It is this node's, and did nothing.
     Idle,
+    /// It is this node's, and did something.
+    Stepped,
 }
 
 /// What a line of the output says.
@@ -72,6 +74,7 @@ fn outcome_of_done(done: &Value<'_>) -> Outcome {
         Some("malformed" | "refused") => Outcome::Refused,
         Some("skipped") => Outcome::Skipped,
         Some("idle") => Outcome::Idle,
+        Some("stepped") => Outcome::Stepped,
         _ => Outcome::Other,
     }
 }

@@ -3,6 +3,8 @@
 ghost use Rattle.std.specs.Prelude.{◌≡◌, true, false};
 
 use crate::answers::{Case, Program, tell_idle, tell_refused, tell_skipped};
+use crate::causes::write_refused;
+use crate::following::{Following, Why};
 use crate::known::Known;
 use crate::malformed::{LineText, Place, explain_malformed};
 use crate::output_lines::{Outcome, Said, refusal_of, said_by};
@@ -12,16 +14,18 @@ use node_lines::{element_texts, read_node_line};
 use ocpi_json::{
     JsonFault, Scratch, read_event, read_node_event, read_packet, read_setup, read_site,
 };
-use ocpi_types::Field;
+use ocpi_types::{Field, Row};
 use std::alloc::{AllocError, Global};
 use std::io::Write;
 use std::str;
+use tables::HashSeed;
 
 /// The most bytes of a line that are kept: those that a run looks at, and what ends the line.
 const ROOM: usize = KEPT_BYTES + 1;
 
-/// The most bytes of a line of the output that are looked at. What is told of has fewer.
-const OUTPUT_ROOM: usize = 512;
+/// The most bytes of a line of the output that are looked at. What is told of has fewer, and so has a packet to an
+/// operator.
+const OUTPUT_ROOM: usize = 16_384;
 
 /// What a program is to tell of its lines.
 #[derive(Clone, Copy, Debug, PartialEq, Eq)]
@@ -32,16 +36,28 @@ pub struct Telling {
     pub is_strict: bool,
 }
 
+/// What is told of a line.
+#[derive(Clone, Copy)]
+enum Told {
+    Nothing,
+    /// Something that is no mistake of whoever wrote the line.
+    Remark,
+    Mistake,
+}
+
 /// Watches the lines of a program's input, and its output, and explains to `errors` what came to nothing.
 #[derive(Drop)]
 pub struct Watch<'p, E> {
     alloc: Global,
+    seed: HashSeed,
     errors: E,
     program: Program<'p>,
     telling: Telling,
     /// Whether each line is written before what it gives.
     echoes: bool,
     known: Known,
+    /// The operators, which take each event that their nodes took.
+    following: Following,
     /// The place of the line that is read, or that was read last, from 1.
     number: u64,
     /// Its first bytes, without what ends it once it ended.
@@ -61,6 +77,8 @@ pub struct Watch<'p, E> {
     is_echoed: bool,
     /// Whether the line gave something.
     is_answered: bool,
+    /// Whether it is said what became of its event, or that it was refused or skipped.
+    is_judged: bool,
     /// Whether a line was refused, or came to nothing where that may be a mistake.
     has_told: bool,
 }
@@ -69,6 +87,7 @@ impl<'p, E: Write> Watch<'p, E> {
     /// Of a program that has read nothing yet.
     pub fn new(
         alloc: Global,
+        seed: HashSeed,
         program: Program<'p>,
         telling: Telling,
         echoes: bool,
@@ -79,11 +98,13 @@ impl<'p, E: Write> Watch<'p, E> {
     {
         Watch {
             alloc,
+            seed,
             errors,
             program,
             telling,
             echoes,
             known: Known::Nothing,
+            following: Following::new(alloc, seed),
             number: 0,
             line: Vec::new(alloc),
             len: 0,
@@ -94,6 +115,7 @@ impl<'p, E: Write> Watch<'p, E> {
             output: Vec::new(alloc),
             is_echoed: true,
             is_answered: true,
+            is_judged: true,
             has_told: false,
         }
     }
@@ -147,6 +169,7 @@ impl<'p, E: Write> Watch<'p, E> {
         self.is_open = true;
         self.is_echoed = !self.echoes;
         self.is_answered = false;
+        self.is_judged = false;
     }
 
     /// The line ended: what ends it is dropped, and the first line is read.
@@ -163,6 +186,34 @@ impl<'p, E: Write> Watch<'p, E> {
         if self.is_first {
             self.has_first = true;
             self.known = self.read_first();
+            self.begin_following();
+        }
+    }
+
+    /// Follows the operators of the first line, before any event.
+    fn begin_following(&mut self) {
+        match (&self.known, self.program) {
+            (Known::Nothing, _) => {}
+            (Known::Site(line), _) => self.following.begin_site(line),
+            (Known::Setup(setup), Program::Node(own)) => {
+                self.following.begin_setup(setup, Some(own));
+            }
+            (Known::Setup(setup), _) => self.following.begin_setup(setup, None),
+        }
+    }
+
+    /// The node of `node` begins with these rows.
+    pub fn begin_rows(&mut self, rows: &[Row]) {
+        let mut copied = Vec::new(self.alloc);
+        for row in rows {
+            let Ok(row) = row.copy() else {
+                self.following = Following::new(self.alloc, self.seed);
+                return;
+            };
+            let _ = copied.push(row);
+        }
+        if let Known::Setup(setup) = &self.known {
+            self.following.begin_rows(setup, copied);
         }
     }
 
@@ -179,6 +230,7 @@ impl<'p, E: Write> Watch<'p, E> {
         self.settle();
         self.is_echoed = true;
         self.is_answered = true;
+        self.is_judged = true;
     }
 
     /// What the first line says.
@@ -212,42 +264,116 @@ impl<'p, E: Write> Watch<'p, E> {
         if self.is_echoed {
             self.is_answered = true;
             let said = said_by(self.alloc, self.output.as_slice());
-            self.judge(said);
+            self.hear(said);
         } else {
             self.is_echoed = true;
         }
         self.output.clear();
     }
 
-    /// In `play` without `--done` an event that gave nothing is told of where it is a report of a charge point.
+    /// Where no line with `done` says what became of an event, that is known once the next line begins.
     fn settle(&mut self) {
-        if self.is_answered || self.is_first || self.line.is_empty() {
+        if self.is_judged || self.is_first || self.line.is_empty() {
             return;
         }
-        if let Program::Play = self.program {
-            self.judge(Said {
-                outcome: Outcome::Idle,
+        let outcome = if self.is_answered {
+            Outcome::Stepped
+        } else {
+            Outcome::Idle
+        };
+        match self.program {
+            Program::Node(_) => {}
+            Program::Play | Program::Answer => self.judge(Said {
+                outcome,
                 event: None,
                 line: None,
-            });
+            }),
         }
     }
 
-    /// Explains what came to nothing.
-    fn judge(&mut self, said: Said) {
-        if said.outcome == Outcome::Other {
+    /// Explains what a line of the output says, or keeps its packet.
+    fn hear(&mut self, said: Said) {
+        match (said.outcome, self.program) {
+            (Outcome::Other, Program::Play) => self.keep_sent(),
+            (Outcome::Other, _) => {}
+            _ => {
+                self.is_judged = true;
+                self.judge(said);
+            }
+        }
+    }
+
+    /// Keeps a packet that was printed, which an event of `play` may deliver.
+    fn keep_sent(&mut self) {
+        if self.following.is_empty() {
             return;
         }
+        let mut scratch = Scratch::new(self.alloc);
+        if let Ok(packet) = read_packet(self.alloc, &mut scratch, self.output.as_slice()) {
+            self.following.keep_sent(packet);
+        }
+    }
+
+    /// Has the operators take an event, and explains where it came to nothing.
+    fn judge(&mut self, said: Said) {
+        let why = match said.outcome {
+            Outcome::Idle | Outcome::Stepped => self.take(said.event),
+            _ => None,
+        };
         let mut text = String::new(self.alloc);
-        let is_told = match self.tell(said, &mut text) {
-            Ok(is_told) => is_told,
+        let told = match self.tell(said, why, &mut text) {
+            Ok(told) => told,
             Err(_) => {
                 self.say(b"a line is not explained, as memory ran out\n");
                 return;
             }
         };
-        if is_told {
-            self.say(text.as_bytes());
+        match told {
+            Told::Nothing => {}
+            Told::Remark => self.write(text.as_bytes()),
+            Told::Mistake => self.say(text.as_bytes()),
+        }
+    }
+
+    /// The operator of an event takes it; why that does nothing, or is refused.
+    fn take(&mut self, place: Option<usize>) -> Option<Why> {
+        if self.following.is_empty() {
+            return None;
+        }
+        let alloc = self.alloc;
+        let mut scratch = Scratch::new(alloc);
+        let texts = match place {
+            Some(_) => element_texts(alloc, self.line.as_slice()).ok()?,
+            None => Vec::new(alloc),
+        };
+        let text = match place {
+            Some(place) => *texts.get(place)?,
+            None => self.line.as_slice(),
+        };
+        match self.program {
+            Program::Answer => {
+                let Known::Site(line) = &self.known else {
+                    return None;
+                };
+                let packet = read_packet(alloc, &mut scratch, text).ok()?;
+                self.following.take_packet(line.at, &packet)
+            }
+            Program::Play => {
+                let event = read_event(alloc, &mut scratch, text).ok()?;
+                self.following.take_event(&event)
+            }
+            Program::Node(_) => {
+                let event = read_node_event(alloc, &mut scratch, text).ok()?;
+                self.following.take_node_event(&event)
+            }
+        }
+    }
+
+    fn write(&mut self, text: &[u8])
+        ensures told { self.new.has_told ≡ self.old.has_told }
+    {
+        if self.telling.explains {
+            let _ = write_whole(&mut self.errors, text);
         }
     }
 
@@ -255,27 +381,54 @@ impl<'p, E: Write> Watch<'p, E> {
         ensures told { self.new.has_told ≡ true }
     {
         self.has_told = true;
-        if self.telling.explains {
-            let _ = write_whole(&mut self.errors, text);
-        }
+        self.write(text);
     }
 
     /// Adds why a line, or an event of one, came to nothing, where that is to be told, and answers whether it is.
-    fn tell(&self, said: Said, output: &mut String) -> Result<bool, AllocError> {
+    fn tell(&self, said: Said, why: Option<Why>, output: &mut String) -> Result<Told, AllocError> {
         if !self.has_first {
             output.push_str(
                 "line 0: 1 Syntax: found no line that is not empty; wanted a first line\n",
             )?;
-            return Ok(true);
+            return Ok(Told::Mistake);
+        }
+        if said.outcome == Outcome::Stepped {
+            return self.tell_answer(said, why, output);
         }
         let Some(place) = said.event else {
             let len = self.len;
-            return self.tell_text(said, self.line.as_slice(), len, output);
+            return self.tell_text(said, why, self.line.as_slice(), len, output);
         };
         let texts = element_texts(self.alloc, self.line.as_slice())?;
         match texts.get(place) {
-            Some(text) => self.tell_text(said, *text, text.len() as u64, output),
-            None => Ok(false),
+            Some(text) => self.tell_text(said, why, *text, text.len() as u64, output),
+            None => Ok(Told::Nothing),
+        }
+    }
+
+    /// Where the event of a line is.
+    fn place_of(&self, said: Said) -> Place {
+        Place {
+            line: said.line.unwrap_or(self.number),
+            event: said.event,
+        }
+    }
+
+    /// Adds why what a packet asks for is refused, where it is.
+    fn tell_answer(
+        &self,
+        said: Said,
+        why: Option<Why>,
+        output: &mut String,
+    ) -> Result<Told, AllocError> {
+        match why {
+            Some(Why::Refused(cause)) => {
+                write!(output, "{}", self.place_of(said))?;
+                write_refused(cause, output)?;
+                output.push('\n')?;
+                Ok(Told::Remark)
+            }
+            _ => Ok(Told::Nothing),
         }
     }
 
@@ -283,28 +436,26 @@ impl<'p, E: Write> Watch<'p, E> {
     fn tell_text(
         &self,
         said: Said,
+        why: Option<Why>,
         bytes: &[u8],
         len: u64,
         output: &mut String,
-    ) -> Result<bool, AllocError> {
-        let place = Place {
-            line: said.line.unwrap_or(self.number),
-            event: said.event,
-        };
+    ) -> Result<Told, AllocError> {
+        let place = self.place_of(said);
         if said.outcome == Outcome::Refused {
             if let Some(fault) = self.fault_of(bytes, said.event.is_some()) {
                 let shape = self.program.shape(self.is_first);
                 let text = LineText { bytes, len, shape };
                 explain_malformed(self.alloc, place, fault, text, output)?;
-                return Ok(true);
+                return Ok(Told::Mistake);
             }
         }
         let mut words = String::new(self.alloc);
-        let is_told = self.tell_event(said.outcome, bytes, &mut words)?;
-        if is_told {
-            writeln!(output, "{place}{}", words.as_str())?;
+        if !self.tell_event(said.outcome, why, bytes, &mut words)? {
+            return Ok(Told::Nothing);
         }
-        Ok(is_told)
+        writeln!(output, "{place}{}", words.as_str())?;
+        Ok(Told::Mistake)
     }
 
     /// Why a text is refused, if it is.
@@ -328,6 +479,7 @@ impl<'p, E: Write> Watch<'p, E> {
     fn tell_event(
         &self,
         outcome: Outcome,
+        why: Option<Why>,
         bytes: &[u8],
         output: &mut String,
     ) -> Result<bool, AllocError> {
@@ -336,7 +488,7 @@ impl<'p, E: Write> Watch<'p, E> {
             return Ok(false);
         };
         match Value::parse(self.alloc, text, &mut scratch) {
-            Ok(event) => self.tell_read(outcome, &event, output),
+            Ok(event) => self.tell_read(outcome, why, &event, output),
             Err(_) => Ok(false),
         }
     }
@@ -344,6 +496,7 @@ impl<'p, E: Write> Watch<'p, E> {
     fn tell_read(
         &self,
         outcome: Outcome,
+        why: Option<Why>,
         event: &Value<'_>,
         output: &mut String,
     ) -> Result<bool, AllocError> {
@@ -353,12 +506,12 @@ impl<'p, E: Write> Watch<'p, E> {
             known: &self.known,
         };
         match outcome {
-            Outcome::Idle => tell_idle(case, event, output),
+            Outcome::Idle => tell_idle(case, why, event, output),
             Outcome::Skipped => {
                 tell_skipped(case, event, output)?;
                 Ok(true)
             }
-            Outcome::Refused | Outcome::Other => {
+            Outcome::Refused | Outcome::Stepped | Outcome::Other => {
                 let name = refusal_of(self.alloc, self.output.as_slice())?;
                 tell_refused(case, name.as_str(), event, output)?;
                 Ok(true)

@@ -12,6 +12,8 @@
 //!   tells apart what the standard output gets. No clause says so (tested by the examples, `faults/kill_node.py`).
 //! - The status is that of the run and of the closing of its store. No clause says so: `report_node` and `and_closed`
 //!   of `program_messages` have it, and the calls stand here (tested by the examples, `tools/try_stores`).
+//! - What is watched for explanations is passed on: a watched keeper keeps what the keeper within keeps. By
+//!   `WatchedKeep`, `WatchedKeeps`: the clauses of `Keep` and `Keeps`.
 //! - What a line gives is written before the next is carried out. No clause says so (tested by `faults/kill_node.py`).
 //!
 //! # How it is built
@@ -21,5 +23,6 @@
 #![tactic(auto)]
 
 mod node;
+mod watched_keeps;
 
 pub use node::run_node_word;

@@ -1,5 +1,6 @@
 //! One node is run on the standard input.
 
+use crate::watched_keeps::WatchedKeeps;
 use command_line::NodeWords;
 use explanations::{Program, WatchedReader, WatchedWriter};
 use line_runs::{LineReader, Ran, RunFault};
@@ -38,7 +39,7 @@ fn run_and_report(
 ) -> u8 {
     let telling = words.telling;
     let mut besides = Besides::new();
-    let lines = lines_of(rt, Program::Node(words.party), telling, words.echo);
+    let lines = lines_of(rt, seed, Program::Node(words.party), telling, words.echo);
     let watch = watch_in(&lines, telling);
     let ran = run_one_node(rt, seed, words, watch, transcript, &mut besides);
     status_with(
@@ -130,7 +131,7 @@ fn run_over<S: Keeps + Drop>(
             watch,
             transcript,
             WatchedReader::new(reader, watch),
-            keeps,
+            WatchedKeeps::new(keeps, watch),
             besides,
         ),
         Err(_) => {

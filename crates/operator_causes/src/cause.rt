@@ -49,3 +49,36 @@ pub enum IdleCause {
     /// The token may not be used: it is not valid.
     NotValid,
 }
+
+/// Why an operator refuses what a provider asks for.
+#[derive(Clone, Copy)]
+pub enum RefusalCause {
+    /// The request was answered before: its kept reply is sent again.
+    AnsweredBefore,
+    /// The token is another party's than the sender (2001).
+    TokenOfOther,
+    /// A connector is named without its EVSE (2001).
+    ConnectorAlone,
+    /// The site has no such location (2003).
+    NoLocation,
+    /// The location has no such EVSE (REJECTED).
+    NoEvse,
+    /// The EVSE has no such connector (REJECTED).
+    NoConnector,
+    /// The token is not valid (REJECTED).
+    NotValid,
+    /// The provider used the authorization reference before (REJECTED).
+    ReferenceSpent,
+    /// The reservation would have ended by the moment (REJECTED).
+    Expired,
+    /// A later request about that reservation came before (REJECTED).
+    Overtaken,
+    /// The reservation is at another location (REJECTED).
+    OtherLocation,
+    /// There is no session of that id, or it is another provider's (UNKNOWN_SESSION).
+    NoSession,
+    /// The session has ended: it is this (REJECTED).
+    Ended(SessionStatus),
+    /// The EVSE is claimed by another provider (REJECTED).
+    ClaimedByOther,
+}

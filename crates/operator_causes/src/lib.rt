@@ -27,12 +27,14 @@ mod cause;
 mod credits;
 mod laws;
 mod readings;
+mod refusals;
 mod reports;
 mod service;
 mod swipes;
 
-pub use cause::IdleCause;
+pub use cause::{IdleCause, RefusalCause};
 pub use credits::why_no_credit;
 pub use laws::{causes_are_idle, causes_are_one};
+pub use refusals::{why_packet_refused, why_refused};
 pub use reports::why_no_report;
 pub use service::why_no_service;

@@ -5,6 +5,7 @@ ghost use Rattle.std.specs.Prelude.{◌≡◌, ◌≢◌, true, false};
 use explanations::{Program, Telling, Watch};
 use std::cell::RefCell;
 use std::io::Stderr;
+use tables::HashSeed;
 
 /// What watches the lines of a program, and explains them on standard error.
 pub type Lines<'p> = RefCell<Watch<'p, Stderr>>;
@@ -12,11 +13,19 @@ pub type Lines<'p> = RefCell<Watch<'p, Stderr>>;
 /// Of a program that has read nothing yet.
 pub fn lines_of<'p>(
     rt: &HostRuntime,
+    seed: HashSeed,
     program: Program<'p>,
     telling: Telling,
     echoes: bool,
 ) -> Lines<'p> {
-    RefCell::new(Watch::new(rt.alloc(), program, telling, echoes, rt.stderr()))
+    RefCell::new(Watch::new(
+        rt.alloc(),
+        seed,
+        program,
+        telling,
+        echoes,
+        rt.stderr(),
+    ))
 }
 
 /// What is to be shown the lines: nothing, where nothing is told of them.

@@ -13,7 +13,7 @@ use tables::HashSeed;
 /// Runs `answer`, says what stopped it, and answers the exit status.
 pub fn run_answer_word(rt: &HostRuntime, seed: HashSeed, telling: Telling) -> u8 {
     let told = Told::new(rt.alloc());
-    let lines = lines_of(rt, Program::Answer, telling, false);
+    let lines = lines_of(rt, seed, Program::Answer, telling, false);
     let ran = answer_buffered(rt, seed, watch_in(&lines, telling));
     status_with(report(rt, ran, &told), telling, lines.into_inner())
 }

@@ -17,7 +17,7 @@ use tables::HashSeed;
 pub fn run_play_word(rt: &HostRuntime, seed: HashSeed, words: &PlayWords<'_>) -> u8 {
     let telling = words.telling;
     let mut told = Told::new(rt.alloc());
-    let lines = lines_of(rt, Program::Play, telling, false);
+    let lines = lines_of(rt, seed, Program::Play, telling, false);
     let watch = watch_in(&lines, telling);
     let ran = match words.folder {
         None => play_buffered(rt, seed, watch, words.done, &mut told),
