@@ -1,0 +1,5 @@
+pub mod Idle
+pub mod IdleReports
+pub mod IdleSwipes
+pub mod IdleLaws
+pub mod Once

@@ -2,7 +2,7 @@
 use Rattle.std.specs.Prelude.{◌≡◌, ℕ, Bool, List, []}
 use Rattle.ocpi_types.specs.declared.events.ChargerEvent.{ChargerEvent}
 use Rattle.node_steps.specs.Acts.{Act}
-use Rattle.operator_rows.specs.State.{State}
+use Rattle.operator_rows.specs.State.{OneClaimEach, State}
 use Rattle.operator_steps.specs.Charger.{ChargerLine}
 use Rattle.operator_steps.specs.Credits.{CreditLine}
 use Rattle.operator_steps.specs.Moves.{Work, quiet}
@@ -11,12 +11,12 @@ use Rattle.operator_causes.specs.Causes.{CreditCause, ServiceCause}
 use Rattle.operator_causes.specs.Reports.{ReportCause}
 use Rattle.operator_causes.specs.declared.cause.IdleCause.{IdleCause}
 
--- where a cause holds, the event does nothing
+-- where a cause holds, the event does nothing. (No EVSE has two claims, at all times.)
 pub record CausesAreIdle : Type 0 where
   pub credits : (s : State) (at : ℕ) (session : List ℕ) (x : IdleCause) (acts : List Act) → CreditCause s session x → CreditLine s at session acts → acts ≡ []
   pub service : (s : State) (evse : List ℕ) (in_service : Bool) (x : IdleCause) (acts : List Act) → ServiceCause s evse in_service x →
       ServiceLine s evse in_service acts → acts ≡ []
-  pub reports : (s : State) (at : ℕ) (report : ChargerEvent) (x : IdleCause) (work : Work) → ReportCause s report x → ChargerLine s at report work → work ≡ quiet []
+  pub reports : (s : State) (at : ℕ) (report : ChargerEvent) (x : IdleCause) (work : Work) → OneClaimEach s.rows → ReportCause s report x → ChargerLine s at report work → work ≡ quiet []
 
 -- no two causes hold of one event
 pub record CausesAreOne : Type 0 where
