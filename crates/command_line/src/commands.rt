@@ -61,7 +61,7 @@ fn strict<'a>(alloc: Global) -> Arg<'a> {
     Arg::new(alloc, "strict")
         .long("strict")
         .action(ArgAction::SetTrue)
-        .help("Exit with status 1 where --explain prints something")
+        .help("Exit with status 1 where --explain says that a line is a mistake")
 }
 
 fn play<'a>(alloc: Global) -> Result<Command<'a>, Error> {

@@ -36,7 +36,8 @@ Output, on standard output:
 
 Explanations, on standard error: with --explain, for each line that was refused: its number, the
   refusal, the path of the member or the column, what was found, and what is wanted there. With
-  --strict the status is 1 where there was such a line. The output is the same with or without.
+  --strict the status is 1 where there was such a line. --explain also says why a command or a token
+  is answered REJECTED, UNKNOWN_SESSION, 2001 or 2003. The output is the same with or without.
 
 Exit status:
   0  no line was refused
@@ -69,8 +70,9 @@ Output, on standard output:
 
 Explanations, on standard error: with --explain, for each line that was refused: its number, the
   refusal, the path of the member or the column, what was found, and what is wanted there; and for
-  each that was skipped, and each report of a charge point that did nothing, why that may be. With
-  --strict the status is 1 where there was such a line. The output is the same with or without.
+  each that was skipped, and each report, credit and service that did nothing, the cause. With
+  --strict the status is 1 where there was such a line. --explain also says why an operator answers
+  REJECTED, UNKNOWN_SESSION, 2001 or 2003. The output is the same with or without.
 
 Stores: with --store DIR the rows of the i-th node, from 1, are kept in the file DIR/node<i>.db. The
   folder must exist, and the files must not: they are created, for their owner alone (mode 0600).
@@ -127,9 +129,10 @@ Transcript: with --transcript FILE what --echo would print is added to that file
 
 Explanations, on standard error: with --explain, for each line, or event of one, that was malformed
   or refused: its number, the refusal, the path of the member or the column, what was found, and
-  what is wanted there; and for each that was skipped, and each report of a charge point that was
-  idle, why that may be. With --strict the status is 1 where there was such a line. The output is
-  the same with or without.
+  what is wanted there; and for each that was skipped, and each report, credit and service that was
+  idle, the cause. With --strict the status is 1 where there was such a line. --explain also says
+  why an operator answers REJECTED, UNKNOWN_SESSION, 2001 or 2003. An operator with either word
+  keeps its rows twice in memory. The output is the same with or without.
 
 Store: with --store FILE the node's rows are kept in that file, which is created where it is
   missing, for its owner alone (mode 0600). If it has rows, the node goes on from them. The rows

@@ -132,7 +132,7 @@ fn write_unknown(
     match cause {
         IdleCause::NoToken => write!(
             output,
-            "; wanted a token of type {} that a provider sent, or that of the reservation there",
+            "; wanted a token of type {} that is stored",
             text_of(event, Field::TokenType)
         ),
         _ => output.push_str(", a token that is not valid"),
@@ -167,7 +167,10 @@ fn write_there(
             output,
             "evse_uid: {uid} is taken: by a session, an open start, or a reservation for another token"
         ),
-        _ => write!(output, "in_service: {uid} is already so"),
+        _ => match event.get(Field::InService.name()) {
+            Some(Value::Bool(false)) => write!(output, "in_service: {uid} is out of service already"),
+            _ => write!(output, "in_service: {uid} is in service already"),
+        },
     }
 }
 

@@ -165,7 +165,9 @@ impl Following {
 
     /// Follows an operator no more.
     fn lose(&mut self, place: usize) {
-        drop(self.operators.swap_remove(place));
+        if place < self.operators.len() {
+            drop(self.operators.swap_remove(place));
+        }
     }
 
     /// Takes an event of `node`, and says why it does nothing, or is refused.
@@ -211,7 +213,7 @@ impl Following {
     }
 
     fn on_service(&mut self, place: usize, evse_uid: &CiText<36>, in_service: bool) -> Option<Why> {
-        let operator = &mut self.operators[place].operator;
+        let operator = &mut self.operators.get_mut(place)?.operator;
         let cause = why_no_service(operator.books(), evse_uid.key(), in_service);
         if operator.on_service(evse_uid.key(), in_service).is_err() {
             self.lose(place);
@@ -220,7 +222,7 @@ impl Following {
     }
 
     fn on_charger(&mut self, place: usize, at: Moment, report: &ChargerEvent) -> Option<Why> {
-        let operator = &mut self.operators[place].operator;
+        let operator = &mut self.operators.get_mut(place)?.operator;
         let cause = why_no_report(operator.books(), report);
         if operator.on_charger(at, report).is_err() {
             self.lose(place);
@@ -230,7 +232,7 @@ impl Following {
 
     fn on_credit(&mut self, place: usize, at: Moment, session: &CiText<36>) -> Option<Why> {
         let alloc = self.alloc;
-        let operator = &mut self.operators[place].operator;
+        let operator = &mut self.operators.get_mut(place)?.operator;
         let cause = why_no_credit(alloc, operator.books(), session.key());
         if operator.on_credit(at, session.key()).is_err() {
             self.lose(place);
@@ -242,7 +244,8 @@ impl Following {
     }
 
     fn on_packet(&mut self, place: usize, at: Moment, packet: &Packet) -> Option<Why> {
-        let (why, taken) = take_packet(&mut self.operators[place].operator, at, packet);
+        let operator = &mut self.operators.get_mut(place)?.operator;
+        let (why, taken) = take_packet(operator, at, packet);
         if taken.is_err() {
             self.lose(place);
         }
@@ -265,8 +268,8 @@ impl Following {
             self.lose(place);
             return None;
         };
-        let operator = &mut self.operators[place].operator;
-        let (why, taken) = take_packet(operator, at, &self.sent[found]);
+        let operator = &mut self.operators.get_mut(place)?.operator;
+        let (why, taken) = take_packet(operator, at, self.sent.get(found)?);
         if taken.is_err() {
             self.lose(place);
         }
@@ -274,14 +277,15 @@ impl Following {
     }
 
     fn on_tick(&mut self, place: usize, at: Moment) -> Option<Why> {
-        if self.operators[place].operator.on_tick(at).is_err() {
+        let operator = &mut self.operators.get_mut(place)?.operator;
+        if operator.on_tick(at).is_err() {
             self.lose(place);
         }
         None
     }
 
     fn restart(&mut self, place: usize) -> Option<Why> {
-        self.operators[place].operator.restart();
+        self.operators.get_mut(place)?.operator.restart();
         None
     }
 }

@@ -317,7 +317,7 @@ impl<'p, E: Write> Watch<'p, E> {
     /// Has the operators take an event, and explains where it came to nothing.
     fn judge(&mut self, said: Said) {
         let why = match said.outcome {
-            Outcome::Idle | Outcome::Stepped => self.take(said.event),
+            Outcome::Idle | Outcome::Stepped => self.follow(said.event),
             _ => None,
         };
         let mut text = String::new(self.alloc);
@@ -336,7 +336,7 @@ impl<'p, E: Write> Watch<'p, E> {
     }
 
     /// The operator of an event takes it; why that does nothing, or is refused.
-    fn take(&mut self, place: Option<usize>) -> Option<Why> {
+    fn follow(&mut self, place: Option<usize>) -> Option<Why> {
         if self.following.is_empty() {
             return None;
         }

@@ -60,6 +60,7 @@ mod told;
 mod weaving;
 mod words;
 mod written;
+mod wrong;
 
 pub use fault::{GivenFault, WeaveRunFault};
 use line_runs::{Ran, RunFault, flush, write_whole};

@@ -13,6 +13,7 @@ use crate::given::{NotGiven, given_parties};
 use crate::refusal::{file_refusal, weave_refusal};
 use crate::told::{TranscriptFile, read_files};
 use crate::words::{words_for, words_for_file};
+use crate::wrong::say_cause;
 use crate::written::{other_text, played_text};
 use given_laws::laws::own_interleavings_are_network_runs;
 use histories::NodeHistory;
@@ -195,6 +196,7 @@ pub(crate) fn weave_files<'a>(
         Ok(transcripts) => weave_told(alloc, files, transcripts.as_slice(), words),
         Err(refused) => {
             let line = file_refusal(alloc, refused.name, refused.fault)?;
+            say_cause(alloc, files, &refused, &mut said);
             let words = words_for_file(alloc, refused.name, said.as_str());
             Ok(Written::Refused(Refusal { line, words }))
         }
