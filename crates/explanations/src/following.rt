@@ -60,10 +60,10 @@ fn line_of(
     party: &Party,
     site: &Site,
 ) -> Result<Option<SiteLine>, AllocError> {
-    let (Some(at), Some(parties)) = (
-        first_moment(),
-        Parties::new(*party, providers(alloc, setup)?),
-    ) else {
+    let Some(at) = first_moment() else {
+        return Ok(None);
+    };
+    let Some(parties) = Parties::new(*party, providers(alloc, setup)?) else {
         return Ok(None);
     };
     Ok(Some(SiteLine {

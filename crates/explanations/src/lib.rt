@@ -16,8 +16,11 @@
 //! - The explanation of a malformed line begins with the line's number, the place of the event in it where it has
 //!   several, and the refusal with the name of its member. By `explain_malformed` (`specs/Explained`).
 //! - Which path, column and words follow, which idle and skipped events are told, and why: no clause says so. Tested
-//!   by the examples `explain/play`, `explain/node`, `explain/answer`, and by `tools/try_explanations`, which changes
-//!   each member of lines of all kinds.
+//!   by the examples `explain/play`, `explain/node`, `explain/answer`, `explain/causes`, `explain/refused_commands`,
+//!   and by `tools/try_explanations`, which changes each member of lines of all kinds.
+//! - The cause of an idle event, and of a command that is refused, is asked of the books of its operator, which took
+//!   each event before it that the node took (`followed_operators`, `operator_causes`). That the watch hands them just
+//!   those events no clause says.
 #![tactic(auto)]
 
 mod answers;

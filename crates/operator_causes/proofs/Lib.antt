@@ -3,3 +3,4 @@ pub mod IdleReports
 pub mod IdleSwipes
 pub mod IdleLaws
 pub mod Once
+pub mod Deciding

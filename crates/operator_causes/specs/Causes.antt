@@ -44,6 +44,12 @@ pub data UnsentCause (s : State) (bill : Cdr) (x : IdleCause) : Type 0 where
   NoId : HasNoCreditId s.rows bill → x ≡ cause.NoCreditId → UnsentCause s bill x
   ToNobody : HasCreditId s.rows bill → HasNoProvider s bill → x ≡ cause.NoProvider → UnsentCause s bill x
 
+-- the credit of the bill may have its id, and goes to the provider of the bill's token
+pub record CanSend (s : State) (bill : Cdr) : Type 0 where
+  pub id : HasCreditId s.rows bill
+  pub to : List ℕ
+  pub of_provider : IsPeer s.providers bill.cdr_token.party to
+
 -- why an order to take the bill of that session back does nothing
 pub data CreditCause (s : State) (session : List ℕ) (x : IdleCause) : Type 0 where
   NoSession : get s.rows.charged.sessions session ≡ None → x ≡ cause.NoSession → CreditCause s session x

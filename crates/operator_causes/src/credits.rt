@@ -2,7 +2,7 @@
 
 ghost use Rattle.std.specs.Prelude.{◌≡◌, ◌↔◌, IsTrue, IfOk, IfSome, IfNone};
 ghost use Rattle.ocpi_types.specs.declared.words.SessionStatus.TheVariants.{Completed};
-ghost use Rattle.operator_causes.specs.Causes.{CanCredit, CreditCause, IsUncreditedBill, UnsentCause};
+ghost use Rattle.operator_causes.specs.Causes.{CanCredit, CanSend, CreditCause, UnsentCause};
 
 use crate::cause::IdleCause;
 use node_steps::find_peer;
@@ -32,12 +32,10 @@ fn is_completed(status: SessionStatus) -> bool
 fn why_unsent(
     alloc: Global,
     books: &Books,
-    session: CiKey<36>,
     bill: &Cdr,
 ) -> Result<Option<IdleCause>, AllocError>
-    requires { IsUncreditedBill books.now.state.rows session bill.now }
     ensures cause { IfOk result (λ o. IfSome o (UnsentCause books.now.state bill.now)) }
-    ensures none { IfOk result (λ o. IfNone o (CanCredit books.now.state session)) }
+    ensures none { IfOk result (λ o. IfNone o (CanSend books.now.state bill.now)) }
 {
     if bill.id.as_str().len() > MOST_CHARACTERS {
         return Ok(Some(IdleCause::NoCreditId));
@@ -73,5 +71,5 @@ pub fn why_no_credit(
     let Some(bill) = books.charged().sole_bill(session) else {
         return Ok(Some(IdleCause::NoBill));
     };
-    why_unsent(alloc, books, session, bill)
+    why_unsent(alloc, books, bill)
 }

@@ -1,8 +1,13 @@
 //! Why a provider's command, or its token, is refused (OCPI 2.2.1, Commands; Status codes: 2001 and 2003).
 
-ghost use Rattle.std.specs.Prelude.{◌≡◌, IsNone, IsSome};
+ghost use Rattle.std.specs.Prelude.{◌≡◌, IfNone, IfSome, IsNone, IsSome, IsTrue};
 ghost use Rattle.ocpi_text.specs.Text.{key};
-ghost use Rattle.site_book.specs.Sites.{IsFoundIn};
+ghost use Rattle.ocpi_types.specs.declared.site.Connector.{Connector};
+ghost use Rattle.ocpi_types.specs.declared.site.Evse.{Evse};
+ghost use Rattle.site_book.specs.Sites.{Fits, IsEvseFor, IsFoundIn, location_of};
+ghost use Rattle.operator_tables.specs.Unlock.{IsAtConnector};
+ghost use Rattle.operator_causes.specs.Refusals.{CancelCause, Refuses, ReserveCause, StartCause, StopCause, UnlockCause};
+ghost use Rattle.operator_causes.specs.Unplaced.{HasPlace, IsUnplaced};
 
 use crate::cause::RefusalCause;
 use ocpi_text::{CiText, Moment, Party, PartyKey};
@@ -24,6 +29,8 @@ fn why_no_place(
 ) -> Option<RefusalCause>
     requires found { IsFoundIn books.now.state.site at.now }
     requires named { IsSome connector_id.now × IsNone evse_uid.now → ⊥ }
+    ensures cause { IfSome result (IsUnplaced (location_of at.now) evse_uid.now connector_id.now) }
+    ensures none { IfNone result (HasPlace (location_of at.now) evse_uid.now connector_id.now) }
 {
     let site = books.site_book();
     if site.find_evse(at, evse_uid).is_none() {
@@ -41,7 +48,10 @@ fn why_no_start(
     sender: &Party,
     provider: PartyKey,
     command: &StartSession,
-) -> Option<RefusalCause> {
+) -> Option<RefusalCause>
+    requires { provider ≡ key sender.now }
+    ensures cause { IfSome result (StartCause books.now.state.site books.now.state.rows sender.now command.now) }
+{
     if !command.token.party.is_same(sender) {
         return Some(RefusalCause::TokenOfOther);
     }
@@ -64,7 +74,15 @@ fn why_no_start(
 }
 
 /// Why a STOP_SESSION is refused, if it is.
-fn why_no_stop(books: &Books, provider: PartyKey, command: &StopSession) -> Option<RefusalCause> {
+fn why_no_stop(
+    books: &Books,
+    sender: &Party,
+    provider: PartyKey,
+    command: &StopSession,
+) -> Option<RefusalCause>
+    requires { provider ≡ key sender.now }
+    ensures cause { IfSome result (StopCause books.now.state.rows sender.now command.now) }
+{
     let Some(session) = books.charged().session(command.session_id.key()) else {
         return Some(RefusalCause::NoSession);
     };
@@ -79,22 +97,16 @@ fn why_no_stop(books: &Books, provider: PartyKey, command: &StopSession) -> Opti
     }
 }
 
-/// Why a request about a reservation is refused, if it is, by what its book says.
-fn why_not_taken(checked: Result<(), ReservationFault>) -> Option<RefusalCause> {
-    match checked {
-        Ok(()) => None,
-        Err(ReservationFault::OtherLocation) => Some(RefusalCause::OtherLocation),
-        Err(_) => Some(RefusalCause::Overtaken),
-    }
-}
-
 /// Why a RESERVE_NOW is refused, if it is.
 fn why_no_reservation(
     books: &Books,
     request: &Request,
     sender: &Party,
     command: &ReserveNow,
-) -> Option<RefusalCause> {
+) -> Option<RefusalCause>
+    requires { request.now.provider ≡ key sender.now }
+    ensures cause { IfSome result (ReserveCause books.now.state.site books.now.state.rows request.now.at sender.now request.now.number command.now) }
+{
     if !command.token.party.is_same(sender) {
         return Some(RefusalCause::TokenOfOther);
     }
@@ -110,25 +122,34 @@ fn why_no_reservation(
     if command.expiry_date <= request.at {
         return Some(RefusalCause::Expired);
     }
-    why_not_taken(books.booked().check_reservation(
+    match books.booked().check_reservation(
         request.provider,
         command.reservation_id.key(),
         request.number,
         &command.location_id,
-    ))
+    ) {
+        Ok(()) => None,
+        Err(ReservationFault::Stale(_)) => Some(RefusalCause::Overtaken),
+        Err(ReservationFault::OtherLocation) => Some(RefusalCause::OtherLocation),
+        Err(ReservationFault::Memory) => unreachable!(),
+    }
 }
 
 /// Why a CANCEL_RESERVATION is refused, if it is.
 fn why_no_cancel(
     books: &Books,
     request: &Request,
+    sender: &Party,
     command: &CancelReservation,
-) -> Option<RefusalCause> {
-    why_not_taken(books.booked().check_number(
-        request.provider,
-        command.reservation_id.key(),
-        request.number,
-    ))
+) -> Option<RefusalCause>
+    requires { request.now.provider ≡ key sender.now }
+    ensures cause { IfSome result (CancelCause books.now.state.rows sender.now request.now.number command.now) }
+{
+    let (booked, id) = (books.booked(), command.reservation_id.key());
+    match booked.check_number(request.provider, id, request.number) {
+        Ok(()) => None,
+        Err(_fault) => Some(RefusalCause::Overtaken),
+    }
 }
 
 /// The party whose claim it is.
@@ -143,9 +164,13 @@ fn holder(claim: &Claim) -> PartyKey {
 /// Why an UNLOCK_CONNECTOR is refused, if it is.
 fn why_no_unlock(
     books: &Books,
+    sender: &Party,
     provider: PartyKey,
     command: &UnlockConnector,
-) -> Option<RefusalCause> {
+) -> Option<RefusalCause>
+    requires { provider ≡ key sender.now }
+    ensures cause { IfSome result (UnlockCause books.now.state.site books.now.state.rows sender.now command.now) }
+{
     let Some(at) = books.site_book().find_location(&command.location_id) else {
         return Some(RefusalCause::NoLocation);
     };
@@ -174,14 +199,15 @@ pub fn why_refused(
     command: &Command,
 ) -> Option<RefusalCause>
     requires { request.now.provider ≡ key sender.now }
+    ensures cause { IfSome result (Refuses books.now.state.site books.now.state.rows request.now.at sender.now request.now.number command.now) }
 {
     let provider = request.provider;
     match command {
         Command::StartSession(command) => why_no_start(books, sender, provider, command),
-        Command::StopSession(command) => why_no_stop(books, provider, command),
+        Command::StopSession(command) => why_no_stop(books, sender, provider, command),
         Command::ReserveNow(command) => why_no_reservation(books, request, sender, command),
-        Command::CancelReservation(command) => why_no_cancel(books, request, command),
-        Command::UnlockConnector(command) => why_no_unlock(books, provider, command),
+        Command::CancelReservation(command) => why_no_cancel(books, request, sender, command),
+        Command::UnlockConnector(command) => why_no_unlock(books, sender, provider, command),
     }
 }
 
@@ -201,11 +227,10 @@ fn is_refusal(reply: &Reply) -> bool {
 pub fn why_packet_refused(books: &Books, at: Moment, packet: &Packet) -> Option<RefusalCause> {
     let provider = packet.from.key();
     if let Some(reply) = books.reply(provider, packet.request) {
-        return if is_refusal(reply) {
-            Some(RefusalCause::AnsweredBefore)
-        } else {
-            None
-        };
+        if is_refusal(reply) {
+            return Some(RefusalCause::AnsweredBefore);
+        }
+        return None;
     }
     match &packet.body {
         Body::Command(command) => {

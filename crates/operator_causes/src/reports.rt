@@ -1,10 +1,11 @@
 //! Why a charge point's report does nothing (OCPI 2.2.1, Commands: CommandResultType; Sessions: SessionStatus).
 
-ghost use Rattle.std.specs.Prelude.{◌≡◌, ℕ, IfErr, IfOk, IfSome, IfNone, List};
+ghost use Rattle.std.specs.Prelude.{◌≡◌, ℕ, true, false, IfErr, IfOk, IfSome, IfNone, List};
+ghost use Rattle.ocpi_text.specs.Text.{key};
 ghost use Rattle.site_book.specs.declared.claim.Claim.TheVariants.{OpenStart};
 ghost use Rattle.operator_rows.specs.State.{HasClaim};
 ghost use Rattle.session_tables.specs.Moves.{IsSessionAt};
-ghost use Rattle.operator_causes.specs.Reports.{CommandCause, DoesEnd, DoesMove, IsAbsent, IsIdle, ReportCause, SessionCause, may_end};
+ghost use Rattle.operator_causes.specs.Reports.{CommandCause, DoesEnd, DoesMove, IsAbsent, IsIdle, ReportCause, SessionCause, is_carried, is_unlock, may_end};
 ghost use Rattle.ocpi_types.specs.declared.events.ChargerEvent.TheVariants as event;
 
 use crate::cause::IdleCause;
@@ -16,15 +17,38 @@ use operator_rows::Books;
 use session_tables::session_at;
 use site_book::Claim;
 
+/// Whether a charge point carries that command out.
+fn is_carried(command: &Command) -> bool
+    ensures { result ≡ is_carried command.now }
+{
+    match command {
+        Command::StartSession(_) | Command::StopSession(_) => true,
+        Command::ReserveNow(_) | Command::CancelReservation(_) | Command::UnlockConnector(_) => {
+            false
+        }
+    }
+}
+
+/// Whether the command is an unlock.
+fn is_unlock(command: &Command) -> bool
+    ensures { result ≡ is_unlock command.now }
+{
+    match command {
+        Command::UnlockConnector(_) => true,
+        Command::StartSession(_)
+        | Command::StopSession(_)
+        | Command::ReserveNow(_)
+        | Command::CancelReservation(_) => false,
+    }
+}
+
 /// Whether a report may be of an open command of that kind.
 fn may_end(report: &ChargerEvent, command: &Command) -> bool
     ensures { result ≡ may_end report.now command.now }
 {
     match report {
-        ChargerEvent::Accepts { .. } => {
-            matches!(command, Command::StartSession(_) | Command::StopSession(_))
-        }
-        ChargerEvent::Unlocked { .. } => matches!(command, Command::UnlockConnector(_)),
+        ChargerEvent::Accepts { .. } => is_carried(command),
+        ChargerEvent::Unlocked { .. } => is_unlock(command),
         ChargerEvent::Refuses { .. } => true,
         _ => false,
     }
@@ -79,7 +103,10 @@ fn why_no_start(books: &Books, report: &ChargerEvent, evse: CiKey<36>) -> Option
         Err(cause) => Some(cause),
         Ok(version) => match version.status {
             SessionStatus::Pending => None,
-            _ => Some(IdleCause::NotPending),
+            SessionStatus::Active => Some(IdleCause::NotPending),
+            SessionStatus::Completed | SessionStatus::Invalid | SessionStatus::Reservation => {
+                unreachable!()
+            }
         },
     }
 }
@@ -99,7 +126,10 @@ fn why_no_reading(
         Err(cause) => Some(cause),
         Ok(version) => match version.status {
             SessionStatus::Active => why_unread(version, kwh),
-            _ => Some(IdleCause::NotActive),
+            SessionStatus::Pending => Some(IdleCause::NotActive),
+            SessionStatus::Completed | SessionStatus::Invalid | SessionStatus::Reservation => {
+                unreachable!()
+            }
         },
     }
 }
