@@ -29,6 +29,7 @@ mod finding;
 mod following;
 mod forms;
 mod known;
+mod line_faults;
 mod malformed;
 mod nearest;
 mod nesting;

@@ -6,15 +6,14 @@ use crate::answers::{Case, Program, tell_idle, tell_refused, tell_skipped};
 use crate::causes::write_refused;
 use crate::following::{Following, Why};
 use crate::known::Known;
+use crate::line_faults::fault_of;
 use crate::malformed::{LineText, Place, explain_malformed};
 use crate::output_lines::{Outcome, Said, refusal_of, said_by};
 use json::{Scratch as JsonScratch, Value};
 use line_runs::{KEPT_BYTES, write_whole};
-use node_lines::{element_texts, read_node_line};
-use ocpi_json::{
-    JsonFault, Scratch, read_event, read_node_event, read_packet, read_setup, read_site,
-};
-use ocpi_types::{Field, Row};
+use node_lines::element_texts;
+use ocpi_json::{Scratch, read_event, read_node_event, read_packet, read_setup, read_site};
+use ocpi_types::Row;
 use std::alloc::{AllocError, Global};
 use std::io::Write;
 use std::str;
@@ -443,7 +442,10 @@ impl<'p, E: Write> Watch<'p, E> {
     ) -> Result<Told, AllocError> {
         let place = self.place_of(said);
         if said.outcome == Outcome::Refused {
-            if let Some(fault) = self.fault_of(bytes, said.event.is_some()) {
+            let (is_first, is_element) = (self.is_first, said.event.is_some());
+            if let Some(fault) =
+                fault_of(self.alloc, self.program, is_first, is_element, bytes)
+            {
                 let shape = self.program.shape(self.is_first);
                 let text = LineText { bytes, len, shape };
                 explain_malformed(self.alloc, place, fault, text, output)?;
@@ -456,23 +458,6 @@ impl<'p, E: Write> Watch<'p, E> {
         }
         writeln!(output, "{place}{}", words.as_str())?;
         Ok(Told::Mistake)
-    }
-
-    /// Why a text is refused, if it is.
-    fn fault_of(&self, text: &[u8], is_element: bool) -> Option<JsonFault> {
-        let alloc = self.alloc;
-        let mut scratch = Scratch::new(alloc);
-        match (self.program, self.is_first) {
-            (Program::Answer, true) => read_site(alloc, &mut scratch, text).err(),
-            (Program::Answer, false) => read_packet(alloc, &mut scratch, text).err(),
-            (Program::Play, true) => read_setup(alloc, &mut scratch, text).err(),
-            (Program::Node(_), true) => Some(setup_fault(alloc, &mut scratch, text)),
-            (Program::Play, false) => read_event(alloc, &mut scratch, text).err(),
-            (Program::Node(_), false) if is_element => {
-                read_node_event(alloc, &mut scratch, text).err()
-            }
-            (Program::Node(_), false) => read_node_line(alloc, &mut scratch, text).err(),
-        }
     }
 
     /// Adds why an event that can be read came to nothing, where that is to be told, and answers whether it is.
@@ -517,16 +502,5 @@ impl<'p, E: Write> Watch<'p, E> {
                 Ok(true)
             }
         }
-    }
-}
-
-/// Why `node` refuses a text as its setup. One that can be read has no number from which lines may be counted on.
-fn setup_fault(alloc: Global, scratch: &mut Scratch, text: &[u8]) -> JsonFault {
-    match read_setup(alloc, scratch, text) {
-        Ok(setup) => {
-            drop(setup);
-            JsonFault::WrongForm(Field::Line)
-        }
-        Err(fault) => fault,
     }
 }

@@ -41,10 +41,10 @@ module _ (site : Site) (s : Rows) (sender : List ℕ) (x : RefusalCause) where
   stop_decides c (causes.Ended v own final is) = stop.Ended v own final (ap decided_by is)
 
   reserve_decides : (at n : ℕ) (c : ReserveNow) → ReserveCause site s at sender n c x → ReserveLine site s at sender n c (decided_by x)
-  reserve_decides at n c (causes.TokenOfOther h is) = reserve.Mismatched h (ap decided_by is)
-  reserve_decides at n c (causes.NoLocation own none is) = reserve.UnknownLocation own none (ap decided_by is)
-  reserve_decides at n c (causes.NoEvse l placed none is) = reserve.NoEvse l placed none (ap decided_by is)
-  reserve_decides at n c (causes.NotValid l e placed no is) = reserve.Void l e placed (inl no) (ap decided_by is)
+  reserve_decides at n c (causes.ReserveTokenOfOther h is) = reserve.Mismatched h (ap decided_by is)
+  reserve_decides at n c (causes.ReserveNoLocation own none is) = reserve.UnknownLocation own none (ap decided_by is)
+  reserve_decides at n c (causes.ReserveNoEvse l placed none is) = reserve.NoEvse l placed none (ap decided_by is)
+  reserve_decides at n c (causes.ReserveNotValid l e placed no is) = reserve.Void l e placed (inl no) (ap decided_by is)
   reserve_decides at n c (causes.Expired l e placed yes late is) = reserve.Void l e placed (inr late) (ap decided_by is)
   reserve_decides at n c (causes.Overtaken l e sound late is) = reserve.Stale l e sound late (ap decided_by is)
   reserve_decides at n c (causes.OtherLocation l e timely other is) = reserve.Elsewhere l e timely other (ap decided_by is)
@@ -53,9 +53,9 @@ module _ (site : Site) (s : Rows) (sender : List ℕ) (x : RefusalCause) where
   cancel_decides n c h = cancel.Stale h.overtaken (ap decided_by h.cause_is)
 
   unlock_decides : (c : UnlockConnector) → UnlockCause site s sender c x → UnlockLine site s sender c (decided_by x)
-  unlock_decides c (causes.NoLocation none is) = unlock.UnknownLocation none (ap decided_by is)
-  unlock_decides c (causes.NoEvse l found none is) = unlock.NoPlace l found (λ e k fits. none e (record { listed = fits.listed; named = fits.named })) (ap decided_by is)
-  unlock_decides c (causes.NoConnector l e found here none is) = unlock.NoPlace l found none (ap decided_by is)
+  unlock_decides c (causes.UnlockNoLocation none is) = unlock.UnknownLocation none (ap decided_by is)
+  unlock_decides c (causes.UnlockNoEvse l found none is) = unlock.NoPlace l found (λ e k fits. none e (record { listed = fits.listed; named = fits.named })) (ap decided_by is)
+  unlock_decides c (causes.UnlockNoConnector l e found here none is) = unlock.NoPlace l found none (ap decided_by is)
   unlock_decides c (causes.ClaimedByOther l e k here foreign is) = unlock.Foreign l e k here foreign (ap decided_by is)
 
 pub refusals_decide : RefusalsDecide

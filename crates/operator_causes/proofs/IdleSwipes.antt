@@ -98,7 +98,7 @@ unopened s evse uid type x held (reports.Unready cause) opened = unready s evse 
 unopened s evse uid type x held (reports.Claimed ready closed is) opened = closed held opened
 
 unplaced : (s : State) (evse connector : List ℕ) (x : IdleCause) → PlaceCause s.site.locations evse connector x → HasNoConnector s.site.locations evse connector
-unplaced s evse connector x (reports.Unknown no none is) = none
+unplaced s evse connector x (reports.Unsited no none is) = none
 unplaced s evse connector x (reports.Unconnected has none is) = none
 
 pub nothing_shown : (s : State) (evse connector uid : List ℕ) (type : TokenType) (x : IdleCause) (d : Shown) → OneClaimEach s.rows →

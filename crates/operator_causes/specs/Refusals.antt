@@ -65,10 +65,10 @@ pub data StopCause (s : Rows) (sender : List ℕ) (c : StopSession) (x : Refusal
 
 -- why a RESERVE_NOW is refused
 pub data ReserveCause (site : Site) (s : Rows) (at : ℕ) (sender : List ℕ) (n : ℕ) (c : ReserveNow) (x : RefusalCause) : Type 0 where
-  TokenOfOther : key c.token.party ≢ key sender → x ≡ cause.TokenOfOther → ReserveCause site s at sender n c x
-  NoLocation : key c.token.party ≡ key sender → HasNoLocation site c.location_id → x ≡ cause.NoLocation → ReserveCause site s at sender n c x
-  NoEvse : (l : Location) → reserve.IsPlaced site sender c l → HasNoEvse l c.evse_uid → x ≡ cause.NoEvse → ReserveCause site s at sender n c x
-  NotValid : (l : Location) (e : Evse) → reserve.IsAtEvse site sender c l e → c.token.valid ≡ false → x ≡ cause.NotValid → ReserveCause site s at sender n c x
+  ReserveTokenOfOther : key c.token.party ≢ key sender → x ≡ cause.TokenOfOther → ReserveCause site s at sender n c x
+  ReserveNoLocation : key c.token.party ≡ key sender → HasNoLocation site c.location_id → x ≡ cause.NoLocation → ReserveCause site s at sender n c x
+  ReserveNoEvse : (l : Location) → reserve.IsPlaced site sender c l → HasNoEvse l c.evse_uid → x ≡ cause.NoEvse → ReserveCause site s at sender n c x
+  ReserveNotValid : (l : Location) (e : Evse) → reserve.IsAtEvse site sender c l e → c.token.valid ≡ false → x ≡ cause.NotValid → ReserveCause site s at sender n c x
   Expired : (l : Location) (e : Evse) → reserve.IsAtEvse site sender c l e → c.token.valid ≡ true → c.expiry_date ≤ at → x ≡ cause.Expired → ReserveCause site s at sender n c x
   Overtaken : (l : Location) (e : Evse) → reserve.IsSound site at sender c l e → ¬ IsInTime s.booked.marks (reservation_key sender c) n → x ≡ cause.Overtaken →
       ReserveCause site s at sender n c x
@@ -82,9 +82,9 @@ pub record CancelCause (s : Rows) (sender : List ℕ) (n : ℕ) (c : CancelReser
 
 -- why an UNLOCK_CONNECTOR is refused
 pub data UnlockCause (site : Site) (s : Rows) (sender : List ℕ) (c : UnlockConnector) (x : RefusalCause) : Type 0 where
-  NoLocation : HasNoLocation site c.location_id → x ≡ cause.NoLocation → UnlockCause site s sender c x
-  NoEvse : (l : Location) → IsLocation site.locations c.location_id l → HasNoEvse l (Some c.evse_uid) → x ≡ cause.NoEvse → UnlockCause site s sender c x
-  NoConnector : (l : Location) (e : Evse) → IsLocation site.locations c.location_id l → IsEvseFor l (Some c.evse_uid) e → HasNoConnector l c → x ≡ cause.NoConnector →
+  UnlockNoLocation : HasNoLocation site c.location_id → x ≡ cause.NoLocation → UnlockCause site s sender c x
+  UnlockNoEvse : (l : Location) → IsLocation site.locations c.location_id l → HasNoEvse l (Some c.evse_uid) → x ≡ cause.NoEvse → UnlockCause site s sender c x
+  UnlockNoConnector : (l : Location) (e : Evse) → IsLocation site.locations c.location_id l → IsEvseFor l (Some c.evse_uid) e → HasNoConnector l c → x ≡ cause.NoConnector →
       UnlockCause site s sender c x
   ClaimedByOther : (l : Location) (e : Evse) (k : Connector) → IsAtConnector site c l e k → IsForeign s (key sender) (key e.uid) → x ≡ cause.ClaimedByOther →
       UnlockCause site s sender c x

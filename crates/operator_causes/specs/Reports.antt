@@ -129,7 +129,7 @@ HasConnector locations evse connector = (l : Location) × (e : Evse) × (k : Con
 
 -- why the site has no such EVSE and connector
 pub data PlaceCause (locations : List Location) (evse connector : List ℕ) (x : IdleCause) : Type 0 where
-  Unknown : ¬ IsEvse locations evse → HasNoConnector locations evse connector → x ≡ cause.NoEvse → PlaceCause locations evse connector x
+  Unsited : ¬ IsEvse locations evse → HasNoConnector locations evse connector → x ≡ cause.NoEvse → PlaceCause locations evse connector x
   Unconnected : IsEvse locations evse → HasNoConnector locations evse connector → x ≡ cause.NoConnector → PlaceCause locations evse connector x
 
 -- why the EVSE of that key takes no token
