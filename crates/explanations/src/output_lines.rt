@@ -29,6 +29,15 @@ pub struct Said {
     pub line: Option<u64>,
 }
 
+/// What is told of a line.
+#[derive(Clone, Copy)]
+pub enum Told {
+    Nothing,
+    /// Something that is no mistake of whoever wrote the line.
+    Remark,
+    Mistake,
+}
+
 /// What a line of the output of a program says. No packet begins as a line with `done` does.
 pub fn said_by(alloc: Global, output: &[u8]) -> Said {
     match str::from_utf8(output) {

@@ -8,7 +8,7 @@ use crate::following::{Following, Why};
 use crate::known::Known;
 use crate::line_faults::fault_of;
 use crate::malformed::{LineText, Place, explain_malformed};
-use crate::output_lines::{Outcome, Said, refusal_of, said_by};
+use crate::output_lines::{Outcome, Said, Told, refusal_of, said_by};
 use json::{Scratch as JsonScratch, Value};
 use line_runs::{KEPT_BYTES, write_whole};
 use node_lines::element_texts;
@@ -33,15 +33,6 @@ pub struct Telling {
     pub explains: bool,
     /// Whether such a line makes the status 1.
     pub is_strict: bool,
-}
-
-/// What is told of a line.
-#[derive(Clone, Copy)]
-enum Told {
-    Nothing,
-    /// Something that is no mistake of whoever wrote the line.
-    Remark,
-    Mistake,
 }
 
 /// Watches the lines of a program's input, and its output, and explains to `errors` what came to nothing.
