@@ -33,8 +33,8 @@ module _ (site : Site) (s : Rows) (sender : List ℕ) (x : RefusalCause) where
   start_decides c (causes.NoLocation own none is) = start.UnknownLocation own none (ap decided_by is)
   start_decides c (causes.NoEvse l placed none is) = start.NoPlace l placed (λ e k fits. none e (record { listed = fits.listed; named = fits.named })) (ap decided_by is)
   start_decides c (causes.NoConnector l e placed found none is) = start.NoPlace l placed none (ap decided_by is)
-  start_decides c (causes.NotValid l e k placed no is) = start.Barred l e k placed (inl no) (ap decided_by is)
-  start_decides c (causes.ReferenceSpent l e k placed yes spent is) = start.Barred l e k placed (inr spent) (ap decided_by is)
+  start_decides c (causes.NotValid l e k placed never is) = start.Barred l e k placed (inl never) (ap decided_by is)
+  start_decides c (causes.ReferenceSpent l e k placed valid spent is) = start.Barred l e k placed (inr spent) (ap decided_by is)
 
   stop_decides : (c : StopSession) → StopCause s sender c x → StopLine s sender c (decided_by x)
   stop_decides c (causes.NoSession none is) = stop.UnknownSession none (ap decided_by is)
@@ -44,8 +44,8 @@ module _ (site : Site) (s : Rows) (sender : List ℕ) (x : RefusalCause) where
   reserve_decides at n c (causes.ReserveTokenOfOther h is) = reserve.Mismatched h (ap decided_by is)
   reserve_decides at n c (causes.ReserveNoLocation own none is) = reserve.UnknownLocation own none (ap decided_by is)
   reserve_decides at n c (causes.ReserveNoEvse l placed none is) = reserve.NoEvse l placed none (ap decided_by is)
-  reserve_decides at n c (causes.ReserveNotValid l e placed no is) = reserve.Void l e placed (inl no) (ap decided_by is)
-  reserve_decides at n c (causes.Expired l e placed yes late is) = reserve.Void l e placed (inr late) (ap decided_by is)
+  reserve_decides at n c (causes.ReserveNotValid l e placed never is) = reserve.Void l e placed (inl never) (ap decided_by is)
+  reserve_decides at n c (causes.Expired l e placed valid late is) = reserve.Void l e placed (inr late) (ap decided_by is)
   reserve_decides at n c (causes.Overtaken l e sound late is) = reserve.Stale l e sound late (ap decided_by is)
   reserve_decides at n c (causes.OtherLocation l e timely other is) = reserve.Elsewhere l e timely other (ap decided_by is)
 

@@ -69,9 +69,9 @@ idle_credits s at session x acts cause (credits.NothingToCredit none is) = is
 pub idle_service : (s : State) (evse : List ℕ) (in_service : Bool) (x : IdleCause) (acts : List Act) → ServiceCause s evse in_service x → ServiceLine s evse in_service acts → acts ≡ []
 idle_service s evse b x acts cause (service.Unknown h is) = is
 idle_service s evse b x acts cause (service.Unchanged h w is) = is
-idle_service s evse b x acts (causes.Unknown no e) (service.Withdrawn h off works is) = absurd (no h)
+idle_service s evse b x acts (causes.Unknown never e) (service.Withdrawn h off works is) = absurd (never h)
 idle_service s evse b x acts (causes.Unchanged of_site same e) (service.Withdrawn h off works is) =
     let bad : true ≡ false = sym works ∙ same ∙ off in absurd (cc)
-idle_service s evse b x acts (causes.Unknown no e) (service.Restored h on works is) = absurd (no h)
+idle_service s evse b x acts (causes.Unknown never e) (service.Restored h on works is) = absurd (never h)
 idle_service s evse b x acts (causes.Unchanged of_site same e) (service.Restored h on works is) =
     let bad : false ≡ true = sym works ∙ same ∙ on in absurd (cc)

@@ -53,29 +53,29 @@ use Rattle.operator_causes.specs.declared.cause.IdleCause.{IdleCause}
 -- ---- commands
 
 not_carried : (c : Command) (y : CommandResultType) → is_carried c ≡ false → accepted c ≡ Some y → ⊥
-not_carried (command.StartSession c) y no is = let bad : true ≡ false = no in absurd (cc)
-not_carried (command.StopSession c) y no is = let bad : true ≡ false = no in absurd (cc)
-not_carried (command.ReserveNow c) y no is = none_some y is
-not_carried (command.CancelReservation c) y no is = none_some y is
-not_carried (command.UnlockConnector c) y no is = none_some y is
+not_carried (command.StartSession c) y never is = let bad : true ≡ false = never in absurd (cc)
+not_carried (command.StopSession c) y never is = let bad : true ≡ false = never in absurd (cc)
+not_carried (command.ReserveNow c) y never is = none_some y is
+not_carried (command.CancelReservation c) y never is = none_some y is
+not_carried (command.UnlockConnector c) y never is = none_some y is
 
 not_unlocked : (c : Command) (y : CommandResultType) → is_unlock c ≡ false → unlocked c ≡ Some y → ⊥
-not_unlocked (command.StartSession c) y no is = none_some y is
-not_unlocked (command.StopSession c) y no is = none_some y is
-not_unlocked (command.ReserveNow c) y no is = none_some y is
-not_unlocked (command.CancelReservation c) y no is = none_some y is
-not_unlocked (command.UnlockConnector c) y no is = let bad : true ≡ false = no in absurd (cc)
+not_unlocked (command.StartSession c) y never is = none_some y is
+not_unlocked (command.StopSession c) y never is = none_some y is
+not_unlocked (command.ReserveNow c) y never is = none_some y is
+not_unlocked (command.CancelReservation c) y never is = none_some y is
+not_unlocked (command.UnlockConnector c) y never is = let bad : true ≡ false = never in absurd (cc)
 
 not_ended : (r : ChargerEvent) (c : Command) (y : CommandResultType) → may_end r c ≡ false → outcome r c ≡ Some y → (p : List ℕ) (n : ℕ) (s : State) → charger.IsAbout s.rows r p n →
     ((uid : List ℕ) → r ≡ event.Fault uid → ⊥) → ⊥
-not_ended (event.Accepts provider number) c y no is p n s about other = not_carried c y no is
-not_ended (event.Unlocked provider number) c y no is p n s about other = not_unlocked c y no is
-not_ended (event.Refuses provider number) c y no is p n s about other = let bad : true ≡ false = no in absurd (cc)
-not_ended (event.Starts uid) c y no is p n s about other = about
-not_ended (event.Meter uid kwh) c y no is p n s about other = about
-not_ended (event.Stops uid) c y no is p n s about other = about
-not_ended (event.Fault uid) c y no is p n s about other = other uid refl
-not_ended (event.Swipe e k u t) c y no is p n s about other = about
+not_ended (event.Accepts provider number) c y never is p n s about other = not_carried c y never is
+not_ended (event.Unlocked provider number) c y never is p n s about other = not_unlocked c y never is
+not_ended (event.Refuses provider number) c y never is p n s about other = let bad : true ≡ false = never in absurd (cc)
+not_ended (event.Starts uid) c y never is p n s about other = about
+not_ended (event.Meter uid kwh) c y never is p n s about other = about
+not_ended (event.Stops uid) c y never is p n s about other = about
+not_ended (event.Fault uid) c y never is p n s about other = other uid refl
+not_ended (event.Swipe e k u t) c y never is p n s about other = about
 
 module _ (s : State) (r : ChargerEvent) (p : List ℕ) (n : ℕ) (x : IdleCause) (cause : CommandCause s.rows r p n x) where
   -- the open command, if any, is none that the report ends
@@ -85,12 +85,13 @@ module _ (s : State) (r : ChargerEvent) (p : List ℕ) (n : ℕ) (x : IdleCause)
       here : get s.rows.commands.pending (p, n) ≡ Some o
       here = let same = only q m ends.0 in
           subst (λ (k : List ℕ). get s.rows.commands.pending (k, n) ≡ Some o) (sym same.0) (subst (λ (k : ℕ). get s.rows.commands.pending (q, k) ≡ Some o) (sym same.1) stands)
+
       go : CommandCause s.rows r p n x → ⊥
       go (reports.Closed none is) = not_both o (get s.rows.commands.pending (p, n)) none here
-      go (reports.OfOtherKind z other_stands no is) =
+      go (reports.OfOtherKind z other_stands never is) =
           let one : Some z ≡ Some o = sym other_stands ∙ here in
           let same : z ≡ o = cc in
-          not_ended r o.command y (subst (λ (k : OpenCommand). may_end r k.command ≡ false) same no) ends.1 q m s ends.0 other
+          not_ended r o.command y (subst (λ (k : OpenCommand). may_end r k.command ≡ false) same never) ends.1 q m s ends.0 other
 
 -- no start is carried out by a report of another kind
 pub other_starts : (s : State) (r : ChargerEvent) → ((p : List ℕ) (n : ℕ) → r ≡ event.Accepts p n → ⊥) → StartsNone s r
@@ -102,20 +103,24 @@ module _ (s : State) (provider : List ℕ) (number : ℕ) (x : IdleCause) (cause
     where
       named : event.Accepts provider number ≡ event.Accepts starts.provider e.number
       named = starts.report_is
+
       parties : provider ≡ starts.provider
       parties = let f = named in cc
+
       numbers : number ≡ e.number
       numbers = let f = named in cc
+
       here : get s.rows.commands.pending (key provider, number) ≡ Some starts.command
       here = subst (λ (k : List ℕ). get s.rows.commands.pending (k, number) ≡ Some starts.command) (sym (ap key parties ∙ starts.same))
           (subst (λ (k : ℕ). get s.rows.commands.pending (e.provider, k) ≡ Some starts.command) (sym numbers) starts.stands)
+
       go : CommandCause s.rows (event.Accepts provider number) (key provider) number x → ⊥
       go (reports.Closed none is) = not_both starts.command (get s.rows.commands.pending (key provider, number)) none here
-      go (reports.OfOtherKind z stands no is) =
+      go (reports.OfOtherKind z stands never is) =
           let one : Some z ≡ Some starts.command = sym stands ∙ here in
           let same : z ≡ starts.command = cc in
           let kind : is_carried z.command ≡ true = ap is_carried (ap (λ (k : OpenCommand). k.command) same ∙ starts.begins.command_is) in
-          let bad : true ≡ false = sym kind ∙ no in
+          let bad : true ≡ false = sym kind ∙ never in
           absurd (cc)
 
 -- ---- sessions
@@ -140,7 +145,7 @@ module _ (s : State) (one : OneClaimEach s.rows) where
   unmetered v w kwh x (reports.Unread still cause) same active can = unread v kwh x cause (subst (λ (z : Session). CanRead z kwh) (sym same) can)
 
   absent : (evse : List ℕ) (x : IdleCause) → IsAbsent s evse x → (v : Session) → IsSessionAt s.rows evse v → ⊥
-  absent evse x (reports.Unknown no none is) = none
+  absent evse x (reports.Unknown never none is) = none
   absent evse x (reports.Empty has none is) = none
 
   pub started_none : (uid : List ℕ) (x : IdleCause) → SessionCause s (event.Starts uid) (key uid) x → (at : ℕ) → MovesNone s.site s.rows at (event.Starts uid)
@@ -148,8 +153,10 @@ module _ (s : State) (one : OneClaimEach s.rows) where
     where
       about : Some (key uid) ≡ Some moves.evse
       about = moves.about
+
       here : IsSessionAt s.rows (key uid) v
       here = let same : key uid ≡ moves.evse = (let f = about in cc) in subst (λ (e : List ℕ). IsSessionAt s.rows e v) (sym same) moves.here
+
       go : SessionCause s (event.Starts uid) (key uid) x → ⊥
       go (reports.Absent gone) = absent (key uid) x gone v here
       go (reports.Still z there stays) =
@@ -160,8 +167,10 @@ module _ (s : State) (one : OneClaimEach s.rows) where
     where
       about : Some (key uid) ≡ Some moves.evse
       about = moves.about
+
       here : IsSessionAt s.rows (key uid) v
       here = let same : key uid ≡ moves.evse = (let f = about in cc) in subst (λ (e : List ℕ). IsSessionAt s.rows e v) (sym same) moves.here
+
       go : SessionCause s (event.Meter uid kwh) (key uid) x → ⊥
       go (reports.Absent gone) = absent (key uid) x gone v here
       go (reports.Still z there stays) = unmetered z v kwh x stays (one_session (key uid) z v there here) moves.makes.0 moves.makes.1

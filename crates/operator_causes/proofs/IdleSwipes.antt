@@ -60,16 +60,16 @@ not_both_kinds Never h g = h
 
 -- from a token that is not valid nothing follows
 invalid : (t : Token) (x : Swipe) → desk.IsWhitelisted t.whitelist → t.valid ≡ false → desk.TokenLine t x → x ≡ told.Nothing
-invalid t x listed no (desk.Begins h valid is) = let bad : true ≡ false = sym valid ∙ no in absurd (cc)
-invalid t x listed no (desk.Invalid h never is) = is
-invalid t x listed no (desk.Asks h is) = absurd (not_both_kinds t.whitelist listed h)
+invalid t x listed never (desk.Begins h valid is) = let bad : true ≡ false = sym valid ∙ never in absurd (cc)
+invalid t x listed never (desk.Invalid h never is) = is
+invalid t x listed never (desk.Asks h is) = absurd (not_both_kinds t.whitelist listed h)
 
 untold : (m : Tokens) (p : Option (List ℕ)) (type : TokenType) (uid : List ℕ) (x : IdleCause) (d : Swipe) → TokenCause m p type uid x → desk.SwipeLine m p type uid d → d ≡ told.Nothing
 untold m p type uid x d cause (desk.Unknown none is) = is
 untold m p type uid x d (reports.Unstored none e) (desk.Known t shown line) = absurd (none_shown m p type uid t none shown)
-untold m p type uid x d (reports.Invalid u also listed no e) (desk.Known t shown line) =
+untold m p type uid x d (reports.Invalid u also listed never e) (desk.Known t shown line) =
     let same : u ≡ t = one_shown m p type uid u t also shown in
-    invalid t d (subst (λ (z : Token). desk.IsWhitelisted z.whitelist) same listed) (subst (λ (z : Token). z.valid ≡ false) same no) line
+    invalid t d (subst (λ (z : Token). desk.IsWhitelisted z.whitelist) same listed) (subst (λ (z : Token). z.valid ≡ false) same never) line
 
 told_nothing : (x : Swipe) (l : Location) (e : Evse) (k : Connector) (id : Option (List ℕ)) → x ≡ told.Nothing → told_by x l e k id ≡ Nothing
 told_nothing x l e k id is = ap (λ (z : Swipe). told_by z l e k id) is
@@ -98,7 +98,7 @@ unopened s evse uid type x held (reports.Unready cause) opened = unready s evse 
 unopened s evse uid type x held (reports.Claimed ready closed is) opened = closed held opened
 
 unplaced : (s : State) (evse connector : List ℕ) (x : IdleCause) → PlaceCause s.site.locations evse connector x → HasNoConnector s.site.locations evse connector
-unplaced s evse connector x (reports.Unsited no none is) = none
+unplaced s evse connector x (reports.Unsited never none is) = none
 unplaced s evse connector x (reports.Unconnected has none is) = none
 
 pub nothing_shown : (s : State) (evse connector uid : List ℕ) (type : TokenType) (x : IdleCause) (d : Shown) → OneClaimEach s.rows →

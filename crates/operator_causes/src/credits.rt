@@ -29,11 +29,7 @@ fn is_completed(status: SessionStatus) -> bool
 }
 
 /// Why the credit of a bill that was not taken back goes to nobody, if it does not. An error is want of memory.
-fn why_unsent(
-    alloc: Global,
-    books: &Books,
-    bill: &Cdr,
-) -> Result<Option<IdleCause>, AllocError>
+fn why_unsent(alloc: Global, books: &Books, bill: &Cdr) -> Result<Option<IdleCause>, AllocError>
     ensures cause { IfOk result (λ o. IfSome o (UnsentCause books.now.state bill.now)) }
     ensures none { IfOk result (λ o. IfNone o (CanSend books.now.state bill.now)) }
 {

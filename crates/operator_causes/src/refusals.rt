@@ -113,7 +113,11 @@ fn why_no_reservation(
     let Some(at) = books.site_book().find_location(&command.location_id) else {
         return Some(RefusalCause::NoLocation);
     };
-    if books.site_book().find_evse(&at, &command.evse_uid).is_none() {
+    if books
+        .site_book()
+        .find_evse(&at, &command.evse_uid)
+        .is_none()
+    {
         return Some(RefusalCause::NoEvse);
     }
     if !command.token.valid {

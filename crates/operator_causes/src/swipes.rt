@@ -18,11 +18,7 @@ use site_book::Claim;
 use token_desk::Swipe;
 
 /// Why the site has no such EVSE and connector, if it has none.
-fn why_unplaced(
-    books: &Books,
-    evse: CiKey<36>,
-    connector_id: &CiText<36>,
-) -> Option<IdleCause>
+fn why_unplaced(books: &Books, evse: CiKey<36>, connector_id: &CiText<36>) -> Option<IdleCause>
     ensures cause { IfSome result (PlaceCause books.now.state.site.locations evse (key connector_id.now)) }
     ensures none { IfNone result (HasConnector books.now.state.site.locations evse (key connector_id.now)) }
 {
