@@ -60,9 +60,9 @@ not_both_kinds Never h g = h
 
 -- from a token that is not valid nothing follows
 invalid : (t : Token) (x : Swipe) → desk.IsWhitelisted t.whitelist → t.valid ≡ false → desk.TokenLine t x → x ≡ told.Nothing
-invalid t x listed never (desk.Begins h valid is) = let bad : true ≡ false = sym valid ∙ never in absurd (cc)
-invalid t x listed never (desk.Invalid h never is) = is
-invalid t x listed never (desk.Asks h is) = absurd (not_both_kinds t.whitelist listed h)
+invalid t x listed off (desk.Begins h valid is) = let bad : true ≡ false = sym valid ∙ off in absurd (cc)
+invalid t x listed off (desk.Invalid h never is) = is
+invalid t x listed off (desk.Asks h is) = absurd (not_both_kinds t.whitelist listed h)
 
 untold : (m : Tokens) (p : Option (List ℕ)) (type : TokenType) (uid : List ℕ) (x : IdleCause) (d : Swipe) → TokenCause m p type uid x → desk.SwipeLine m p type uid d → d ≡ told.Nothing
 untold m p type uid x d cause (desk.Unknown none is) = is

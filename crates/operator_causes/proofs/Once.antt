@@ -70,7 +70,7 @@ module _ (s : State) (session : List ℕ) where
   one_credit x y (causes.Unsent bill of_it cause) (causes.Unsent b2 of2 cause2) = one_unsent s bill x y cause (subst (λ (z : Cdr). UnsentCause s z y) (of_it.billed.sole b2 of2.billed.billed of2.billed.is_bill) cause2)
 
 pub one_service : (s : State) (evse : List ℕ) (in_service : Bool) (x y : IdleCause) → ServiceCause s evse in_service x → ServiceCause s evse in_service y → x ≡ y
-one_service s evse b x y (causes.Unknown never is) (causes.Unknown never same) = is ∙ sym same
+one_service s evse b x y (causes.Unknown never is) (causes.Unknown nor same) = is ∙ sym same
 one_service s evse b x y (causes.Unknown never is) (causes.Unchanged has h same) = absurd (never has)
 one_service s evse b x y (causes.Unchanged has h is) (causes.Unknown never same) = absurd (never has)
 one_service s evse b x y (causes.Unchanged has h is) (causes.Unchanged also g same) = is ∙ sym same
