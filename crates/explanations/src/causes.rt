@@ -140,11 +140,7 @@ fn write_unknown(
 }
 
 /// Adds what is at the EVSE instead.
-fn write_there(
-    cause: IdleCause,
-    event: &Value<'_>,
-    output: &mut String,
-) -> Result<(), AllocError> {
+fn write_there(cause: IdleCause, event: &Value<'_>, output: &mut String) -> Result<(), AllocError> {
     let uid = text_of(event, Field::EvseUid);
     let word = text_of(event, Field::Event);
     match cause {
@@ -152,11 +148,12 @@ fn write_there(
             write!(output, "evse_uid: no session and no open start is at {uid}")
         }
         IdleCause::NoSessionThere => write!(output, "evse_uid: no session is at {uid}"),
-        IdleCause::NotPending => {
-            write!(output, "event: the session at {uid} is ACTIVE already")
-        }
+        IdleCause::NotPending => { write!(output, "event: the session at {uid} is ACTIVE already") }
         IdleCause::NotActive => {
-            write!(output, "event: the session at {uid} is PENDING; `starts` comes first")
+            write!(
+                output,
+                "event: the session at {uid} is PENDING; `starts` comes first"
+            )
         }
         IdleCause::OutOfService => write!(output, "evse_uid: {uid} is out of service"),
         IdleCause::AwaitsAnswer => write!(
@@ -168,7 +165,10 @@ fn write_there(
             "evse_uid: {uid} is taken: by a session, an open start, or a reservation for another token"
         ),
         _ => match event.get(Field::InService.name()) {
-            Some(Value::Bool(false)) => write!(output, "in_service: {uid} is out of service already"),
+            Some(Value::Bool(false)) => write!(
+                output,
+                "in_service: {uid} is out of service already"
+            ),
             _ => write!(output, "in_service: {uid} is in service already"),
         },
     }

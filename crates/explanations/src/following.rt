@@ -260,10 +260,9 @@ impl Following {
         from: &Party,
         serial: Whole,
     ) -> Option<Why> {
-        let found = self
-            .sent
-            .iter()
-            .position(|each| each.from.is_same(from) && each.to.is_same(to) && each.serial == serial);
+        let found = self.sent.iter().position(|each| each.from.is_same(from)
+            && each.to.is_same(to)
+            && each.serial == serial);
         let Some(found) = found else {
             self.lose(place);
             return None;

@@ -434,9 +434,7 @@ impl<'p, E: Write> Watch<'p, E> {
         let place = self.place_of(said);
         if said.outcome == Outcome::Refused {
             let (is_first, is_element) = (self.is_first, said.event.is_some());
-            if let Some(fault) =
-                fault_of(self.alloc, self.program, is_first, is_element, bytes)
-            {
+            if let Some(fault) = fault_of(self.alloc, self.program, is_first, is_element, bytes) {
                 let shape = self.program.shape(self.is_first);
                 let text = LineText { bytes, len, shape };
                 explain_malformed(self.alloc, place, fault, text, output)?;

@@ -75,18 +75,26 @@ fn add_unopened(
     };
     let party = opened.get("party").and_then(Value::as_str).unwrap_or("");
     if !has_node(alloc, line_at(file.text, number.saturating_sub(1)), party) {
-        return write!(output, "the setup in the line before it has no node {party}");
+        return write!(
+            output,
+            "the setup in the line before it has no node {party}"
+        );
     }
     for earlier in files {
         if earlier.name == file.name {
             break;
         }
         if opens(earlier.text, party) {
-            return write!(output, "{} is of {party} too: give one file for each party", earlier.name);
+            return write!(
+                output,
+                "{} is of {party} too: give one file for each party",
+                earlier.name
+            );
         }
     }
     output.push_str(match file.store {
-        Some(_) => "the store that was given had other rows, or another line: take the copy from just before this",
+        Some(_) =>
+            "the store that was given had other rows, or another line: take the copy from just before this",
         None => "no node of that setup is opened so",
     })
 }
