@@ -155,7 +155,15 @@ fn settle<'a>(alloc: Global) -> Result<Command<'a>, Error> {
     let command = Command::new(alloc, "settle")
         .about("Print what is owed by the charge detail records of a store")
         .after_help(help::SETTLE);
+    let command = with_arg(command, by_provider(alloc))?;
     with_arg(command, file(alloc))
+}
+
+fn by_provider<'a>(alloc: Global) -> Arg<'a> {
+    Arg::new(alloc, "by-provider")
+        .long("by-provider")
+        .action(ArgAction::SetTrue)
+        .help("Print what each provider owes each operator, by the records of its tokens")
 }
 
 /// The store of `settle`.

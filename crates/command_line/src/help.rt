@@ -159,6 +159,8 @@ pub const SETTLE: &str =
 
 Output, on standard output: what is owed by the charge detail records of the file to each operator
   in each currency, as `owed BE/BEC EUR 3.0864`, by operator and then by currency.
+  With --by-provider it is what each provider owes, by the records of its tokens, as of `play`:
+  `owed NL/TNM BE/BEC EUR 3.0864`, by provider, then by operator, and then by currency.
 
 Exit status:
   0  all rows were read, and what is owed was printed
@@ -166,8 +168,9 @@ Exit status:
   2  the command line is wrong
   3  the store refused: standard error has `store: N Name`, and then which file, why, and what to do
 
-Example, after `ocpi_nodes play --store stores`:
-  ./ocpi_nodes settle stores/node2.db"#;
+Examples, after `ocpi_nodes play --store stores`:
+  ./ocpi_nodes settle stores/node2.db
+  ./ocpi_nodes settle --by-provider stores/node1.db"#;
 
 /// After the help of `weave`.
 pub const WEAVE: &str =

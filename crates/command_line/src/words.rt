@@ -18,8 +18,8 @@ pub enum Word<'a> {
     Answer(Telling),
     /// `play`.
     Play(PlayWords<'a>),
-    /// `settle`, of a store's file.
-    Settle(&'a str),
+    /// `settle`.
+    Settle(SettleWords<'a>),
     /// `node`.
     Node(NodeWords<'a>),
     /// `weave`.
@@ -54,6 +54,15 @@ pub struct NodeWords<'a> {
     pub telling: Telling,
 }
 
+/// What the command line says for `settle`.
+#[derive(Clone, Copy, Debug, PartialEq, Eq)]
+pub struct SettleWords<'a> {
+    /// The file of the rows, as it was given.
+    pub file: &'a str,
+    /// Whether what each provider owes has lines of its own.
+    pub by_provider: bool,
+}
+
 /// What the command line says for `weave`.
 #[derive(Drop)]
 pub struct WeaveWords<'a> {
@@ -73,8 +82,8 @@ pub struct FileWords<'a> {
 }
 
 /// Takes the command line `ocpi_nodes [answer | play [--store DIR] [--done] | node PARTY [--store FILE [--existing]]
-/// [--echo | --transcript FILE] | settle FILE | weave [--given PARTY].. [[--store STORE] FILE].. | help [COMMAND]]`,
-/// the first three also with `--explain` and `--strict`, or gives clap's text: the help or the version that was asked
+/// [--echo | --transcript FILE] | settle [--by-provider] FILE | weave [--given PARTY].. [[--store STORE] FILE].. | help
+/// [COMMAND]]`, the first three also with `--explain` and `--strict`, or gives clap's text: the help or the version that was asked
 /// for, or what is wrong.
 pub fn take_words<'a>(alloc: Global, words: &'a [String]) -> Result<Word<'a>, Error> {
     let command = program(alloc)?;
@@ -194,7 +203,10 @@ fn word_of<'a>(matches: &ArgMatches<'a>) -> Word<'a> {
         });
     }
     if let Some(given) = matches.subcommand_matches("settle") {
-        return Word::Settle(given.get_str("file").unwrap_or(""));
+        return Word::Settle(SettleWords {
+            file: given.get_str("file").unwrap_or(""),
+            by_provider: given.get_flag("by-provider"),
+        });
     }
     Word::Answer(match matches.subcommand_matches("answer") {
         Some(given) => telling_of(given),

@@ -5,3 +5,4 @@ pub mod Done
 pub mod Play
 pub mod PlayCut
 pub mod Settle
+pub mod ByProvider

@@ -15,7 +15,7 @@
 //! - Each line gives the packets of one step, or its named refusal, and then the operator is as it was. By
 //!   `run_answer`: `output`.
 //! - Where the run was stopped, what was written is a beginning of such an output. By `begun` of `run_answer`,
-//!   `run_play`, `run_settle`.
+//!   `run_play`, `run_settle`, `run_settle_by_provider`.
 //! - What `play` writes is the output relation of what it reads: the first line opens the world of a setup and its
 //!   keepers, each other is an event. By `run_play`: `output` (`specs/Play`).
 //! - An event gives the lines of the packets that the node sends, `skipped`, or its named refusal; then the world and
@@ -38,6 +38,8 @@
 //!   `run_play`: `store`.
 //! - What `settle` writes is a line of what is owed for each operator and currency of the records. By `run_settle`:
 //!   `output` (`specs/Settle`).
+//! - What `settle --by-provider` writes is a line of what each provider owes each operator in each currency, by the
+//!   records of its tokens. By `run_settle_by_provider`: `output` (`specs/ByProvider`).
 //! - The status is 3 where a store stopped the run, and else that of `status_of`. The text of a fault is the one there.
 //!   By `status_after_play`, `Display` of `PlayFault` (`specs/Stops`).
 //!
@@ -46,10 +48,11 @@
 //! `run_answer` is `run_whole` over an operator. `run_play` is `run_whole` over a world and its keepers: each event is
 //! a step of the world, whose changes are committed before its packets are spelled; a refused commit ends the run at
 //! that line, and is told as `PlayFault::Store`. On every exit the world and its keepers are those of the machine's
-//! last state. `run_settle` writes what is owed by rows.
+//! last state. `run_settle` and `run_settle_by_provider` write what is owed by rows.
 #![tactic(auto)]
 
 mod answer;
+mod by_provider;
 mod debts;
 mod done_lines;
 mod fault;
@@ -57,6 +60,7 @@ mod play;
 mod settle;
 
 pub use answer::{Running, run_answer};
+pub use by_provider::run_settle_by_provider;
 pub use fault::{PlayFault, STORE_REFUSED, status_after_play};
 pub use play::{Played, run_play};
 pub use settle::run_settle;

@@ -29,7 +29,7 @@ fn push_cdr(cdrs: &mut Vec<Boxed<Cdr>>, row: &Row) -> Result<(), AllocError>
 }
 
 /// The charge detail records among rows.
-fn cdrs_of(alloc: Global, rows: &[Row]) -> Result<Vec<Boxed<Cdr>>, AllocError>
+pub(crate) fn cdrs_of(alloc: Global, rows: &[Row]) -> Result<Vec<Boxed<Cdr>>, AllocError>
     ensures { IfOk result (λ v. v.items ≡ cdrs_of rows.now) }
 {
     let mut cdrs = Vec::new(alloc);

@@ -95,7 +95,7 @@ fn run_seeded(rt: &HostRuntime, seed: HashSeed, word: Word<'_>) -> u8 {
     match word {
         Word::Answer(telling) => run_answer_word(rt, seed, telling),
         Word::Play(words) => run_play_word(rt, seed, &words),
-        Word::Settle(file) => run_settle_word(rt, file),
+        Word::Settle(words) => run_settle_word(rt, &words),
         Word::Node(words) => run_node_word(rt, seed, &words),
         Word::Weave(words) => report_weave(rt, weave_files(rt, seed, &words)),
     }

@@ -1,8 +1,9 @@
 //! What is owed by the rows of a file is written to the standard output.
 
+use command_line::SettleWords;
 use line_runs::{Ran, RunFault};
 use node_keepers::{Found, rows_in};
-use node_programs::{PlayFault, run_settle};
+use node_programs::{PlayFault, run_settle, run_settle_by_provider};
 use node_store::StoreFault;
 use ocpi_types::Row;
 use program_messages::{BUFFER_BYTES, Told, and_closed, report};
@@ -10,16 +11,20 @@ use sqlite::Unknown;
 use std::io::{self, BufWriter, Write};
 
 /// Runs `settle`, says what stopped it, and answers the exit status.
-pub fn run_settle_word(rt: &HostRuntime, file: &str) -> u8 {
+pub fn run_settle_word(rt: &HostRuntime, words: &SettleWords<'_>) -> u8 {
     let mut told = Told::new(rt.alloc());
-    let ran = settle_buffered(rt, file, &mut told);
+    let ran = settle_buffered(rt, words, &mut told);
     report(rt, ran, &told)
 }
 
 /// Writes what is owed by the rows of a file to the standard output.
-fn settle_buffered(rt: &HostRuntime, file: &str, told: &mut Told) -> Result<Ran, PlayFault> {
+fn settle_buffered(
+    rt: &HostRuntime,
+    words: &SettleWords<'_>,
+    told: &mut Told,
+) -> Result<Ran, PlayFault> {
     match BufWriter::with_capacity(rt.alloc(), BUFFER_BYTES, io::writer(rt)) {
-        Ok(writer) => settle_to(rt, writer, file, told),
+        Ok(writer) => settle_to(rt, writer, words, told),
         Err(_) => Err(PlayFault::Run(RunFault::WriteFailed)),
     }
 }
@@ -28,11 +33,11 @@ fn settle_buffered(rt: &HostRuntime, file: &str, told: &mut Told) -> Result<Ran,
 fn settle_to<W: Write + Drop>(
     rt: &HostRuntime,
     writer: W,
-    file: &str,
+    words: &SettleWords<'_>,
     told: &mut Told,
 ) -> Result<Ran, PlayFault> {
     let mut writer = writer;
-    let ran = settle_file(rt, &mut writer, file, told);
+    let ran = settle_file(rt, &mut writer, words, told);
     drop(writer);
     ran
 }
@@ -41,18 +46,20 @@ fn settle_to<W: Write + Drop>(
 fn settle_file<W: Write>(
     rt: &HostRuntime,
     writer: &mut W,
-    file: &str,
+    words: &SettleWords<'_>,
     told: &mut Told,
 ) -> Result<Ran, PlayFault> {
-    let _ = told.place.push_str(file);
-    let _ = told.unclosed.push_str(file);
-    settle_found(rt, writer, rows_in(rt, file, Unknown), told)
+    let _ = told.place.push_str(words.file);
+    let _ = told.unclosed.push_str(words.file);
+    let found = rows_in(rt, words.file, Unknown);
+    settle_found(rt, writer, words, found, told)
 }
 
 /// Writes what is owed by what was found in a file, which is let go first.
 fn settle_found<W: Write, C: Drop, L: Drop>(
     rt: &HostRuntime,
     writer: &mut W,
+    words: &SettleWords<'_>,
     found: Result<Found<C, L>, StoreFault>,
     told: &mut Told,
 ) -> Result<Ran, PlayFault> {
@@ -61,7 +68,7 @@ fn settle_found<W: Write, C: Drop, L: Drop>(
         Err(fault) => return Err(PlayFault::Store(fault)),
     };
     let ran = match rows {
-        Ok(rows) => settle_rows(rt, writer, rows.as_slice()),
+        Ok(rows) => settle_rows(rt, writer, words, rows.as_slice()),
         Err(fault) => Err(PlayFault::Store(fault)),
     };
     let (ran, besides) = and_closed(ran, closed);
@@ -70,7 +77,16 @@ fn settle_found<W: Write, C: Drop, L: Drop>(
 }
 
 /// Writes what is owed by rows.
-fn settle_rows<W: Write>(rt: &HostRuntime, writer: &mut W, rows: &[Row]) -> Result<Ran, PlayFault> {
-    run_settle(rt.alloc(), rows, writer)?;
+fn settle_rows<W: Write>(
+    rt: &HostRuntime,
+    writer: &mut W,
+    words: &SettleWords<'_>,
+    rows: &[Row],
+) -> Result<Ran, PlayFault> {
+    if words.by_provider {
+        run_settle_by_provider(rt.alloc(), rows, writer)?;
+    } else {
+        run_settle(rt.alloc(), rows, writer)?;
+    }
     Ok(Ran::Whole)
 }
