@@ -56,8 +56,14 @@ owed_none a (x ∷ xs) h = elim (is_account a (account_of x)) as (λ b. (b || is
 
 -- a record more is one of its own provider's
 records_push : (p : List ℕ) (xs : List Cdr) (x : Cdr) → records_of p (xs ++ x ∷ []) ≡ cond (is_of p x) (records_of p xs ++ x ∷ []) (records_of p xs)
-records_push p [] x = elim (is_of p x) as (λ b. cond b (x ∷ []) [] ≡ cond b (x ∷ []) []) [ true ↦ refl | false ↦ refl ]
-records_push p (y ∷ ys) x = ?
+records_push p [] x = refl
+records_push p (y ∷ ys) x = ap (λ zs. cond (is_of p y) (y ∷ zs) zs) (records_push p ys x) ∙ moved (is_of p y) (is_of p x) (records_of p ys)
+  where
+    moved : (b c : Bool) (zs : List Cdr) → cond b (y ∷ cond c (zs ++ x ∷ []) zs) (cond c (zs ++ x ∷ []) zs) ≡ cond c (cond b (y ∷ zs) zs ++ x ∷ []) (cond b (y ∷ zs) zs)
+    moved true true zs = refl
+    moved true false zs = refl
+    moved false true zs = refl
+    moved false false zs = refl
 
 sum_of : (d : Debt) (xs : List Cdr) (m : FinMap debt_cmp ℤ) → AreOwedBy xs m → debt_at m d ≡ owed d.1 (records_of d.0 xs)
 sum_of d xs m are = ap (λ o. unwrap_or o (pos 0)) (are d) ∙ elim (is_among d.1 (records_of d.0 xs)) as (λ b. is_among d.1 (records_of d.0 xs) ≡ b → unwrap_or (cond b (Some (owed d.1 (records_of d.0 xs))) None) (pos 0) ≡ owed d.1 (records_of d.0 xs)) [
