@@ -17,5 +17,6 @@ mod help;
 mod words;
 
 pub use words::{
-    FileWords, NodeWords, PlayWords, SettleWords, WRONG_WORDS, WeaveWords, Word, status_after, take_words,
+    FileWords, NodeWords, PlayWords, SettleWords, WRONG_WORDS, WeaveWords, Word, status_after,
+    take_words,
 };

@@ -80,12 +80,12 @@ owed_more xs x m v are is d =
     let cost = x.total_cost.excl_vat in
     get-insert debt_total m (debt_of x) v d
     ∙ elim (is_of d.0 x) as (λ c. eq_by_cmp debt_cmp d (debt_of x) ≡ (c && is_account d.1 (account_of x)) →
-        cond (eq_by_cmp debt_cmp d (debt_of x)) (Some v) (get m d)
-          ≡ cond (is_among d.1 (cond c (old ++ x ∷ []) old)) (Some (owed d.1 (cond c (old ++ x ∷ []) old))) None) [
+    cond (eq_by_cmp debt_cmp d (debt_of x)) (Some v) (get m d)
+    ≡ cond (is_among d.1 (cond c (old ++ x ∷ []) old)) (Some (owed d.1 (cond c (old ++ x ∷ []) old))) None) [
       | false ↦ λ e. ap (λ b. cond b (Some v) (get m d)) e ∙ are d
       | true ↦ λ e.
           elim (is_account d.1 (account_of x)) as (λ b. eq_by_cmp debt_cmp d (debt_of x) ≡ b →
-              cond (eq_by_cmp debt_cmp d (debt_of x)) (Some v) (get m d) ≡ cond (b || is_among d.1 old) (Some (owed d.1 old +ℤ cond b cost (pos 0))) None) [
+          cond (eq_by_cmp debt_cmp d (debt_of x)) (Some v) (get m d) ≡ cond (b || is_among d.1 old) (Some (owed d.1 old +ℤ cond b cost (pos 0))) None) [
             | true ↦ λ f. ap (λ b. cond b (Some v) (get m d)) f ∙ ap Some (is ∙ ap (λ q. debt_at m q +ℤ cost) (sym (debt_exact d (debt_of x) (equal_of_is_eq _ f))) ∙ ap (λ z. z +ℤ cost) (sum_of d xs m are))
             | false ↦ λ f. ap (λ b. cond b (Some v) (get m d)) f ∙ are d ∙ ap (λ z. cond (is_among d.1 old) (Some z) None) (omega (arith, ints))
           ] e

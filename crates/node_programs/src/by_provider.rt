@@ -117,7 +117,11 @@ fn settlement_by_provider(alloc: Global, rows: &[Row]) -> Result<String, AllocEr
 /// Writes what each provider owes by the charge detail records of its tokens among rows: a line for each provider,
 /// operator and currency, by provider, then by operator, and then by currency. The writer is flushed at the end. Where
 /// writing fails, or memory runs out for the lines, what is written is a beginning of them.
-pub fn run_settle_by_provider<W: Write>(alloc: Global, rows: &[Row], writer: &mut W) -> Result<(), RunFault>
+pub fn run_settle_by_provider<W: Write>(
+    alloc: Global,
+    rows: &[Row],
+    writer: &mut W,
+) -> Result<(), RunFault>
     ensures output { OnOk result ((out : List ℕ) × SettlesByProvider rows.now out × Appends (W.contents writer.old) (W.contents writer.new) out) }
     ensures begun { IfErr result (λ fault. (fault ≡ RunFault.WriteFailed)
         × gives_beginning (SettlesByProvider rows.now) (W.contents writer.old) (W.contents writer.new)) }
