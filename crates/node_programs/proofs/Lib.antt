@@ -1,2 +1,3 @@
 mod PlayLemmas
 mod EndLemmas
+mod Owing
