@@ -155,7 +155,7 @@ Examples, in the folder of the repository:
 /// After the help of `settle`.
 pub const SETTLE: &str =
     r#"Input: the rows of a file that `play --store` or `node --store` created; standard input is not read.
-  A store of version 1 is moved to version 2 for good: earlier programs do not read it then.
+  The file and its log stay as they are: a copy, a backup, or a file that may only be read will do.
 
 Output, on standard output: what is owed by the charge detail records of the file to each operator
   in each currency, as `owed BE/BEC EUR 3.0864`, by operator and then by currency.

@@ -1,8 +1,10 @@
 //! Store files as the system has them: how they are found and made, and how an empty log beside one goes.
 
 use node_store::{Cause, StoreFault};
+use os::RangeLock;
 use std::fs::{self, Metadata, OpenOptions};
-use std::io::{self, ErrorKind};
+use std::io::{self, ErrorKind, Read};
+use std::os::fd::AsRawFd;
 use std::os::unix::fs::{MetadataExt, OpenOptionsExt};
 
 /// The mode of a file that is made: it is read and written by its owner alone. The database gives its log the same.
@@ -72,6 +74,13 @@ pub(crate) const LOG_OF_A_PAGE: u64 = 568;
 /// The path of the log that the database keeps for the file at a path with no link in it.
 fn log_of(rt: &HostRuntime, real: &str) -> io::Result<String> {
     Ok(format!(in rt.alloc(); "{real}-wal")?)
+}
+
+/// What stands beside the file at a path under its name with that end.
+fn find_beside(rt: &HostRuntime, path: &str, end: &str) -> io::Result<Metadata> {
+    let real = fs::canonicalize(rt, path)?;
+    let name = format!(in rt.alloc(); "{}-{end}", real.as_str())?;
+    fs::symlink_metadata(rt, name.as_str())
 }
 
 /// Whether nothing has the name of the log of the file at a path, which stands. Not so where that cannot be told.
@@ -182,8 +191,12 @@ pub(crate) fn find_file(rt: &HostRuntime, path: &str) -> Result<Standing, StoreF
     }
 }
 
-/// All bytes of the file at a path.
-pub(crate) fn find_readable(rt: &HostRuntime, path: &str) -> Result<Vec<u8>, StoreFault> {
+/// The first byte of the range that SQLite locks, and its length: the pending, the reserved and the shared locks.
+const LOCKS: (u64, u64) = (1 << 30, 512);
+
+/// Opens the file at a path to read it, and holds it against other programs until it is dropped: against all of them,
+/// or, where it may not be written, against those that write it.
+pub(crate) fn hold_file(rt: &HostRuntime, path: &str) -> Result<fs::File, StoreFault> {
     match fs::metadata(rt, path) {
         Ok(found) => {
             if !found.is_file() {
@@ -192,8 +205,52 @@ pub(crate) fn find_readable(rt: &HostRuntime, path: &str) -> Result<Vec<u8>, Sto
         }
         Err(error) => return Err(fault_from(error.kind(), Cause::NotFound)),
     }
-    match fs::read(rt, path) {
-        Ok(bytes) => Ok(bytes),
+    if let Ok(file) = OpenOptions::new().read(true).write(true).open(rt, path) {
+        return locked(file, RangeLock::Exclusive);
+    }
+    match OpenOptions::new().read(true).open(rt, path) {
+        Ok(file) => locked(file, RangeLock::Shared),
+        Err(error) => Err(fault_from(error.kind(), Cause::NotFound)),
+    }
+}
+
+/// The file, once it is locked so. One with two names is refused, since its log may stand beside the other.
+fn locked(file: fs::File, kind: RangeLock) -> Result<fs::File, StoreFault> {
+    if !has_one_name(&file) {
+        return Err(StoreFault::Refused(Cause::CannotOpen));
+    }
+    let (start, length) = LOCKS;
+    if os::try_lock_range(file.as_raw_fd(), kind, start, length) == 0 {
+        return Ok(file);
+    }
+    let error = io::Error::from_raw_os_error(os::errno());
+    if error.kind() == ErrorKind::WouldBlock {
+        Err(StoreFault::Refused(Cause::DatabaseBusy))
+    } else {
+        Err(StoreFault::Refused(Cause::CannotOpen))
+    }
+}
+
+fn has_one_name(file: &fs::File) -> bool {
+    match file.metadata() {
+        Ok(found) => found.nlink() == 1,
+        Err(_) => false,
+    }
+}
+
+/// Whether a rollback journal stands beside the file at a path, or that cannot be told. SQLite alone can play it back.
+pub(crate) fn has_journal(rt: &HostRuntime, path: &str) -> bool {
+    match find_beside(rt, path, "journal") {
+        Ok(_) => true,
+        Err(error) => error.kind() != ErrorKind::NotFound,
+    }
+}
+
+/// All bytes of a file that is held.
+pub(crate) fn read_held(rt: &HostRuntime, file: &mut fs::File) -> Result<Vec<u8>, StoreFault> {
+    let mut bytes = Vec::new(rt.alloc());
+    match file.read_to_end(&mut bytes) {
+        Ok(_) => Ok(bytes),
         Err(error) => Err(fault_from(error.kind(), Cause::NotFound)),
     }
 }
@@ -210,6 +267,9 @@ pub(crate) fn log_beside(rt: &HostRuntime, path: &str) -> Result<Vec<u8>, StoreF
 }
 
 fn read_log(rt: &HostRuntime, path: &str) -> io::Result<Vec<u8>> {
+    if !find_log(rt, path)?.is_file() {
+        return Err(ErrorKind::Unsupported.into());
+    }
     let real = fs::canonicalize(rt, path)?;
     let log = log_of(rt, real.as_str())?;
     fs::read(rt, log.as_str())

@@ -8,3 +8,4 @@ pub mod Moving
 pub mod Layout
 pub mod Opened
 pub mod Closed
+pub mod Copies

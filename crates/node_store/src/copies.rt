@@ -1,6 +1,10 @@
 //! What a store keeps, read from its bytes in memory, so that its file stays as it is.
 
-ghost use Rattle.std.specs.Prelude.{IfOk, IsTrue};
+ghost use Rattle.std.specs.Prelude.{◌≡◌, IfErr, IfOk, IsTrue};
+ghost use Rattle.node_store.specs.Copies.{HasBadRow, HasKept, HoldsInBytes, IsAlwaysClean};
+ghost use Rattle.node_store.specs.declared.fault.StoreFault.TheVariants.{BadRow};
+ghost use Rattle.sqlite.specs.Held.{state};
+ghost use Rattle.sqlite_disk.specs.Memory.{memory_bytes, memory_is_usable};
 
 use crate::fault::StoreFault;
 use crate::keep::{Keep, Kept};
@@ -11,7 +15,9 @@ use std::alloc::Global;
 
 /// A file in memory with these bytes. An error is want of memory.
 fn disk_of(alloc: Global, bytes: &[u8]) -> Result<Memory, StoreFault>
-    ensures usable { IfOk result (λ disk. IsTrue disk.usable) }
+    ensures usable { IfOk result (λ disk. IsTrue (memory_is_usable disk)) }
+    ensures bytes { IfOk result (λ disk. memory_bytes disk ≡ bytes.now) }
+    ensures fault { IfErr result (λ e. e ≡ StoreFault.Memory) }
 {
     let mut disk = Memory::new(alloc);
     if bytes.is_empty() {
@@ -26,8 +32,11 @@ fn disk_of(alloc: Global, bytes: &[u8]) -> Result<Memory, StoreFault>
     }
 }
 
-/// What the tables of a connection keep.
-fn kept_by<S: Alter + Drop>(alloc: Global, connection: Connection<S>) -> Result<Kept, StoreFault> {
+/// What the tables of a connection keep, in layout 1 too.
+fn kept_by<S: Alter + Drop>(alloc: Global, connection: Connection<S>) -> Result<Kept, StoreFault>
+    ensures rows { IsAlwaysClean S.Store → IfOk result (λ k. HasKept (state S.Store connection).now k.rows.items k.line) }
+    ensures bad { IsAlwaysClean S.Store → IfErr result (λ e. e ≡ BadRow → HasBadRow (state S.Store connection).now) }
+{
     match TableKeep::adopt(alloc, connection) {
         Ok(mut keep) => {
             let kept = keep.load();
@@ -42,7 +51,12 @@ fn kept_by<S: Alter + Drop>(alloc: Global, connection: Connection<S>) -> Result<
 }
 
 /// What the store keeps of which these are the bytes, those of its file and of the log beside it, in layout 1 too.
-pub fn kept_in(alloc: Global, file: &[u8], log: &[u8]) -> Result<Kept, StoreFault> {
+/// Without bytes it keeps no row. `BadRow` where a text is no row of its kind and key, or that of the number of the last
+/// line is no such number.
+pub fn kept_in(alloc: Global, file: &[u8], log: &[u8]) -> Result<Kept, StoreFault>
+    ensures rows { IfOk result (λ k. HoldsInBytes ⟦<Memory as Disk>⟧ file.now log.now (λ db. HasKept db k.rows.items k.line)) }
+    ensures bad { IfErr result (λ e. e ≡ BadRow → HoldsInBytes ⟦<Memory as Disk>⟧ file.now log.now HasBadRow) }
+{
     let db = disk_of(alloc, file)?;
     let log = match disk_of(alloc, log) {
         Ok(log) => log,

@@ -2,12 +2,10 @@
 
 use command_line::SettleWords;
 use line_runs::{Ran, RunFault};
-use node_keepers::{Found, rows_in};
+use node_keepers::kept_in_copy;
 use node_programs::{PlayFault, run_settle, run_settle_by_provider};
-use node_store::StoreFault;
 use ocpi_types::Row;
-use program_messages::{BUFFER_BYTES, Told, and_closed, report};
-use sqlite::Unknown;
+use program_messages::{BUFFER_BYTES, Told, report};
 use std::io::{self, BufWriter, Write};
 
 /// Runs `settle`, says what stopped it, and answers the exit status.
@@ -42,7 +40,7 @@ fn settle_to<W: Write + Drop>(
     ran
 }
 
-/// Writes what is owed by the rows of a file, and notes what is told of it.
+/// Writes what is owed by the rows of a file, and notes what is told of it. The file stays as it is.
 fn settle_file<W: Write>(
     rt: &HostRuntime,
     writer: &mut W,
@@ -50,30 +48,10 @@ fn settle_file<W: Write>(
     told: &mut Told,
 ) -> Result<Ran, PlayFault> {
     let _ = told.place.push_str(words.file);
-    let _ = told.unclosed.push_str(words.file);
-    let found = rows_in(rt, words.file, Unknown);
-    settle_found(rt, writer, words, found, told)
-}
-
-/// Writes what is owed by what was found in a file, which is let go first.
-fn settle_found<W: Write, C: Drop, L: Drop>(
-    rt: &HostRuntime,
-    writer: &mut W,
-    words: &SettleWords<'_>,
-    found: Result<Found<C, L>, StoreFault>,
-    told: &mut Told,
-) -> Result<Ran, PlayFault> {
-    let (rows, closed) = match found {
-        Ok(found) => found.into_rows(),
-        Err(fault) => return Err(PlayFault::Store(fault)),
-    };
-    let ran = match rows {
-        Ok(rows) => settle_rows(rt, writer, words, rows.as_slice()),
+    match kept_in_copy(rt, words.file) {
+        Ok(kept) => settle_rows(rt, writer, words, kept.rows.as_slice()),
         Err(fault) => Err(PlayFault::Store(fault)),
-    };
-    let (ran, besides) = and_closed(ran, closed);
-    told.besides = besides;
-    ran
+    }
 }
 
 /// Writes what is owed by rows.
