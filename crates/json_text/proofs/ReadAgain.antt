@@ -1,5 +1,5 @@
 -- The text of a well formed JSON value is read as its tree.
-use Rattle.std.proofs.Common.{◌≡◌, ℕ, ◌≤◌, List, [], length, Some, Ok, option_map, Greater, refl, sym, ap, subst, ◌∙◌, append-nil}
+use Rattle.std.proofs.Common.{◌≡◌, ℕ, ◌≤◌, List, [], ◌++◌, length, Some, Ok, option_map, Greater, refl, sym, ap, subst, ◌∙◌, append-nil}
 use Rattle.std.specs.Str.{IsUtf8}
 use Rattle.json.specs.Token.{Token}
 use Rattle.json.specs.Lex.{tokens}
@@ -12,6 +12,7 @@ use Rattle.serde_json.specs.Data.{Data, array, object, Members, no_members, memb
 use Rattle.serde_json.specs.Read.{converted}
 use Rattle.json_text.specs.Line.{max_line, tree_at}
 use Rattle.json_text.specs.Members.{Member, object_of, json_text, said}
+use Rattle.json_text.specs.RecordText.{RecordText, after, and_tokens, spelled}
 use Rattle.json_text.specs.Tagged as one
 use Rattle.json_text.specs.Tagged.{tree_in}
 use Rattle.json_text.proofs.MemberForms.{tree}
@@ -97,12 +98,27 @@ line_again j w same u le = rw (is_text (json_text j) le u) (text_again j w same)
 
 -- ---- what was written of a record
 
-pub text_is : (ts : List Token) (ms : List Member) → ts ≡ said [] ms → print ts ≡ json_text (object_of ms)
-text_is ts ms written = ap print (written ∙ said_is [] ms)
+pub text_after : (old : List ℕ) (w : RecordText) (ms : List Member) → w ≡ said (after old) ms → spelled w ≡ old ++ json_text (object_of ms)
+unfolding and_tokens
+text_after old w ms written = ap spelled (written ∙ said_is (after old) ms)
 
-pub tree_again : (ts : List Token) (ms : List Member) → ts ≡ said [] ms → tokens (print ts) ≡ ts → IsUtf8 (print ts) → IsWell 127 (object_of ms) → length (print ts) ≤ max_line → tree_at (print ts) ≡ Ok (tree ms)
-tree_again ts ms written same u well le =
-    let j = object_of ms in
-    let text = text_is ts ms written in
-    let spelled : tokens (json_text j) ≡ json_tokens j = ap tokens (sym text) ∙ same ∙ written ∙ said_is [] ms in
-    ap tree_at text ∙ line_again j well spelled (subst IsUtf8 text u) (subst (λ (s : List ℕ). length s ≤ max_line) text le)
+pub text_is : (w : RecordText) (ms : List Member) → w ≡ said (after []) ms → spelled w ≡ json_text (object_of ms)
+text_is w ms written = text_after [] w ms written
+
+-- the tokens of the text are those of the record
+pub same_tokens : (w : RecordText) (ms : List Member) → w ≡ said (after []) ms → tokens (print w.tokens) ≡ w.tokens → tokens (json_text (object_of ms)) ≡ json_tokens (object_of ms)
+unfolding and_tokens
+same_tokens w ms written same =
+    let is : w.tokens ≡ json_tokens (object_of ms) = ap (λ (v : RecordText). v.tokens) (written ∙ said_is (after []) ms) in
+    ap (λ (ts : List Token). tokens (print ts)) (sym is) ∙ same ∙ is
+
+-- and its bytes are those after none
+pub text_utf8 : (w : RecordText) (ms : List Member) → w ≡ said (after []) ms → IsUtf8 (print w.tokens) → IsUtf8 (json_text (object_of ms))
+unfolding and_tokens
+text_utf8 w ms written u = subst IsUtf8 (ap (λ (v : RecordText). print v.tokens) (written ∙ said_is (after []) ms)) u
+
+pub tree_again : (w : RecordText) (ms : List Member) → w ≡ said (after []) ms → tokens (print w.tokens) ≡ w.tokens → IsUtf8 (print w.tokens) → IsWell 127 (object_of ms)
+    → length (spelled w) ≤ max_line → tree_at (spelled w) ≡ Ok (tree ms)
+tree_again w ms written same u well le =
+    let text = text_is w ms written in
+    ap tree_at text ∙ line_again (object_of ms) well (same_tokens w ms written same) (text_utf8 w ms written u) (subst (λ (s : List ℕ). length s ≤ max_line) text le)

@@ -1,23 +1,20 @@
 -- A text of any length is read just where it has a tree, and what was written of a record is read as its tree.
-use Rattle.std.proofs.Common.{◌≡◌, ℕ, Bool, true, false, cond, List, [], Ok, Err, refl, sym, subst, ap, ◌∙◌}
+use Rattle.std.proofs.Common.{◌≡◌, ℕ, Bool, true, false, cond, List, Ok, Err, refl, subst}
 use Rattle.std.specs.Str.{IsUtf8, is_utf8}
 use Rattle.std.proofs.lemmas.Str.{is_utf8-from_IsUtf8, IsUtf8-from_is_utf8}
-use Rattle.json.specs.Token.{Token}
 use Rattle.json.specs.Lex.{tokens}
-use Rattle.json.specs.Print.{print}
 use Rattle.json.specs.Tree.{json_tokens}
 use Rattle.serde_json.specs.Data.{Data}
 use Rattle.json_text.specs.declared.fault.JsonFault.TheVariants.{Syntax}
 use Rattle.json_text.specs.Fault.{Read, ◌>>=◌}
 use Rattle.json_text.specs.Line.{tree_of}
-use Rattle.json_text.specs.Members.{Member, object_of, json_text, said}
+use Rattle.json_text.specs.Members.{Member, object_of, json_text}
 use Rattle.json_text.specs.Quote.{quote}
 use Rattle.json_text.specs.Texts.{HasTextTree, text_tree, utf8_of}
 use Rattle.json_text.proofs.Exact.{Exact, bind_ok, done}
 use Rattle.json_text.proofs.LineTrees.{named_sound, named_complete}
 use Rattle.json_text.proofs.MemberForms.{tree}
-use Rattle.json_text.proofs.ReadAgain.{text_again, text_is}
-use Rattle.json_text.proofs.Said.{said_is}
+use Rattle.json_text.proofs.ReadAgain.{text_again}
 use Rattle.json_text.proofs.WellFormed.{IsWell}
 
 utf8_by : (text t : List ℕ) (b : Bool) → is_utf8 text ≡ b → cond b (done text) (Err Syntax) ≡ Ok t → (t ≡ text) × IsUtf8 text
@@ -59,11 +56,8 @@ pub text_complete : {X : Type 0} (reader : Data → Read X) (P : Data → X → 
     → HasTextTree text d → P d x → (text_tree text >>= reader) ≡ Ok x
 text_complete reader P exact text x d h p = rw (text_tree_complete text d h) (exact.complete d x p)
 
--- what was written of a record is read as its tree, however long it is
-pub text_tree_again : (ts : List Token) (ms : List Member) → ts ≡ said [] ms → tokens (print ts) ≡ ts → IsUtf8 (print ts) → IsWell 127 (object_of ms) → text_tree (print ts) ≡ Ok (tree ms)
+-- the text of a record is read as its tree, however long it is
+pub text_tree_of : (ms : List Member) → tokens (json_text (object_of ms)) ≡ json_tokens (object_of ms) → IsUtf8 (json_text (object_of ms)) → IsWell 127 (object_of ms)
+    → text_tree (json_text (object_of ms)) ≡ Ok (tree ms)
 unfolding text_tree
-text_tree_again ts ms written same u well =
-    let j = object_of ms in
-    let text = text_is ts ms written in
-    let spelled : tokens (json_text j) ≡ json_tokens j = ap tokens (sym text) ∙ same ∙ written ∙ said_is [] ms in
-    rw (utf8_is (print ts) u, text) (text_again j well spelled)
+text_tree_of ms same u well = rw (utf8_is (json_text (object_of ms)) u) (text_again (object_of ms) well same)

@@ -10,6 +10,7 @@ pub mod Nesting
 pub mod Numbers
 pub mod Pieces
 pub mod Quote
+pub mod RecordText
 pub mod Tag
 pub mod Tagged
 pub mod Texts

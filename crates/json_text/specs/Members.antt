@@ -1,6 +1,6 @@
 -- What is written of a record: its members, in the byte order of their names, and their tokens.
-use Rattle.std.specs.Prelude.{ℕ, ℤ, List, [], ◌∷◌, ◌++◌, decimal, Bool, Option, Some, None, option_map, map}
-use Rattle.json.specs.Token.{Token, begin_object, end_object, key}
+use Rattle.std.specs.Prelude.{ℕ, ℤ, List, [], ◌∷◌, decimal, Bool, Option, Some, None, option_map, map}
+use Rattle.json.specs.Token.{begin_object, end_object, key}
 use Rattle.json.specs.Json as json
 use Rattle.json.specs.Print.{print}
 use Rattle.json.specs.Tree.{json_tokens}
@@ -8,6 +8,7 @@ use Rattle.ocpi_text.specs.Decimal.{e4_text}
 use Rattle.ocpi_text.specs.Moment.{moment_text}
 use Rattle.ocpi_types.specs.declared.field.Field.{Field}
 use Rattle.ocpi_types.specs.Fields.{name_of}
+use Rattle.json_text.specs.RecordText.{RecordText, and_tokens}
 
 -- a member that may be written: its name, and its value where it has one
 pub record Member : Type 0 where
@@ -85,29 +86,29 @@ strings = map json.string
 
 -- ---- the tokens, as they are written one after another
 
-abbrev pub and_value : List Token → Field → Option json.Json → List Token
-and_value ts f None = ts
-and_value ts f (Some j) = (ts ++ key (name_of f) ∷ []) ++ json_tokens j
+abbrev pub and_value : RecordText → Field → Option json.Json → RecordText
+and_value w f None = w
+and_value w f (Some j) = and_tokens (and_tokens w (key (name_of f) ∷ [])) (json_tokens j)
 
 -- one more member
-unfoldable pub and_member : List Token → Member → List Token
-and_member ts m = and_value ts m.field m.value
+unfoldable pub and_member : RecordText → Member → RecordText
+and_member w m = and_value w m.field m.value
 
-abbrev pub and_members : List Token → List Member → List Token
-and_members ts [] = ts
-and_members ts (m ∷ ms) = and_members (and_member ts m) ms
+abbrev pub and_members : RecordText → List Member → RecordText
+and_members w [] = w
+and_members w (m ∷ ms) = and_members (and_member w m) ms
 
-unfoldable pub begun : List Token → List Token
-begun ts = ts ++ begin_object ∷ []
+unfoldable pub begun : RecordText → RecordText
+begun w = and_tokens w (begin_object ∷ [])
 
-unfoldable pub ended : List Token → List Token
-ended ts = ts ++ end_object ∷ []
+unfoldable pub ended : RecordText → RecordText
+ended w = and_tokens w (end_object ∷ [])
 
 -- an object of these members
-abbrev pub said : List Token → List Member → List Token
-said ts ms = ended (and_members (begun ts) ms)
+abbrev pub said : RecordText → List Member → RecordText
+said w ms = ended (and_members (begun w) ms)
 
 -- more values
-abbrev pub and_values : List Token → List json.Json → List Token
-and_values ts [] = ts
-and_values ts (j ∷ js) = and_values (ts ++ json_tokens j) js
+abbrev pub and_values : RecordText → List json.Json → RecordText
+and_values w [] = w
+and_values w (j ∷ js) = and_values (and_tokens w (json_tokens j)) js

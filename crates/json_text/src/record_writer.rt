@@ -33,6 +33,7 @@ ghost use Rattle.ocpi_types.specs.Fields.{name_of};
 ghost use Rattle.json_text.specs.Fits.{FitsCi, FitsFree, FitsOption, FitsOptionalMoment, FitsQuantity};
 ghost use Rattle.json_text.specs.Members as member;
 ghost use Rattle.json_text.specs.Members.{Member, and_member, and_values, begun, ended, said};
+ghost use Rattle.json_text.specs.RecordText.{after, and_tokens, spelled};
 
 use crate::plain::is_plain;
 use crate::putting::{put, put_quoted};
@@ -47,23 +48,24 @@ use std::marker::Model;
 /// The bytes that are taken at once.
 const ROOM: usize = 1024;
 
-/// A text of JSON that is being written, seen as its tokens.
+/// A text of JSON that is being written, seen as the bytes before it and its tokens.
 #[derive(Drop)]
 pub struct RecordWriter {
     alloc: Global,
     out: Vec<u8>,
+    /// Where it begins among the bytes.
+    start: usize,
     /// Whether a value ends here, so that a comma stands before what comes next.
     after_value: bool,
 }
 
 impl Model for RecordWriter {
-    ghost use Rattle.std.specs.Prelude.{List};
-    ghost use Rattle.json.specs.Token.{Token, tokens_code};
+    ghost use Rattle.json_text.specs.RecordText.{RecordText, record_text_code};
     ghost use Rattle.json_text.specs.Writing.{IsWriting, written};
 
-    ghost Value = { List Token };
+    ghost Value = { RecordText };
 
-    ghost coded = { tokens_code };
+    ghost coded = { record_text_code };
 
     ghost view = { written };
 
@@ -101,14 +103,29 @@ fn truth_text(truth: bool) -> &'static str
 impl RecordWriter {
     /// An empty text, with room for most packets.
     pub fn new(alloc: Global) -> Result<RecordWriter, AllocError>
-        ensures { IfOk result (λ w. w ≡ []) }
+        ensures { IfOk result (λ w. w ≡ after []) }
     {
         let out = Vec::with_capacity(alloc, ROOM)?;
         Ok(RecordWriter {
             alloc,
             out,
+            start: 0,
             after_value: false,
         })
+    }
+
+    /// No token yet, after a text.
+    pub fn after(alloc: Global, text: String) -> RecordWriter
+        ensures { result ≡ after (string_bytes text) }
+    {
+        let out = text.into_bytes();
+        let start = out.len();
+        RecordWriter {
+            alloc,
+            out,
+            start,
+            after_value: false,
+        }
     }
 
     /// Adds a token, by its text.
@@ -116,7 +133,7 @@ impl RecordWriter {
     fn add(&mut self, token: Token<'_>, text: &str) -> Result<(), AllocError>
         requires printable { IsPrintable (token_of token) }
         requires text { text.now ≡ token_text (token_of token) }
-        ensures { OnOk result (self.new ≡ self.old ++ token_of token.entry ∷ []) }
+        ensures { OnOk result (self.new ≡ and_tokens self.old (token_of token.entry ∷ [])) }
     {
         let comma = wants_comma(self.after_value, token);
         match put(&mut self.out, comma, text.as_bytes()) {
@@ -132,7 +149,7 @@ impl RecordWriter {
     #[inline(always)]
     fn add_plain(&mut self, text: &str) -> Result<(), AllocError>
         requires { escape text.now ≡ text.now }
-        ensures { OnOk result (self.new ≡ self.old ++ string text.now ∷ []) }
+        ensures { OnOk result (self.new ≡ and_tokens self.old (string text.now ∷ [])) }
     {
         match put_quoted(&mut self.out, self.after_value, text.as_bytes()) {
             Ok(()) => {
@@ -147,7 +164,7 @@ impl RecordWriter {
     #[cold]
     #[inline(never)]
     fn add_escaped(&mut self, text: &str) -> Result<(), AllocError>
-        ensures { OnOk result (self.new ≡ self.old ++ string text.now ∷ []) }
+        ensures { OnOk result (self.new ≡ and_tokens self.old (string text.now ∷ [])) }
     {
         let mut writer = Writer::new(Vec::new(self.alloc));
         writer.string(text)?;
@@ -159,17 +176,25 @@ impl RecordWriter {
     /// Adds a number, by its text.
     fn add_number(&mut self, text: &str) -> Result<(), AllocError>
         requires { IsNumber text.now }
-        ensures { OnOk result (self.new ≡ self.old ++ number text.now ∷ []) }
+        ensures { OnOk result (self.new ≡ and_tokens self.old (number text.now ∷ [])) }
     {
         self.add(Token::Number(text), text)
     }
 
-    /// What was written, without spaces.
+    /// What was written, without spaces, after what was there before.
     pub fn into_text(self) -> String
-        ensures text { string_bytes result ≡ print self }
-        ensures utf8 { IsUtf8 (print self) }
-        ensures again { tokens (print self) ≡ self }
+        ensures text { string_bytes result ≡ spelled self }
+        ensures utf8 { IsUtf8 (print self.tokens) }
+        ensures again { tokens (print self.tokens) ≡ self.tokens }
     {
+        unsafe { String::from_utf8_unchecked(self.out) }
+    }
+
+    /// What was there before alone.
+    pub fn into_before(mut self) -> String
+        ensures { string_bytes result ≡ self.before }
+    {
+        self.out.truncate(self.start);
         unsafe { String::from_utf8_unchecked(self.out) }
     }
 
@@ -191,9 +216,15 @@ impl RecordWriter {
 
     /// The name of a member, whose value comes next.
     pub fn name(&mut self, field: Field) -> Result<(), AllocError>
-        ensures { OnOk result (self.new ≡ self.old ++ key (name_of field) ∷ []) }
+        ensures { OnOk result (self.new ≡ and_tokens self.old (key (name_of field) ∷ [])) }
     {
-        self.add(Token::Key(field.name()), quoted_name(field))
+        match put(&mut self.out, self.after_value, quoted_name(field).as_bytes()) {
+            Ok(()) => {
+                self.after_value = false;
+                Ok(())
+            }
+            Err(e) => Err(e),
+        }
     }
 
     /// A member that is a text, of any characters.
@@ -384,20 +415,20 @@ impl RecordWriter {
 
     /// Opens a list.
     pub fn begin_list(&mut self) -> Result<(), AllocError>
-        ensures { OnOk result (self.new ≡ self.old ++ begin_array ∷ []) }
+        ensures { OnOk result (self.new ≡ and_tokens self.old (begin_array ∷ [])) }
     {
         self.add(Token::BeginArray, "[")
     }
 
     /// Closes a list.
     pub fn end_list(&mut self) -> Result<(), AllocError>
-        ensures { OnOk result (self.new ≡ self.old ++ end_array ∷ []) }
+        ensures { OnOk result (self.new ≡ and_tokens self.old (end_array ∷ [])) }
     {
         self.add(Token::EndArray, "]")
     }
 
     fn value(&mut self, text: &str) -> Result<(), AllocError>
-        ensures { OnOk result (self.new ≡ self.old ++ string text.now ∷ []) }
+        ensures { OnOk result (self.new ≡ and_tokens self.old (string text.now ∷ [])) }
     {
         if is_plain(text.as_bytes()) {
             return self.add_plain(text);
