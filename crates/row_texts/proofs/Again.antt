@@ -1,20 +1,16 @@
 -- The text of a row is UTF-8, and so it is read as that row.
-use Rattle.std.proofs.Common.{◌≡◌, List, [], Ok, refl, sym, ap, subst, ◌∙◌}
-use Rattle.std.specs.Str.{IsUtf8}
-use Rattle.json.specs.Lex.{tokens}
-use Rattle.json.specs.Print.{print}
+use Rattle.std.proofs.Common.{◌≡◌, Ok}
 use Rattle.ocpi_types.specs.Rows.{key_of}
 use Rattle.ocpi_types.specs.declared.rows.Row.{Row}
 use Rattle.ocpi_types.specs.declared.rows.Row.TheVariants as row
-use Rattle.json_text.specs.Members.{object_of, said}
-use Rattle.json_text.proofs.Said.{said_is}
+use Rattle.json_text.specs.Members.{object_of}
 use Rattle.ocpi_forms.specs.declared.credits.CdrForm.TheVariants as form
 use Rattle.ocpi_json.specs.RowForms.{RowTextFits, cdr_of_row_members, count_members, mark_members, result_members, row_in, row_members, row_text}
 use Rattle.ocpi_json.specs.RowKeys.{KeyFits, key_text, kind_of_key, row_kind_word}
 use Rattle.ocpi_json.specs.declared.rows.RowLayout.TheVariants as layout
 use Rattle.ocpi_json.proofs.RowLemmas.{row_well}
 use Rattle.ocpi_json.proofs.WrittenNumbers.{tokens_again}
-use Rattle.ocpi_json.proofs.WrittenRows.{row_text_again, row_text_is}
+use Rattle.ocpi_json.proofs.WrittenRows.{row_text_read}
 use Rattle.row_texts.specs.Utf8.{RowIsUtf8}
 use Rattle.row_texts.proofs.Printed.{HasUtf8, record_utf8, text_utf8}
 use Rattle.row_texts.proofs.RecordTexts.{cdr_utf8, session_utf8, token_utf8}
@@ -38,11 +34,6 @@ members_utf8 (row.Command number s) fits h = sent_command_utf8 s fits h
 
 pub row_again : (r : Row) → KeyFits (key_of r) → RowTextFits r → RowIsUtf8 r → row_in (row_kind_word (kind_of_key (key_of r))) (key_text (key_of r)) (row_text r) ≡ Ok r
 row_again r key fits utf8 =
-    let ms = row_members layout.Two r in
-    let ts = said [] ms in
-    let text : print ts ≡ row_text r = row_text_is r ts refl in
+    let json = object_of (row_members layout.Two r) in
     let sound = (row_well layout.Two r fits).sound in
-    let same : tokens (print ts) ≡ ts = ap tokens text ∙ tokens_again (object_of ms) sound ∙ sym (said_is [] ms) in
-    let whole : IsUtf8 (row_text r) = text_utf8 (object_of ms) sound (members_utf8 r fits utf8) in
-    ap (row_in (row_kind_word (kind_of_key (key_of r))) (key_text (key_of r))) (sym text)
-    ∙ row_text_again r ts refl same (subst IsUtf8 (sym text) whole) fits key
+    row_text_read r (tokens_again json sound) (text_utf8 json sound (members_utf8 r fits utf8)) fits key

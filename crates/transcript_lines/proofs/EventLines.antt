@@ -4,10 +4,10 @@ use Rattle.std.specs.Prelude.{codes}
 use Rattle.std.specs.Str.{IsUtf8}
 use Rattle.json.specs.Lex.{tokens}
 use Rattle.json.specs.Print.{print}
-use Rattle.json.specs.Token.{Token}
 use Rattle.serde_json.specs.Data.{Data}
 use Rattle.json_text.specs.Line.{max_line}
 use Rattle.json_text.specs.Members.{object_of, said}
+use Rattle.json_text.specs.RecordText.{RecordText, after, spelled}
 use Rattle.json_text.proofs.MemberForms.{moment_form, party_begins, party_form, tree, whole_form, word_form}
 use Rattle.json_text.proofs.ReadAgain.{text_is, tree_again}
 use Rattle.json_text.proofs.Tagged.{ascends}
@@ -60,15 +60,15 @@ delivery_well at from node serial fits = record_well 0 (delivery_members at from
     and whole_well 0 serial fits.serial_fits
     and tt)
 
-pub delivery_is : (at : ℕ) (from node : List ℕ) (serial : ℕ) (ts : List Token) → ts ≡ said [] (delivery_members at from node serial) → print ts ≡ delivery_text at from node serial
-delivery_is at from node serial ts written = text_is ts (delivery_members at from node serial) written
+pub delivery_is : (at : ℕ) (from node : List ℕ) (serial : ℕ) (w : RecordText) → w ≡ said (after []) (delivery_members at from node serial) → spelled w ≡ delivery_text at from node serial
+delivery_is at from node serial w written = text_is w (delivery_members at from node serial) written
 
-pub delivery_again : (at : ℕ) (from node : List ℕ) (serial : ℕ) (ts : List Token) → ts ≡ said [] (delivery_members at from node serial) → tokens (print ts) ≡ ts → IsUtf8 (print ts)
-    → DeliveryFits at from node serial → length (print ts) ≤ max_line → event_in (print ts) ≡ Ok (delivery at from node serial)
+pub delivery_again : (at : ℕ) (from node : List ℕ) (serial : ℕ) (w : RecordText) → w ≡ said (after []) (delivery_members at from node serial) → tokens (print w.tokens) ≡ w.tokens → IsUtf8 (print w.tokens)
+    → DeliveryFits at from node serial → length (spelled w) ≤ max_line → event_in (spelled w) ≡ Ok (delivery at from node serial)
 unfolding event_in
-delivery_again at from node serial ts written same u fits le =
-    let w = delivery_well at from node serial fits in
-    rw (tree_again ts (delivery_members at from node serial) written same u (record { sound = w.sound; shallow = let s = w.shallow in omega arith }) le)
+delivery_again at from node serial w written same u fits le =
+    let well = delivery_well at from node serial fits in
+    rw (tree_again w (delivery_members at from node serial) written same u (record { sound = well.sound; shallow = let s = well.shallow in omega arith }) le)
     (event_of_line_exact.complete _ (delivery at from node serial) (record { members = _; is_object = refl; form = delivery_form at from node serial fits }))
 
 -- ---- a restart
@@ -95,15 +95,15 @@ restart_well : (node : List ℕ) → PartyFits node → IsWell 1 (object_of (res
 unfolding restart_members
 restart_well node fits = record_well 0 (restart_members node) (restart_ascends node) (text_well 0 _ refl and text_well 0 _ (party_begins node fits) and tt)
 
-pub restart_is : (node : List ℕ) (ts : List Token) → ts ≡ said [] (restart_members node) → print ts ≡ restart_text node
-restart_is node ts written = text_is ts (restart_members node) written
+pub restart_is : (node : List ℕ) (w : RecordText) → w ≡ said (after []) (restart_members node) → spelled w ≡ restart_text node
+restart_is node w written = text_is w (restart_members node) written
 
-pub restart_again : (node : List ℕ) (ts : List Token) → ts ≡ said [] (restart_members node) → tokens (print ts) ≡ ts → IsUtf8 (print ts) → PartyFits node → length (print ts) ≤ max_line
-    → event_in (print ts) ≡ Ok (restart node)
+pub restart_again : (node : List ℕ) (w : RecordText) → w ≡ said (after []) (restart_members node) → tokens (print w.tokens) ≡ w.tokens → IsUtf8 (print w.tokens) → PartyFits node → length (spelled w) ≤ max_line
+    → event_in (spelled w) ≡ Ok (restart node)
 unfolding event_in
-restart_again node ts written same u fits le =
-    let w = restart_well node fits in
-    rw (tree_again ts (restart_members node) written same u (record { sound = w.sound; shallow = let s = w.shallow in omega arith }) le)
+restart_again node w written same u fits le =
+    let well = restart_well node fits in
+    rw (tree_again w (restart_members node) written same u (record { sound = well.sound; shallow = let s = well.shallow in omega arith }) le)
     (event_of_line_exact.complete _ (restart node) (record { members = _; is_object = refl; form = restart_form node fits }))
 
 -- ---- what one node reads
